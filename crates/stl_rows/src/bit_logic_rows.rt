@@ -1,7 +1,5 @@
 //! What no clause says: that the rows of bit logic give the answers that the rules of STL ask for.
-use crate::machines::{
-    ENDED, INPUT, NEXT_INPUT, OUTPUT, byte_of, machine, memory, output_4, program,
-};
+use crate::machines::{ENDED, INPUT, NEXT_INPUT, OUTPUT, byte_of, machine_with, output_4, program};
 use crate::wants::wants;
 use memory_areas::{Area, AreaName};
 use s7_base::Check;
@@ -10,7 +8,7 @@ use std::alloc::Global;
 use std::process::Abort;
 use std::test::Fail;
 use stl_machine::Machine;
-use stl_tree::{BitArg, Op, Operand};
+use stl_tree::{BitArg, Op, Operand, Program};
 
 const A: Op = Op::Check(Check::A, BitArg::At(INPUT));
 
@@ -314,6 +312,18 @@ fn wants_end(
     Ok(())
 }
 
+/// A program ends with these bytes.
+fn wants_run(
+    rt: &impl Abort,
+    alloc: Global,
+    program: &Program,
+    inputs: u8,
+    bytes: (u8, u8),
+) -> Result<(), Fail> {
+    let mut machine = machine_with(alloc, program, inputs, 0)?;
+    wants_end(rt, &mut machine, inputs, bytes)
+}
+
 /// A body ends with these bytes.
 fn wants_bytes(
     rt: &impl Abort,
@@ -323,9 +333,7 @@ fn wants_bytes(
     bytes: (u8, u8),
 ) -> Result<(), Fail> {
     let program = program(alloc, ops)?;
-    let memory = memory(alloc, inputs, 0)?;
-    let mut machine = machine(alloc, &program, memory)?;
-    wants_end(rt, &mut machine, inputs, bytes)
+    wants_run(rt, alloc, &program, inputs, bytes)
 }
 
 fn want_bytes(rt: &impl Abort, alloc: Global, rows: &[Body]) -> Result<(), Fail> {

@@ -9,7 +9,7 @@ use std::alloc::Global;
 use std::process::Abort;
 use std::test::Fail;
 use stl_machine::Machine;
-use stl_tree::{BitArg, LoadArg, Op, OpenArg, Operand};
+use stl_tree::{BitArg, LoadArg, Op, OpenArg, Operand, Program};
 
 /// The bytes of data block 5, the first one highest.
 const FIVE: u32 = 0x0102_0304;
@@ -650,12 +650,23 @@ fn wants_end(
     Ok(())
 }
 
+/// A program ends so.
+fn wants_run(
+    rt: &impl Abort,
+    alloc: Global,
+    program: &Program,
+    fault: Option<Fault>,
+    wanted: [u32; 3],
+) -> Result<(), Fail> {
+    let memory = memory_of(alloc)?;
+    let mut machine = machine(alloc, program, memory)?;
+    wants_end(rt, &mut machine, fault, wanted)
+}
+
 fn wants_row(rt: &impl Abort, alloc: Global, row: &Row) -> Result<(), Fail> {
     let (ops, fault, wanted) = row;
     let program = program(alloc, ops)?;
-    let memory = memory_of(alloc)?;
-    let mut machine = machine(alloc, &program, memory)?;
-    wants_end(rt, &mut machine, *fault, *wanted)
+    wants_run(rt, alloc, &program, *fault, *wanted)
 }
 
 fn want_rows(rt: &impl Abort, alloc: Global, rows: &[Row]) -> Result<(), Fail> {

@@ -135,6 +135,18 @@ pub fn memory(alloc: Global, input_0: u8, output_4: u8) -> Result<Memory, Fail> 
     Ok(memory)
 }
 
+/// A machine at the start of the block OB 1, whose memory is zero but for these bytes of the inputs and of the
+/// outputs.
+pub fn machine_with<'p>(
+    alloc: Global,
+    program: &'p Program,
+    input_0: u8,
+    output_4: u8,
+) -> Result<Machine<'p>, Fail> {
+    let memory = memory(alloc, input_0, output_4)?;
+    Ok(machine(alloc, program, memory)?)
+}
+
 /// A machine at the start of the block OB 1.
 pub fn machine<'p>(
     alloc: Global,

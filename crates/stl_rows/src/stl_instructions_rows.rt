@@ -11,7 +11,7 @@ use stl_instructions::instruction;
 use stl_lexer::tokens;
 use stl_mnemonics::mnemonic_named;
 use stl_statements::Mnemonic;
-use stl_tree::{Ar, Constant, RawName, RawOp, RawOperand, RawPlace};
+use stl_tree::{Ar, Constant, RawInstr, RawName, RawOp, RawOperand, RawPlace};
 
 /// An operand.
 #[derive(Clone, Copy, PartialEq)]
@@ -333,6 +333,12 @@ fn wants_op(
     );
 }
 
+/// The instruction that a text is.
+fn read(alloc: Global, text: &[u8]) -> Result<RawInstr, Rejection> {
+    let tokens = tokens(alloc, text)?;
+    instruction(alloc, tokens.as_slice())
+}
+
 /// A statement of line 1 is this instruction.
 fn wants_instruction(
     rt: &impl Abort,
@@ -341,8 +347,7 @@ fn wants_instruction(
     mnemonic: (&[u8], Mnemonic),
     operand: Wanted,
 ) -> Result<(), Rejection> {
-    let tokens = tokens(alloc, text)?;
-    let found = instruction(alloc, tokens.as_slice())?;
+    let found = read(alloc, text)?;
     let place = (found.label.is_none(), found.line);
     wants(rt, &text, &place, &(true, Line(1)));
     wants_op(rt, text, &found.op, mnemonic, operand);
@@ -413,44 +418,28 @@ fn reads_status_operands(rt: HostRuntime) -> Result<(), Fail> {
 }
 
 /// A statement is refused on this line, for this reason.
-fn wants_refusal(
-    rt: &impl Abort,
-    alloc: Global,
-    text: &[u8],
-    line: u32,
-    reason: Reason,
-) -> Result<(), Rejection> {
-    let tokens = tokens(alloc, text)?;
-    let refused = instruction(alloc, tokens.as_slice()).err();
+fn wants_refusal(rt: &impl Abort, alloc: Global, text: &[u8], line: u32, reason: Reason) {
     let wanted = Some(Rejection::Refused(Line(line), reason));
-    wants(rt, &text, &refused, &wanted);
-    Ok(())
+    wants(rt, &text, &read(alloc, text).err(), &wanted);
 }
 
-pub fn want_refusals(
-    rt: &impl Abort,
-    alloc: Global,
-    rows: &[&[u8]],
-    reason: Reason,
-) -> Result<(), Rejection> {
+pub fn want_refusals(rt: &impl Abort, alloc: Global, rows: &[&[u8]], reason: Reason) {
     for text in rows {
-        wants_refusal(rt, alloc, text, 1, reason)?;
+        wants_refusal(rt, alloc, text, 1, reason);
     }
-    Ok(())
 }
 
-fn want_lines(rt: &impl Abort, alloc: Global, rows: &[Refused]) -> Result<(), Rejection> {
+fn want_lines(rt: &impl Abort, alloc: Global, rows: &[Refused]) {
     for (text, line, reason) in rows {
-        wants_refusal(rt, alloc, text, *line, *reason)?;
+        wants_refusal(rt, alloc, text, *line, *reason);
     }
-    Ok(())
 }
 
 #[test]
 fn refuses_what_is_no_instruction(rt: HostRuntime) -> Result<(), Fail> {
     let alloc = rt.alloc();
-    want_refusals(&rt, alloc, &NOT_BUILT, Reason::Unsupported(Kind::NotBuilt))?;
-    want_refusals(&rt, alloc, &BAD, Reason::BadStatement)?;
-    want_lines(&rt, alloc, &LINES)?;
+    want_refusals(&rt, alloc, &NOT_BUILT, Reason::Unsupported(Kind::NotBuilt));
+    want_refusals(&rt, alloc, &BAD, Reason::BadStatement);
+    want_lines(&rt, alloc, &LINES);
     Ok(())
 }

@@ -1,8 +1,8 @@
 //! What no clause says: that the definitions of instructions and runs give the answers that the rules of
 //! STL ask for, and that a machine is made while there is memory.
 use crate::machines::{
-    ENDED, INPUT, NEXT_INPUT, OUTPUT, block, byte_of, call, check, copy, machine, memory, output_4,
-    program, program_with,
+    ENDED, INPUT, NEXT_INPUT, OUTPUT, block, byte_of, call, check, copy, machine, machine_with,
+    memory, output_4, program, program_with,
 };
 use crate::wants::wants;
 use memory_areas::{
@@ -22,16 +22,13 @@ const LOCAL: Operand = Operand::Direct(AreaName::L, 0, 0);
 
 const GOING: Outcome = Outcome::Going;
 
-/// The block OB 1 ends, and output byte 4 then is this.
+/// A machine ends, and output byte 4 then is this.
 fn wants_end(
     rt: &impl Abort,
-    alloc: Global,
     case: &impl Debug,
-    program: &Program,
-    memory: Memory,
+    machine: &mut Machine<'_>,
     output: u8,
 ) -> Result<(), Fail> {
-    let mut machine = machine(alloc, program, memory)?;
     let outcome = machine.run(u64::MAX);
     let found = output_4(machine.memory())?;
     wants(rt, case, &(outcome, found), &(ENDED, output));
@@ -48,8 +45,8 @@ fn wants_output(
     output: u8,
 ) -> Result<(), Fail> {
     let program = program(alloc, ops)?;
-    let memory = memory(alloc, before.0, before.1)?;
-    wants_end(rt, alloc, case, &program, memory, output)
+    let mut machine = machine_with(alloc, &program, before.0, before.1)?;
+    wants_end(rt, case, &mut machine, output)
 }
 
 /// A memory is zero but for output byte 4.
@@ -95,8 +92,7 @@ fn wants_portions(
     program: &Program,
     portions: &[Portion],
 ) -> Result<(), Fail> {
-    let memory = memory(alloc, 0, 0)?;
-    let mut machine = machine(alloc, program, memory)?;
+    let mut machine = machine_with(alloc, program, 0, 0)?;
     wants_steps(rt, &mut machine, portions);
     Ok(())
 }
@@ -113,11 +109,13 @@ fn want_portions(
     Ok(())
 }
 
+/// Sets the output where the input is clear.
+static SETS: [Op; 2] = [Op::Check(Check::An, BitArg::At(INPUT)), Op::Assign(OUTPUT)];
+
 #[test]
 fn a_run_is_the_same_in_any_portions_and_stays_at_its_end(rt: HostRuntime) -> Result<(), Fail> {
-    let alloc = rt.alloc();
-    let program = program(alloc, &[check(Check::An, INPUT), Op::Assign(OUTPUT)])?;
-    want_portions(&rt, alloc, &program, &PORTIONS)
+    let program = program(rt.alloc(), &SETS)?;
+    want_portions(&rt, rt.alloc(), &program, &PORTIONS)
 }
 
 static END_WORD: [Portion; 4] = [(0, GOING, 0), (1, ENDED, 0), (0, ENDED, 0), (1, ENDED, 0)];
@@ -422,12 +420,8 @@ static FAULTS: [(Op, Fault); 8] = [
 ];
 
 /// A run whose third instruction meets a fault stands so after these portions.
-fn wants_fault(
-    rt: &impl Abort,
-    alloc: Global,
-    program: &Program,
-    fault: Fault,
-) -> Result<(), Fail> {
+fn wants_fault(rt: &impl Abort, alloc: Global, op: &Op, fault: Fault) -> Result<(), Fail> {
+    let program = program_between(alloc, op)?;
     let over = Outcome::Ended(Some(fault));
     let portions = [
         (2, GOING, 1),
@@ -436,7 +430,7 @@ fn wants_fault(
         (1, over, 1),
         (u64::MAX, over, 1),
     ];
-    wants_portions(rt, alloc, program, &portions)
+    wants_portions(rt, alloc, &program, &portions)
 }
 
 /// A program with this instruction between two assignments of a one.
@@ -447,8 +441,7 @@ fn program_between(alloc: Global, op: &Op) -> Result<Program, NoMemory> {
 
 fn want_faults(rt: &impl Abort, alloc: Global, rows: &[(Op, Fault)]) -> Result<(), Fail> {
     for (op, fault) in rows {
-        let program = program_between(alloc, op)?;
-        wants_fault(rt, alloc, &program, *fault)?;
+        wants_fault(rt, alloc, op, *fault)?;
     }
     Ok(())
 }
@@ -493,26 +486,36 @@ fn wants_no_locals(rt: &impl Abort, machine: &mut Machine<'_>) {
     wants(rt, &"behind", &is_zero_but(machine.memory(), 0), &true);
 }
 
+/// A machine over a memory whose local data and constant actuals begin with bytes that are set.
+fn machine_with_locals<'p>(alloc: Global, program: &'p Program) -> Result<Machine<'p>, Fail> {
+    let memory = memory_with_locals(alloc)?;
+    Ok(machine(alloc, program, memory)?)
+}
+
+const A_LOCAL: Op = Op::Check(Check::A, BitArg::At(LOCAL));
+
+/// Reads a bit of the local data.
+static READS: [Op; 2] = [A_LOCAL, STORE];
+
 #[test]
 fn local_data_is_zero_when_a_run_begins(rt: HostRuntime) -> Result<(), Fail> {
-    let alloc = rt.alloc();
-    let reads = program(alloc, &[check(Check::A, LOCAL), STORE])?;
-    let memory = memory_with_locals(alloc)?;
-    let mut machine = machine(alloc, &reads, memory)?;
+    let program = program(rt.alloc(), &READS)?;
+    let mut machine = machine_with_locals(rt.alloc(), &program)?;
     wants_no_locals(&rt, &mut machine);
     Ok(())
 }
 
+/// Writes a bit of the local data, and reads it.
+static KEEPS: [Op; 4] = [
+    Op::Check(Check::An, BitArg::At(INPUT)),
+    Op::Assign(LOCAL),
+    A_LOCAL,
+    STORE,
+];
+
 #[test]
 fn local_data_is_kept_within_a_run(rt: HostRuntime) -> Result<(), Fail> {
-    let alloc = rt.alloc();
-    let ops = [
-        check(Check::An, INPUT),
-        Op::Assign(LOCAL),
-        check(Check::A, LOCAL),
-        Op::Assign(OUTPUT),
-    ];
-    let program = program(alloc, &ops)?;
-    let memory = memory_with_locals(alloc)?;
-    wants_end(&rt, alloc, &"kept", &program, memory, 1)
+    let program = program(rt.alloc(), &KEEPS)?;
+    let mut machine = machine_with_locals(rt.alloc(), &program)?;
+    wants_end(&rt, &"kept", &mut machine, 1)
 }
