@@ -5,7 +5,7 @@ ghost use Rattle.st_tree.specs.Proper.{Proper};
 use crate::wants::wants_text;
 use image_text::{image_text, read_image};
 use memory_areas::{BlockName, Call};
-use s7_base::{List, NoMemory, Rejection};
+use s7_base::{Line, List, NoMemory, Reason, Rejection};
 use st_parser::parse;
 use st_runner::{Runner, RunnerRefusal};
 use st_tree::StProgram;
@@ -26,12 +26,14 @@ pub fn answer(
 ) -> Result<Vec<u8>, NoMemory> {
     match parse(alloc, text) {
         Ok(tree) => report(alloc, &tree, units, block),
-        Err(Rejection::Refused(line, reason)) => {
-            let written = format!(in alloc; "line {}: {reason}\n", line.0)?;
-            Ok(Vec::from_slice(alloc, written.as_bytes())?)
-        }
+        Err(Rejection::Refused(line, reason)) => refused(alloc, line, reason),
         Err(Rejection::NoMemory) => Err(NoMemory),
     }
+}
+
+fn refused(alloc: Global, line: Line, reason: Reason) -> Result<Vec<u8>, NoMemory> {
+    let written = format!(in alloc; "line {}: {reason}\n", line.0)?;
+    Ok(Vec::from_slice(alloc, written.as_bytes())?)
 }
 
 /// A text is answered so, where a unit without formals runs for at most nine units.
@@ -47,6 +49,25 @@ pub fn wants_answer(
     Ok(())
 }
 
+/// A runner at the start of a unit without formals, over a memory of zeros.
+pub fn runner<'t>(
+    alloc: Global,
+    tree: &'t StProgram,
+    block: BlockName,
+) -> Result<Runner<'t>, RunnerRefusal>
+    requires { Proper tree.now }
+{
+    let Ok(memory) = read_image(alloc, b"", tree.dbs.as_slice()) else {
+        return Err(RunnerRefusal::NoMemory);
+    };
+    let call = Call {
+        block,
+        instance: 0,
+        actuals: List::new(alloc),
+    };
+    Runner::new(alloc, tree, memory, &call)
+}
+
 /// The report of a tree's run, or what a call that does not fit is answered.
 fn report(
     alloc: Global,
@@ -56,15 +77,7 @@ fn report(
 ) -> Result<Vec<u8>, NoMemory>
     requires { Proper tree.now }
 {
-    let Ok(memory) = read_image(alloc, b"", tree.dbs.as_slice()) else {
-        return Err(NoMemory);
-    };
-    let call = Call {
-        block,
-        instance: 0,
-        actuals: List::new(alloc),
-    };
-    match Runner::new(alloc, tree, memory, &call) {
+    match runner(alloc, tree, block) {
         Ok(mut runner) => {
             let outcome = runner.run(units);
             image_text(alloc, runner.memory(), outcome)

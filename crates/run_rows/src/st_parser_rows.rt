@@ -642,12 +642,18 @@ static NESTED: [(&[Repeated], &[u8]); 11] = [
 
 /// A program of these statements, which begin on its second line.
 fn nested(alloc: Global, pieces: &[Repeated]) -> Result<Vec<u8>, NoMemory> {
-    let mut text = Vec::from_slice(alloc, b"PROGRAM OB1\n")?;
+    let mut text = Vec::new(alloc);
+    put_nested(&mut text, pieces)?;
+    Ok(text)
+}
+
+fn put_nested(text: &mut Vec<u8>, pieces: &[Repeated]) -> Result<(), NoMemory> {
+    text.extend_from_slice(b"PROGRAM OB1\n")?;
     for (count, piece) in pieces {
-        put_often(&mut text, *count, piece)?;
+        put_often(text, *count, piece)?;
     }
     text.extend_from_slice(b"\nEND_PROGRAM\n")?;
-    Ok(text)
+    Ok(())
 }
 
 fn put_often(text: &mut Vec<u8>, count: usize, piece: &[u8]) -> Result<(), NoMemory> {
@@ -659,12 +665,18 @@ fn put_often(text: &mut Vec<u8>, count: usize, piece: &[u8]) -> Result<(), NoMem
 
 /// A text of so many data blocks, each on the line behind its number.
 fn blocks(alloc: Global, count: u32) -> Result<Vec<u8>, NoMemory> {
-    let mut text = Vec::from_slice(alloc, b"VAR_GLOBAL\n")?;
+    let mut text = Vec::new(alloc);
+    put_blocks(alloc, &mut text, count)?;
+    Ok(text)
+}
+
+fn put_blocks(alloc: Global, text: &mut Vec<u8>, count: u32) -> Result<(), NoMemory> {
+    text.extend_from_slice(b"VAR_GLOBAL\n")?;
     for number in 1..=count {
-        put_block(alloc, &mut text, number)?;
+        put_block(alloc, text, number)?;
     }
     text.extend_from_slice(b"END_VAR PROGRAM OB1 END_PROGRAM\n")?;
-    Ok(text)
+    Ok(())
 }
 
 fn put_block(alloc: Global, text: &mut Vec<u8>, number: u32) -> Result<(), NoMemory> {
@@ -742,12 +754,15 @@ fn level_201_is_too_deep(rt: HostRuntime) -> Result<(), Fail> {
     Ok(want_nested(&rt, rt.alloc(), &NESTED)?)
 }
 
+/// A text of so many data blocks is answered so.
+fn wants_blocks(rt: &impl Abort, alloc: Global, count: u32, line: &[u8]) -> Result<(), NoMemory> {
+    let text = blocks(alloc, count)?;
+    wants_answer(rt, alloc, BlockName::Ob(2), text.as_slice(), line)
+}
+
 #[test]
 fn a_text_has_1024_data_blocks(rt: HostRuntime) -> Result<(), Fail> {
-    let alloc = rt.alloc();
-    for (count, line) in [(1024, BAD_CALL), (1025, b"line 1026: TooLarge\n")] {
-        let text = blocks(alloc, count)?;
-        wants_answer(&rt, alloc, BlockName::Ob(2), text.as_slice(), line)?;
-    }
+    wants_blocks(&rt, rt.alloc(), 1024, BAD_CALL)?;
+    wants_blocks(&rt, rt.alloc(), 1025, b"line 1026: TooLarge\n")?;
     Ok(())
 }

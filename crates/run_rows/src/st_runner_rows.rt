@@ -2,13 +2,15 @@
 //! the statements, operators and functions of Structured Text at their edges, each with the memory that it
 //! leaves.
 
-use crate::answers::{ENDED, wants_answer};
+ghost use Rattle.st_tree.specs.Proper.{Proper};
+
+use crate::answers::{ENDED, runner, wants_answer};
 use crate::wants::wants;
-use image_text::read_image;
-use memory_areas::{BlockName, Call};
-use s7_base::{List, NoMemory, Outcome};
+use memory_areas::BlockName;
+use s7_base::{NoMemory, Outcome};
 use st_parser::parse;
-use st_runner::Runner;
+use st_runner::RunnerRefusal;
+use st_tree::StProgram;
 use std::alloc::Global;
 use std::process::Abort;
 use std::test::Fail;
@@ -17,38 +19,52 @@ use std::test::Fail;
 const COUNTING: &str = "PROGRAM OB1\n    VAR_TEMP\n        count : DINT;\n    END_VAR\n\
     WHILE count < 2 DO\n        count := count + 1;\n    END_WHILE;\nEND_PROGRAM\n";
 
-fn call(alloc: Global, block: BlockName) -> Call {
-    Call {
-        block,
-        instance: 0,
-        actuals: List::new(alloc),
+/// So many units, and how the run of the loop stands then.
+type Portion = (u64, Outcome);
+
+static PORTIONS: [Portion; 4] = [
+    (0, Outcome::Going),
+    (2, Outcome::Going),
+    (3, Outcome::Ended(None)),
+    (9, Outcome::Ended(None)),
+];
+
+/// A run stands so after a portion, and is over three units behind it.
+fn wants_portion(
+    rt: &impl Abort,
+    alloc: Global,
+    tree: &StProgram,
+    portion: &Portion,
+) -> Result<(), RunnerRefusal>
+    requires { Proper tree.now }
+{
+    let (units, outcome) = *portion;
+    let mut runner = runner(alloc, tree, BlockName::Ob(1))?;
+    let found = (runner.run(units), runner.run(3));
+    wants(rt, &units, &found, &(outcome, Outcome::Ended(None)));
+    Ok(())
+}
+
+fn want_portions(
+    rt: &impl Abort,
+    alloc: Global,
+    tree: &StProgram,
+    portions: &[Portion],
+) -> Result<(), RunnerRefusal>
+    requires { Proper tree.now }
+{
+    for portion in portions {
+        wants_portion(rt, alloc, tree, portion)?;
     }
+    Ok(())
 }
 
 #[test]
 fn each_test_of_a_loop_takes_a_unit(rt: HostRuntime) -> Result<(), Fail> {
-    let alloc = rt.alloc();
-    let Ok(tree) = parse(alloc, COUNTING.as_bytes()) else {
-        return Err(NoMemory.into());
-    };
-    for (units, outcome) in [
-        (0, Outcome::Going),
-        (2, Outcome::Going),
-        (3, Outcome::Ended(None)),
-        (9, Outcome::Ended(None)),
-    ] {
-        let Ok(memory) = read_image(alloc, b"", tree.dbs.as_slice()) else {
-            return Err(NoMemory.into());
-        };
-        match Runner::new(alloc, &tree, memory, &call(alloc, BlockName::Ob(1))) {
-            Ok(mut runner) => {
-                wants(&rt, &units, &runner.run(units), &outcome);
-                wants(&rt, &units, &runner.run(3), &Outcome::Ended(None));
-            }
-            Err(_) => return Err(NoMemory.into()),
-        }
+    match parse(rt.alloc(), COUNTING.as_bytes()) {
+        Ok(tree) => Ok(want_portions(&rt, rt.alloc(), &tree, &PORTIONS)?),
+        Err(refused) => Err(refused.into()),
     }
-    Ok(())
 }
 
 /// Statements, and the first bytes of the bit memory behind them; what follows is zero.
@@ -163,35 +179,61 @@ static FAULTS: [(&str, &[u8]); 11] = [
     ),
 ];
 
-/// A program of these statements, which stand on its second line.
-fn with_statements(alloc: Global, statements: &[&[u8]]) -> Result<Vec<u8>, NoMemory> {
-    let mut text = Vec::from_slice(alloc, b"PROGRAM OB1\n")?;
-    for part in statements {
+fn put_parts(text: &mut Vec<u8>, parts: &[&[u8]]) -> Result<(), NoMemory> {
+    for part in parts {
         text.extend_from_slice(part)?;
     }
+    Ok(())
+}
+
+fn put_program(text: &mut Vec<u8>, statements: &[&[u8]]) -> Result<(), NoMemory> {
+    text.extend_from_slice(b"PROGRAM OB1\n")?;
+    put_parts(text, statements)?;
     text.extend_from_slice(b"\nEND_PROGRAM\n")?;
+    Ok(())
+}
+
+/// A program of these statements, which stand on its second line.
+fn with_statements(alloc: Global, statements: &[&[u8]]) -> Result<Vec<u8>, NoMemory> {
+    let mut text = Vec::new(alloc);
+    put_program(&mut text, statements)?;
     Ok(text)
 }
 
+/// A program of these statements is answered so.
+fn wants_report(
+    rt: &impl Abort,
+    alloc: Global,
+    statements: &[&[u8]],
+    wanted: &[u8],
+) -> Result<(), NoMemory> {
+    let text = with_statements(alloc, statements)?;
+    wants_answer(rt, alloc, BlockName::Ob(1), text.as_slice(), wanted)
+}
+
+const REST: &[u8] = b" 00 00 00 00 00 00 00 00 00 00 00 00\n";
+
 /// The report of a run that ended with these bytes at the front of the bit memory.
-fn with_markers(alloc: Global, bytes: &str) -> Result<Vec<u8>, NoMemory> {
-    let mut report = Vec::from_slice(alloc, b"# ENDED\nM 0: ")?;
-    report.extend_from_slice(bytes.as_bytes())?;
-    report.extend_from_slice(b" 00 00 00 00 00 00 00 00 00 00 00 00\n")?;
+fn with_markers(alloc: Global, bytes: &[u8]) -> Result<Vec<u8>, NoMemory> {
+    let mut report = Vec::new(alloc);
+    put_parts(&mut report, &[b"# ENDED\nM 0: ", bytes, REST])?;
     Ok(report)
+}
+
+/// A run of these statements ends with these bytes at the front of the bit memory.
+fn wants_markers(
+    rt: &impl Abort,
+    alloc: Global,
+    statements: &[u8],
+    bytes: &[u8],
+) -> Result<(), NoMemory> {
+    let report = with_markers(alloc, bytes)?;
+    wants_report(rt, alloc, &[statements], report.as_slice())
 }
 
 fn want_markers(rt: &impl Abort, alloc: Global, rows: &[(&str, &str)]) -> Result<(), NoMemory> {
     for (statements, bytes) in rows {
-        let text = with_statements(alloc, &[statements.as_bytes()])?;
-        let report = with_markers(alloc, bytes)?;
-        wants_answer(
-            rt,
-            alloc,
-            BlockName::Ob(1),
-            text.as_slice(),
-            report.as_slice(),
-        )?;
+        wants_markers(rt, alloc, statements.as_bytes(), bytes.as_bytes())?;
     }
     Ok(())
 }
@@ -203,8 +245,7 @@ fn statements_leave_their_memory(rt: HostRuntime) -> Result<(), Fail> {
 
 fn want_faults(rt: &impl Abort, alloc: Global, rows: &[(&str, &[u8])]) -> Result<(), NoMemory> {
     for (statements, report) in rows {
-        let text = with_statements(alloc, &[statements.as_bytes()])?;
-        wants_answer(rt, alloc, BlockName::Ob(1), text.as_slice(), report)?;
+        wants_report(rt, alloc, &[statements.as_bytes()], report)?;
     }
     Ok(())
 }
@@ -214,22 +255,20 @@ fn faults_end_a_run(rt: HostRuntime) -> Result<(), Fail> {
     Ok(want_faults(&rt, rt.alloc(), &FAULTS)?)
 }
 
-/// A piece so many times.
-fn repeated(alloc: Global, count: usize, piece: &[u8]) -> Result<Vec<u8>, NoMemory> {
-    let mut text = Vec::new(alloc);
+/// Writes a piece so many times.
+fn put_often(text: &mut Vec<u8>, count: usize, piece: &[u8]) -> Result<(), NoMemory> {
     for _ in 0..count {
         text.extend_from_slice(piece)?;
     }
-    Ok(text)
+    Ok(())
 }
 
-/// A statement with so many brackets.
-fn brackets(alloc: Global, count: usize) -> Result<Vec<u8>, NoMemory> {
-    let mut text = repeated(alloc, count, b"(")?;
+/// Writes an operand with so many brackets.
+fn put_brackets(text: &mut Vec<u8>, count: usize) -> Result<(), NoMemory> {
+    text.extend_from_slice(b" OR ")?;
+    put_often(text, count, b"(")?;
     text.extend_from_slice(b"RLO")?;
-    let close = repeated(alloc, count, b")")?;
-    text.extend_from_slice(close.as_slice())?;
-    Ok(text)
+    put_often(text, count, b")")
 }
 
 /// A program that assigns this expression is answered so.
@@ -239,30 +278,45 @@ fn wants_assigned(
     expression: &[u8],
     wanted: &[u8],
 ) -> Result<(), NoMemory> {
-    let text = with_statements(alloc, &[b"RLO := RLO", expression, b";"])?;
-    wants_answer(rt, alloc, BlockName::Ob(1), text.as_slice(), wanted)
+    wants_report(rt, alloc, &[b"RLO := RLO", expression, b";"], wanted)
 }
 
 const TOO_DEEP: &[u8] = b"line 2: TooDeep\n";
 
+/// So many brackets are answered so.
+fn wants_brackets(
+    rt: &impl Abort,
+    alloc: Global,
+    count: usize,
+    wanted: &[u8],
+) -> Result<(), NoMemory> {
+    let mut text = Vec::new(alloc);
+    put_brackets(&mut text, count)?;
+    wants_assigned(rt, alloc, text.as_slice(), wanted)
+}
+
 #[test]
 fn two_hundred_brackets_are_run(rt: HostRuntime) -> Result<(), Fail> {
-    let alloc = rt.alloc();
-    for (count, report) in [(200, ENDED), (201, TOO_DEEP)] {
-        let mut text = Vec::from_slice(alloc, b" OR ")?;
-        let deep = brackets(alloc, count)?;
-        text.extend_from_slice(deep.as_slice())?;
-        wants_assigned(&rt, alloc, text.as_slice(), report)?;
-    }
+    wants_brackets(&rt, rt.alloc(), 200, ENDED)?;
+    wants_brackets(&rt, rt.alloc(), 201, TOO_DEEP)?;
     Ok(())
+}
+
+/// A chain of so many is answered so.
+fn wants_chain(
+    rt: &impl Abort,
+    alloc: Global,
+    count: usize,
+    wanted: &[u8],
+) -> Result<(), NoMemory> {
+    let mut text = Vec::new(alloc);
+    put_often(&mut text, count, b" AND RLO")?;
+    wants_assigned(rt, alloc, text.as_slice(), wanted)
 }
 
 #[test]
 fn a_chain_of_two_hundred_is_run(rt: HostRuntime) -> Result<(), Fail> {
-    let alloc = rt.alloc();
-    for (count, report) in [(200, ENDED), (201, TOO_DEEP)] {
-        let chain = repeated(alloc, count, b" AND RLO")?;
-        wants_assigned(&rt, alloc, chain.as_slice(), report)?;
-    }
+    wants_chain(&rt, rt.alloc(), 200, ENDED)?;
+    wants_chain(&rt, rt.alloc(), 201, TOO_DEEP)?;
     Ok(())
 }
