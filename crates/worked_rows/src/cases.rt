@@ -1,0 +1,323 @@
+//! Cases, as the lines of a file say them.
+//!
+//! A line begins with a key and a blank, a line of a text with four blanks, a comment with `#`. docs/ARCHITECTURE.md
+//! has the keys ("Where a worked row goes").
+use crate::texts::{NamedText, put_line};
+use command_answers::Status;
+use s7_base::NoMemory;
+use std::alloc::{AllocError, AllocFailed, Global};
+use std::{io, mem};
+
+/// Why no further case of a file is run.
+#[derive(Clone, Copy, Debug, PartialEq)]
+pub enum Stop {
+    /// A line has no form of a case.
+    NoForm,
+
+    /// The file can't be read, or the output not written.
+    NoFile,
+    NoMemory,
+}
+
+impl From<io::Error> for Stop {
+    fn from(_fault: io::Error) -> Stop {
+        Stop::NoFile
+    }
+}
+
+impl From<NoMemory> for Stop {
+    fn from(_refused: NoMemory) -> Stop {
+        Stop::NoMemory
+    }
+}
+
+impl From<AllocError> for Stop {
+    fn from(_refused: AllocError) -> Stop {
+        Stop::NoMemory
+    }
+}
+
+impl<T: Drop> From<AllocFailed<T>> for Stop {
+    fn from(_refused: AllocFailed<T>) -> Stop {
+        Stop::NoMemory
+    }
+}
+
+/// Which calls of the devices fail: the number of one, from 1, or 0 for none; and how much the output takes.
+#[derive(Clone, Copy)]
+pub struct Faults {
+    pub read: u32,
+    pub image: u32,
+    pub write: u32,
+    pub room: usize,
+
+    /// Whether the image's file is there.
+    pub has_file: bool,
+}
+
+const NO_FAULTS: Faults = Faults {
+    read: 0,
+    image: 0,
+    write: 0,
+    room: 100_000,
+    has_file: true,
+};
+
+/// What the program is asked.
+#[derive(Drop)]
+pub enum Question {
+    /// The arguments.
+    Words(Vec<String>),
+
+    /// A bound and a call: a run of the source, and one of its translation.
+    Both(String, String),
+}
+
+/// What the program is given, and what it is to answer.
+#[derive(Drop)]
+pub struct Case {
+    /// The line of its answer, from 1.
+    pub line: u32,
+    pub source: Vec<u8>,
+    pub image: Vec<u8>,
+    pub faults: Faults,
+    pub status: Status,
+    pub answer: Vec<u8>,
+}
+
+impl Case {
+    fn new(alloc: Global) -> Case {
+        Case {
+            line: 0,
+            source: Vec::new(alloc),
+            image: Vec::new(alloc),
+            faults: NO_FAULTS,
+            status: Status::Done,
+            answer: Vec::new(alloc),
+        }
+    }
+}
+
+/// What the text that is being read is.
+#[derive(Clone, Copy, PartialEq)]
+enum Part {
+    Nothing,
+    Named,
+    Source,
+    Body,
+    Statements,
+    Image,
+    Answer,
+}
+
+/// What the lines of a file have said so far.
+#[derive(Drop)]
+pub struct Cases {
+    alloc: Global,
+
+    /// How many lines were read.
+    line: u32,
+    question: Question,
+    texts: Vec<NamedText>,
+    case: Case,
+    part: Part,
+    text: Vec<u8>,
+
+    /// A line end stands behind the text, if a line follows it or it is an answer.
+    has_end: bool,
+}
+
+impl Cases {
+    /// No line is read yet.
+    pub fn new(alloc: Global) -> Cases {
+        Cases {
+            alloc,
+            line: 0,
+            question: Question::Words(Vec::new(alloc)),
+            texts: Vec::new(alloc),
+            case: Case::new(alloc),
+            part: Part::Nothing,
+            text: Vec::new(alloc),
+            has_end: false,
+        }
+    }
+
+    /// What the case that was closed is asked.
+    pub fn question(&self) -> &Question {
+        &self.question
+    }
+
+    /// How many lines were read.
+    pub fn line(&self) -> u32 {
+        self.line
+    }
+
+    /// Reads a line. Before one with a key what was read is to be closed.
+    pub fn read(&mut self, line: &str) -> Result<(), Stop> {
+        self.line = self.line.saturating_add(1);
+        if let Some(text) = line.strip_prefix("    ") {
+            return self.put_line(text);
+        }
+        if !has_key(line) {
+            return Ok(());
+        }
+        match line.split_once(' ') {
+            Some((key, rest)) => self.open(key, Some(rest)),
+            None => self.open(line, None),
+        }
+    }
+
+    /// Reads a line of the text.
+    fn put_line(&mut self, line: &str) -> Result<(), Stop> {
+        if self.part == Part::Nothing {
+            return Err(Stop::NoForm);
+        }
+        if self.has_end {
+            self.text.push(b'\n')?;
+        }
+        self.has_end = put_line(&mut self.text, line, self.texts.as_slice())?;
+        Ok(())
+    }
+
+    /// Reads a key and what stands behind it.
+    fn open(&mut self, key: &str, rest: Option<&str>) -> Result<(), Stop> {
+        match key {
+            "words" => self.put_words(rest.unwrap_or("")),
+            "both" => self.put_both(rest.unwrap_or("")),
+            "fault" => self.put_fault(rest.unwrap_or("")),
+            "text" => self.put_name(rest.unwrap_or("")),
+            "answer" => self.put_status(rest.unwrap_or("")),
+            "source" => self.begin(Part::Source, rest),
+            "body" => self.begin(Part::Body, rest),
+            "statements" => self.begin(Part::Statements, rest),
+            "image" => self.begin(Part::Image, rest),
+            _ => Err(Stop::NoForm),
+        }
+    }
+
+    fn put_words(&mut self, line: &str) -> Result<(), Stop> {
+        let mut words = Vec::new(self.alloc);
+        for word in line.split_whitespace() {
+            let word = if word == "-" { "" } else { word };
+            words.push(String::from_str(self.alloc, word)?)?;
+        }
+        self.question = Question::Words(words);
+        Ok(())
+    }
+
+    fn put_both(&mut self, line: &str) -> Result<(), Stop> {
+        let (bound, call) = line.split_once(' ').ok_or(Stop::NoForm)?;
+        let bound = String::from_str(self.alloc, bound)?;
+        let call = String::from_str(self.alloc, call)?;
+        self.question = Question::Both(bound, call);
+        Ok(())
+    }
+
+    fn put_fault(&mut self, line: &str) -> Result<(), Stop> {
+        let faults = &mut self.case.faults;
+        match line.split_once(' ') {
+            Some(("read", number)) => faults.read = number_of(number)?,
+            Some(("image", number)) => faults.image = number_of(number)?,
+            Some(("write", number)) => faults.write = number_of(number)?,
+            Some(("room", number)) => faults.room = number_of(number)? as usize,
+            None if line == "file" => faults.has_file = false,
+            _ => return Err(Stop::NoForm),
+        }
+        Ok(())
+    }
+
+    fn put_name(&mut self, name: &str) -> Result<(), Stop> {
+        let name = String::from_str(self.alloc, name)?;
+        let text = Vec::new(self.alloc);
+        self.texts.push(NamedText { name, text })?;
+        self.begin(Part::Named, None)
+    }
+
+    fn put_status(&mut self, line: &str) -> Result<(), Stop> {
+        let (name, rest) = match line.split_once(' ') {
+            Some((name, rest)) => (name, Some(rest)),
+            None => (line, None),
+        };
+        self.case.status = status_named(name).ok_or(Stop::NoForm)?;
+        self.case.line = self.line;
+        self.begin(Part::Answer, rest)
+    }
+
+    /// Begins a text, with its first line where it stands behind the key.
+    fn begin(&mut self, part: Part, line: Option<&str>) -> Result<(), Stop> {
+        self.part = part;
+        match line {
+            Some(line) => self.put_line(line),
+            None => Ok(()),
+        }
+    }
+
+    /// Closes the text, and returns the case that ends with it, if one does.
+    pub fn close(&mut self) -> Result<Option<Case>, Stop> {
+        let part = mem::replace(&mut self.part, Part::Nothing);
+        let has_end = mem::replace(&mut self.has_end, false);
+        let mut text = mem::replace(&mut self.text, Vec::new(self.alloc));
+        match part {
+            Part::Nothing => {}
+            Part::Named => {
+                if let Some(named) = self.texts.last_mut() {
+                    named.text = text;
+                }
+            }
+            Part::Source => self.case.source = text,
+            Part::Body => self.case.source = framed(self.alloc, BODY, text.as_slice())?,
+            Part::Statements => self.case.source = framed(self.alloc, STATEMENTS, text.as_slice())?,
+            Part::Image => self.case.image = text,
+            Part::Answer => {
+                if has_end {
+                    text.push(b'\n')?;
+                }
+                self.case.answer = text;
+                return Ok(Some(mem::replace(&mut self.case, Case::new(self.alloc))));
+            }
+        }
+        Ok(None)
+    }
+}
+
+/// The line has a key.
+pub fn has_key(line: &str) -> bool {
+    !line.is_empty() && !line.starts_with('#') && !line.starts_with("    ")
+}
+
+/// What stands before and behind the statements of one block.
+type Frame = (&'static [u8], &'static [u8]);
+
+const BODY: Frame = (
+    b"ORGANIZATION_BLOCK OB 1\nBEGIN\n",
+    b"\nEND_ORGANIZATION_BLOCK\n",
+);
+
+const STATEMENTS: Frame = (b"PROGRAM OB1\n", b"\nEND_PROGRAM\n");
+
+fn framed(alloc: Global, frame: Frame, text: &[u8]) -> Result<Vec<u8>, Stop> {
+    let mut source = Vec::from_slice(alloc, frame.0)?;
+    source.extend_from_slice(text)?;
+    source.extend_from_slice(frame.1)?;
+    Ok(source)
+}
+
+fn number_of(digits: &str) -> Result<u32, Stop> {
+    digits.parse().map_err(|_| Stop::NoForm)
+}
+
+fn status_named(name: &str) -> Option<Status> {
+    match name {
+        "Done" => Some(Status::Done),
+        "Refused" => Some(Status::Refused),
+        "Usage" => Some(Status::Usage),
+        "BadImage" => Some(Status::BadImage),
+        "BadCall" => Some(Status::BadCall),
+        "Faulted" => Some(Status::Faulted),
+        "Going" => Some(Status::Going),
+        "ReadFault" => Some(Status::ReadFault),
+        "WriteFault" => Some(Status::WriteFault),
+        "TooLong" => Some(Status::TooLong),
+        _ => None,
+    }
+}
