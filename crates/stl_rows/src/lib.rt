@@ -1,11 +1,8 @@
-//! The rows that show what no clause says of the status word, of tokens, instructions and the machine: that
-//! the definitions give the answers that the rules of STL ask for, over public calls alone.
+//! The rows that show what no clause says of the status word, of tokens, instructions and the machine, and no
+//! command of the program shows: that the definitions give the answers that the rules of STL ask for, over public
+//! calls alone.
 #![tactic(auto)]
 
-#[cfg(test)]
-mod bit_logic_rows;
-#[cfg(test)]
-mod data_block_rows;
 #[cfg(test)]
 mod machines;
 #[cfg(test)]

@@ -3,9 +3,9 @@
 use crate::stl_instructions_rows::Wanted::{
     ByMemory, ByRegister, Crossing, Nothing, OpenDbBy, OpenDiBy, OtherAr, Place, Pointer,
 };
-use crate::stl_instructions_rows::{Row, want_instructions, want_refusals};
+use crate::stl_instructions_rows::{Row, want_instructions};
 use memory_areas::AreaName;
-use s7_base::{Check, Kind, Reason, Width};
+use s7_base::{Check, Width};
 use std::test::Fail;
 use stl_statements::Mnemonic;
 use stl_tree::{Ar, LogicRow};
@@ -112,38 +112,8 @@ static ROWS: [Row; 24] = [
     ),
 ];
 
-/// Statements that begin with a mnemonic and have no form that is built.
-static NOT_BUILT: [&[u8]; 20] = [
-    b"LAR2 AR1",
-    b"TAR2 AR1",
-    b"LAR1 AR1",
-    b"LAR1 DW#16#83000000",
-    b"LAR1 D [AR1,P#0.0]",
-    b"TAR1 P#0.0",
-    b"CAR 1",
-    b"+AR1 P#M 0.0",
-    b"+AR1 5",
-    b"L P #0.0",
-    b"L P#0 .0",
-    b"L P#MW 0",
-    b"L P#DB5.DBX 0.0",
-    b"+ P#0.0",
-    b"L MW [ID 0]",
-    b"L MW [MW 0]",
-    b"L MW [DB1.DBD 0]",
-    b"L MW [AR1,P#M 0.0]",
-    b"L MW [AR1]",
-    b"OPN DB [IW 0]",
-];
-
 #[test]
 fn reads_pointers(rt: HostRuntime) -> Result<(), Fail> {
     want_instructions(&rt, rt.alloc(), &ROWS)?;
-    want_refusals(
-        &rt,
-        rt.alloc(),
-        &NOT_BUILT,
-        Reason::Unsupported(Kind::NotBuilt),
-    );
     Ok(())
 }

@@ -1,8 +1,8 @@
 //! What no clause says: that the table and the forms of operands give the instructions that the language
-//! asks for, and the right refusals.
+//! asks for.
 use crate::wants::{wants, wants_text};
 use memory_areas::AreaName;
-use s7_base::{Check, Kind, Line, NoMemory, Reason, Rejection, Width};
+use s7_base::{Check, Line, NoMemory, Reason, Rejection, Width};
 use status_word::Test;
 use std::alloc::Global;
 use std::process::Abort;
@@ -22,18 +22,11 @@ pub enum Wanted {
 
     /// A data block, a width, a byte and a bit of it.
     InBlock(u32, Width, u32, u32),
-    OpenDb(u32),
     OpenDi(u32),
-    DbNo,
-    DiNo,
     Status(Test),
-    Stw,
 
     /// A plain number, by its pattern.
     Number(u32),
-
-    /// Binary digits.
-    Binary(Width, u32),
 
     /// Another constant.
     Value(Width, u32),
@@ -57,8 +50,8 @@ pub enum Wanted {
 }
 
 use Wanted::{
-    Binary, Bit, ByMemory, ByRegister, Crossing, DbNo, DiNo, InBlock, Nothing, Number, OpenDb,
-    OpenDbBy, OpenDi, OpenDiBy, OtherAr, Place, Pointer, Status, Stw, Value,
+    Bit, ByMemory, ByRegister, Crossing, InBlock, Nothing, Number, OpenDbBy, OpenDi, OpenDiBy,
+    OtherAr, Place, Pointer, Status, Value,
 };
 
 /// A statement without its `;`, the name of its mnemonic, what that is, and the operand.
@@ -170,86 +163,8 @@ static CHECKS: [(&[u8], Check); 6] = [
     (b"XN", Check::Xn),
 ];
 
-/// Statements that begin with a mnemonic or a label and have no form that is built, each on line 1.
-static NOT_BUILT: [&[u8]; 42] = [
-    b"A",
-    b"X",
-    b"AN",
-    b"S",
-    b"=",
-    b"FP",
-    b"NOP",
-    b"A I",
-    b"A I 0",
-    b"A I 0.",
-    b"A I 0.0 I",
-    b"A I 0 .0",
-    b"A I 0. 0",
-    b"A{x}N I 0.0",
-    b"A == 0",
-    b"A ==",
-    b"A ==1",
-    b"A ==00",
-    b"A ==0 0",
-    b"A = =0",
-    b"A OV 0",
-    b"= ==0",
-    b"S OV",
-    b"FP BR",
-    b"O I 0.0 I 0.1",
-    b"O (I 0.0",
-    b"A( I 0.0",
-    b") I 0.0",
-    b"SET I 0.0",
-    b"NOT 0",
-    b"NOP 256",
-    b"NOP -1",
-    b"NOP - 0",
-    b"NOP +0",
-    b"NOP 0 0",
-    b"NOP B#16#5",
-    b"BLD M 0.0",
-    b"JU a",
-    b"CALL FC 1",
-    b"a: SET",
-    b"A: A I 0.0",
-    b"a:= Q 4.0",
-];
-
-/// Statements that begin with no mnemonic and no label.
-static BAD: [&[u8]; 20] = [
-    b"FOO 5",
-    b"5",
-    b"\"A\" I 0.0",
-    b"'A' I 0.0",
-    b"AI 0.0",
-    b"NOP0",
-    b"SLW4",
-    b"A1",
-    b"==0",
-    b"== I",
-    b"- I",
-    b"<> 0",
-    b"(",
-    b":",
-    b"b:= Q 4.0",
-    b"L1:= M 0.0",
-    b"1a: SET",
-    b"abcde: SET",
-    b"# A",
-    b"NETWORK",
-];
-
-/// A statement, the line on which its first token stands, and why it is refused.
-type Refused = (&'static [u8], u32, Reason);
-
-static LINES: [Refused; 5] = [
-    (b"\n\nFOO\n5", 3, Reason::BadStatement),
-    (b"\nA\nT 1", 2, Reason::Unsupported(Kind::Timer)),
-    (b"// A\n\nA I\n0. 8", 3, Reason::Unsupported(Kind::NotBuilt)),
-    (b"\na\n: SET", 2, Reason::Unsupported(Kind::NotBuilt)),
-    (b"", 1, Reason::BadStatement),
-];
+/// What is no instruction, and no source is refused for.
+static BAD: [&[u8]; 2] = [b"", b"NETWORK"];
 
 fn place_of(place: &RawPlace) -> Option<Wanted> {
     match place {
@@ -281,7 +196,6 @@ fn place_of(place: &RawPlace) -> Option<Wanted> {
 fn constant_of(constant: &Constant) -> Option<Wanted> {
     match (constant.signed, constant.binary) {
         (true, false) if constant.width == Width::Word => Some(Number(constant.value)),
-        (false, true) => Some(Binary(constant.width, constant.value)),
         (false, false) => Some(Value(constant.width, constant.value)),
         _ => None,
     }
@@ -293,10 +207,6 @@ fn operand_of(operand: &RawOperand) -> Option<Wanted> {
         RawOperand::Missing => Some(Nothing),
         RawOperand::At(place) => place_of(place),
         RawOperand::Flag(test) => Some(Status(*test)),
-        RawOperand::Stw => Some(Stw),
-        RawOperand::DbNo => Some(DbNo),
-        RawOperand::DiNo => Some(DiNo),
-        RawOperand::OpenDb(RawName::Number(number)) => Some(OpenDb(*number)),
         RawOperand::OpenDi(RawName::Number(number)) => Some(OpenDi(*number)),
         RawOperand::Constant(constant) => constant_of(constant),
         RawOperand::Pointer(pointer) => Some(Pointer(pointer.code, pointer.byte, pointer.bit)),
@@ -417,29 +327,15 @@ fn reads_status_operands(rt: HostRuntime) -> Result<(), Fail> {
     Ok(())
 }
 
-/// A statement is refused on this line, for this reason.
-fn wants_refusal(rt: &impl Abort, alloc: Global, text: &[u8], line: u32, reason: Reason) {
-    let wanted = Some(Rejection::Refused(Line(line), reason));
-    wants(rt, &text, &read(alloc, text).err(), &wanted);
-}
-
-pub fn want_refusals(rt: &impl Abort, alloc: Global, rows: &[&[u8]], reason: Reason) {
+fn want_refusals(rt: &impl Abort, alloc: Global, rows: &[&[u8]], reason: Reason) {
+    let wanted = Some(Rejection::Refused(Line(1), reason));
     for text in rows {
-        wants_refusal(rt, alloc, text, 1, reason);
-    }
-}
-
-fn want_lines(rt: &impl Abort, alloc: Global, rows: &[Refused]) {
-    for (text, line, reason) in rows {
-        wants_refusal(rt, alloc, text, *line, *reason);
+        wants(rt, text, &read(alloc, text).err(), &wanted);
     }
 }
 
 #[test]
 fn refuses_what_is_no_instruction(rt: HostRuntime) -> Result<(), Fail> {
-    let alloc = rt.alloc();
-    want_refusals(&rt, alloc, &NOT_BUILT, Reason::Unsupported(Kind::NotBuilt));
-    want_refusals(&rt, alloc, &BAD, Reason::BadStatement);
-    want_lines(&rt, alloc, &LINES);
+    want_refusals(&rt, rt.alloc(), &BAD, Reason::BadStatement);
     Ok(())
 }
