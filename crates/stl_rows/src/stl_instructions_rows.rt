@@ -163,7 +163,7 @@ static CHECKS: [(&[u8], Check); 6] = [
     (b"XN", Check::Xn),
 ];
 
-/// What is no instruction, and no source is refused for.
+/// What is no instruction; a source may have it where a statement begins.
 static BAD: [&[u8]; 2] = [b"", b"NETWORK"];
 
 fn place_of(place: &RawPlace) -> Option<Wanted> {
@@ -327,15 +327,15 @@ fn reads_status_operands(rt: HostRuntime) -> Result<(), Fail> {
     Ok(())
 }
 
-fn want_refusals(rt: &impl Abort, alloc: Global, rows: &[&[u8]], reason: Reason) {
-    let wanted = Some(Rejection::Refused(Line(1), reason));
+fn want_bad(rt: &impl Abort, alloc: Global, rows: &[&[u8]]) {
+    let bad = Rejection::Refused(Line(1), Reason::BadStatement);
     for text in rows {
-        wants(rt, text, &read(alloc, text).err(), &wanted);
+        wants(rt, text, &read(alloc, text).err(), &Some(bad));
     }
 }
 
 #[test]
 fn refuses_what_is_no_instruction(rt: HostRuntime) -> Result<(), Fail> {
-    want_refusals(&rt, rt.alloc(), &BAD, Reason::BadStatement);
+    want_bad(&rt, rt.alloc(), &BAD);
     Ok(())
 }
