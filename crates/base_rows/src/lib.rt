@@ -1,6 +1,6 @@
-//! The rows that show what no clause says of the libraries at the base, below either language: that a
-//! definition gives the values which the rules give, the exact texts, that a call answers while there is
-//! memory, and what comes of reads and writes that fail.
+//! The rows that show what no clause says of the libraries below either language, and what no command of the
+//! program shows: that a definition gives the values which the rules give, the exact texts, that a call answers
+//! while there is memory, and what comes of reads and writes that fail.
 //!
 //! A module has the rows of the library that its name begins with, over public calls alone.
 #![tactic(auto)]
@@ -8,9 +8,7 @@
 #[cfg(test)]
 mod address_registers_rows;
 #[cfg(test)]
-mod bcd_words_rows;
-#[cfg(test)]
-mod image_text_rows;
+mod command_words_rows;
 #[cfg(test)]
 mod memory_areas_rows;
 #[cfg(test)]

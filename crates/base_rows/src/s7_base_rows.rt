@@ -1,7 +1,6 @@
-//! What no clause says: that calls succeed while there is memory. And that the texts which the
-//! clauses promise are the ones that were asked for.
+//! What no clause says: that calls succeed while there is memory.
 use crate::wants::{wants, wants_text};
-use s7_base::{Boxed, Kind, List, NoMemory, Reason, SmallText};
+use s7_base::{Boxed, List, NoMemory, SmallText};
 use std::alloc::Global;
 use std::process::Abort;
 use std::test::Fail;
@@ -62,25 +61,4 @@ fn want_texts(rt: &impl Abort, alloc: Global, texts: &[&[u8]]) -> Result<(), NoM
 #[test]
 fn keeps_small_texts(rt: HostRuntime) -> Result<(), Fail> {
     Ok(want_texts(&rt, rt.alloc(), &TEXTS)?)
-}
-
-static REASONS: [(Reason, &[u8]); 2] = [
-    (Reason::BadToken, b"BadToken"),
-    (
-        Reason::Unsupported(Kind::NotBuilt),
-        b"Unsupported(NotBuilt)",
-    ),
-];
-
-fn want_reasons(rt: &impl Abort, alloc: Global, rows: &[(Reason, &[u8])]) -> Result<(), NoMemory> {
-    for (reason, want) in rows {
-        let text = format!(in alloc; "{reason}")?;
-        wants_text(rt, want, text.as_bytes(), want);
-    }
-    Ok(())
-}
-
-#[test]
-fn shows_reasons(rt: HostRuntime) -> Result<(), Fail> {
-    Ok(want_reasons(&rt, rt.alloc(), &REASONS)?)
 }
