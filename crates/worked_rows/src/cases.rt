@@ -65,12 +65,12 @@ const NO_FAULTS: Faults = Faults {
 
 /// What the program is asked.
 #[derive(Drop)]
-pub enum Question {
-    /// The arguments.
-    Words(Vec<String>),
+pub struct Question {
+    /// Two runs are asked for, one of the source and one of its translation: the words are a bound and a call.
+    pub is_both: bool,
 
-    /// A bound and a call: a run of the source, and one of its translation.
-    Both(String, String),
+    /// The arguments.
+    pub words: Vec<String>,
 }
 
 /// What the program is given, and what it is to answer.
@@ -133,7 +133,10 @@ impl Cases {
         Cases {
             alloc,
             line: 0,
-            question: Question::Words(Vec::new(alloc)),
+            question: Question {
+                is_both: false,
+                words: Vec::new(alloc),
+            },
             texts: Vec::new(alloc),
             case: Case::new(alloc),
             part: Part::Nothing,
@@ -182,8 +185,8 @@ impl Cases {
     /// Reads a key and what stands behind it.
     fn open(&mut self, key: &str, rest: Option<&str>) -> Result<(), Stop> {
         match key {
-            "words" => self.put_words(rest.unwrap_or("")),
-            "both" => self.put_both(rest.unwrap_or("")),
+            "words" => self.put_question(false, rest.unwrap_or("")),
+            "both" => self.put_question(true, rest.unwrap_or("")),
             "fault" => self.put_fault(rest.unwrap_or("")),
             "text" => self.put_name(rest.unwrap_or("")),
             "answer" => self.put_status(rest.unwrap_or("")),
@@ -195,21 +198,14 @@ impl Cases {
         }
     }
 
-    fn put_words(&mut self, line: &str) -> Result<(), Stop> {
-        let mut words = Vec::new(self.alloc);
+    fn put_question(&mut self, is_both: bool, line: &str) -> Result<(), Stop> {
+        self.question.is_both = is_both;
+        self.question.words.clear();
         for word in line.split_whitespace() {
             let word = if word == "-" { "" } else { word };
-            words.push(String::from_str(self.alloc, word)?)?;
+            let word = String::from_str(self.alloc, word)?;
+            self.question.words.push(word)?;
         }
-        self.question = Question::Words(words);
-        Ok(())
-    }
-
-    fn put_both(&mut self, line: &str) -> Result<(), Stop> {
-        let (bound, call) = line.split_once(' ').ok_or(Stop::NoForm)?;
-        let bound = String::from_str(self.alloc, bound)?;
-        let call = String::from_str(self.alloc, call)?;
-        self.question = Question::Both(bound, call);
         Ok(())
     }
 
@@ -227,9 +223,11 @@ impl Cases {
     }
 
     fn put_name(&mut self, name: &str) -> Result<(), Stop> {
-        let name = String::from_str(self.alloc, name)?;
-        let text = Vec::new(self.alloc);
-        self.texts.push(NamedText { name, text })?;
+        let named = NamedText {
+            name: String::from_str(self.alloc, name)?,
+            text: Vec::new(self.alloc),
+        };
+        self.texts.push(named)?;
         self.begin(Part::Named, None)
     }
 
@@ -246,6 +244,7 @@ impl Cases {
     /// Begins a text, with its first line where it stands behind the key.
     fn begin(&mut self, part: Part, line: Option<&str>) -> Result<(), Stop> {
         self.part = part;
+        self.text.extend_from_slice(front_of(part))?;
         match line {
             Some(line) => self.put_line(line),
             None => Ok(()),
@@ -254,29 +253,32 @@ impl Cases {
 
     /// Closes the text, and returns the case that ends with it, if one does.
     pub fn close(&mut self) -> Result<Option<Case>, Stop> {
-        let part = mem::replace(&mut self.part, Part::Nothing);
-        let has_end = mem::replace(&mut self.has_end, false);
-        let mut text = mem::replace(&mut self.text, Vec::new(self.alloc));
-        match part {
+        if self.part == Part::Answer && self.has_end {
+            self.text.push(b'\n')?;
+        }
+        self.text.extend_from_slice(end_of(self.part))?;
+        Ok(self.take())
+    }
+
+    /// Puts the text where it belongs, and returns the case that ends with it, if one does.
+    fn take(&mut self) -> Option<Case> {
+        let text = mem::replace(&mut self.text, Vec::new(self.alloc));
+        self.has_end = false;
+        match mem::replace(&mut self.part, Part::Nothing) {
             Part::Nothing => {}
             Part::Named => {
                 if let Some(named) = self.texts.last_mut() {
                     named.text = text;
                 }
             }
-            Part::Source => self.case.source = text,
-            Part::Body => self.case.source = framed(self.alloc, BODY, text.as_slice())?,
-            Part::Statements => self.case.source = framed(self.alloc, STATEMENTS, text.as_slice())?,
+            Part::Source | Part::Body | Part::Statements => self.case.source = text,
             Part::Image => self.case.image = text,
             Part::Answer => {
-                if has_end {
-                    text.push(b'\n')?;
-                }
                 self.case.answer = text;
-                return Ok(Some(mem::replace(&mut self.case, Case::new(self.alloc))));
+                return Some(mem::replace(&mut self.case, Case::new(self.alloc)));
             }
         }
-        Ok(None)
+        None
     }
 }
 
@@ -285,21 +287,22 @@ pub fn has_key(line: &str) -> bool {
     !line.is_empty() && !line.starts_with('#') && !line.starts_with("    ")
 }
 
-/// What stands before and behind the statements of one block.
-type Frame = (&'static [u8], &'static [u8]);
+/// What stands before the lines of a text.
+fn front_of(part: Part) -> &'static [u8] {
+    match part {
+        Part::Body => b"ORGANIZATION_BLOCK OB 1\nBEGIN\n",
+        Part::Statements => b"PROGRAM OB1\n",
+        _ => b"",
+    }
+}
 
-const BODY: Frame = (
-    b"ORGANIZATION_BLOCK OB 1\nBEGIN\n",
-    b"\nEND_ORGANIZATION_BLOCK\n",
-);
-
-const STATEMENTS: Frame = (b"PROGRAM OB1\n", b"\nEND_PROGRAM\n");
-
-fn framed(alloc: Global, frame: Frame, text: &[u8]) -> Result<Vec<u8>, Stop> {
-    let mut source = Vec::from_slice(alloc, frame.0)?;
-    source.extend_from_slice(text)?;
-    source.extend_from_slice(frame.1)?;
-    Ok(source)
+/// What stands behind the lines of a text.
+fn end_of(part: Part) -> &'static [u8] {
+    match part {
+        Part::Body => b"\nEND_ORGANIZATION_BLOCK\n",
+        Part::Statements => b"\nEND_PROGRAM\n",
+        _ => b"",
+    }
 }
 
 fn number_of(digits: &str) -> Result<u32, Stop> {

@@ -29,10 +29,12 @@ impl Tally {
         failed: 0,
     };
 
-    /// Counts a case.
-    fn note(&mut self, is_wanted: bool) {
-        self.cases = self.cases.saturating_add(1);
-        self.failed = self.failed.saturating_add(u64::from(!is_wanted));
+    /// One case.
+    fn of(is_wanted: bool) -> Tally {
+        Tally {
+            cases: 1,
+            failed: u64::from(!is_wanted),
+        }
     }
 
     /// Counts those of another tally too.
@@ -40,14 +42,6 @@ impl Tally {
         self.cases = self.cases.saturating_add(other.cases);
         self.failed = self.failed.saturating_add(other.failed);
     }
-}
-
-fn words_of(alloc: Global, words: &[&str]) -> Result<Vec<String>, NoMemory> {
-    let mut copies = Vec::new(alloc);
-    for word in words {
-        copies.push(String::from_str(alloc, word)?)?;
-    }
-    Ok(copies)
 }
 
 /// Whether the answer is the one that the case wants; where it is another, both are shown.
@@ -69,41 +63,72 @@ fn is_wanted(rt: &impl Print, file: &str, case: &Case, found: &Answer) -> Result
     Ok(false)
 }
 
-/// Asks both languages: for a run of the source, and for one of its translation.
+/// Asks with these words.
+fn answer_to(
+    alloc: Global,
+    words: &[&str],
+    source: &[u8],
+    case: &Case,
+) -> Result<Answer, NoMemory> {
+    let words = words_of(alloc, words)?;
+    answer(alloc, words.as_slice(), source, case)
+}
+
+fn words_of(alloc: Global, words: &[&str]) -> Result<Vec<String>, NoMemory> {
+    let mut copies = Vec::new(alloc);
+    for word in words {
+        let word = String::from_str(alloc, word)?;
+        copies.push(word)?;
+    }
+    Ok(copies)
+}
+
+/// Whether a run of a source or a text, by its command, a bound and a call, is answered as the case wants.
+fn is_run_wanted(
+    rt: &impl Print,
+    alloc: Global,
+    place: (&str, &Case),
+    run: (&str, &str, &str),
+    source: &[u8],
+) -> Result<bool, Stop> {
+    let (file, case) = place;
+    let (command, bound, call) = run;
+    let found = answer_to(alloc, &[command, bound, call, "image"], source, case)?;
+    is_wanted(rt, file, case, &found)
+}
+
+/// Asks for a run of the source, and for one of its translation.
 fn are_wanted(
     rt: &impl Print,
     alloc: Global,
-    file: &str,
-    case: &Case,
-    run: (&str, &str),
+    place: (&str, &Case),
+    words: &[String],
 ) -> Result<bool, Stop> {
-    let (bound, call) = run;
-    let source = case.source.as_slice();
-    let words = words_of(alloc, &["run-stl", bound, call, "image"])?;
-    let ran = answer(alloc, words.as_slice(), source, case)?;
-    let words = words_of(alloc, &["translate"])?;
-    let text = answer(alloc, words.as_slice(), source, case)?;
-    let words = words_of(alloc, &["run-st", bound, call, "image"])?;
-    let ran_text = answer(alloc, words.as_slice(), text.1.taken(), case)?;
-    Ok(is_wanted(rt, file, case, &ran)? && is_wanted(rt, file, case, &ran_text)?)
+    let [bound, call] = words else {
+        return Err(Stop::NoForm);
+    };
+    let (bound, call) = (bound.as_str(), call.as_str());
+    let source = place.1.source.as_slice();
+    if !is_run_wanted(rt, alloc, place, ("run-stl", bound, call), source)? {
+        return Ok(false);
+    }
+    let text = answer_to(alloc, &["translate"], source, place.1)?;
+    is_run_wanted(rt, alloc, place, ("run-st", bound, call), text.1.taken())
 }
 
 fn run_case(
     rt: &impl Print,
     alloc: Global,
-    file: &str,
+    place: (&str, &Case),
     question: &Question,
-    case: &Case,
 ) -> Result<bool, Stop> {
-    match question {
-        Question::Words(words) => {
-            let found = answer(alloc, words.as_slice(), case.source.as_slice(), case)?;
-            is_wanted(rt, file, case, &found)
-        }
-        Question::Both(bound, call) => {
-            are_wanted(rt, alloc, file, case, (bound.as_str(), call.as_str()))
-        }
+    let words = question.words.as_slice();
+    if question.is_both {
+        return are_wanted(rt, alloc, place, words);
     }
+    let (file, case) = place;
+    let found = answer(alloc, words, case.source.as_slice(), case)?;
+    is_wanted(rt, file, case, &found)
 }
 
 /// Runs the case that ends here, if one does.
@@ -112,49 +137,49 @@ fn run_closed(
     alloc: Global,
     file: &str,
     cases: &mut Cases,
-    tally: &mut Tally,
-) -> Result<(), Stop> {
-    if let Some(case) = cases.close()? {
-        tally.note(run_case(rt, alloc, file, cases.question(), &case)?);
+) -> Result<Tally, Stop> {
+    match cases.close()? {
+        Some(case) => run_case(rt, alloc, (file, &case), cases.question()).map(Tally::of),
+        None => Ok(Tally::NONE),
     }
-    Ok(())
 }
 
 /// Runs the cases of a text, up to the first line that has no form of one.
-fn run_text(
+fn run_lines(
     rt: &impl Print,
     alloc: Global,
     file: &str,
     text: &str,
-    tally: &mut Tally,
-) -> Result<(), Stop> {
-    let mut cases = Cases::new(alloc);
+    cases: &mut Cases,
+) -> Result<Tally, Stop> {
+    let mut tally = Tally::NONE;
     for line in text.lines() {
         if has_key(line) {
-            run_closed(rt, alloc, file, &mut cases, tally)?;
+            tally.add(run_closed(rt, alloc, file, cases)?);
         }
         if let Err(stop) = cases.read(line) {
             println!(rt; "FAILED {file}:{}: {stop:?}", cases.line())?;
-            tally.note(false);
-            return Ok(());
+            tally.add(Tally::of(false));
+            return Ok(tally);
         }
     }
-    run_closed(rt, alloc, file, &mut cases, tally)
+    tally.add(run_closed(rt, alloc, file, cases)?);
+    Ok(tally)
 }
 
 /// Runs the cases of a file.
 fn run_file(rt: &HostRuntime, file: &str) -> Result<Tally, Stop> {
-    let mut tally = Tally::NONE;
     let text = fs::read_to_string(rt, file)?;
-    run_text(rt, rt.alloc(), file, text.as_str(), &mut tally)?;
-    println!(rt; "{file}: {} cases", tally.cases)?;
-    Ok(tally)
+    let mut cases = Cases::new(rt.alloc());
+    run_lines(rt, rt.alloc(), file, text.as_str(), &mut cases)
 }
 
 fn run(rt: &HostRuntime) -> Result<Tally, Stop> {
     let mut all = Tally::NONE;
     for file in env::args(rt)?.skip(1) {
-        all.add(run_file(rt, file.as_str())?);
+        let tally = run_file(rt, file.as_str())?;
+        println!(rt; "{file}: {} cases", tally.cases)?;
+        all.add(tally);
     }
     println!(rt; "{} cases, {} failed", all.cases, all.failed)?;
     Ok(all)

@@ -70,8 +70,12 @@ fn put_often(out: &mut Vec<u8>, count: &str, piece: &str) -> Result<(), Stop> {
     }
     let mut once = Vec::new(*out.allocator());
     put_piece(&mut once, piece, 0)?;
+    put_copies(out, count, once.as_slice())
+}
+
+fn put_copies(out: &mut Vec<u8>, count: u32, once: &[u8]) -> Result<(), Stop> {
     for _ in 0..count {
-        out.extend_from_slice(once.as_slice())?;
+        out.extend_from_slice(once)?;
     }
     Ok(())
 }
