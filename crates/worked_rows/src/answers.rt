@@ -1,5 +1,5 @@
 //! What the program answers to a case.
-use crate::cases::{Case, Faults};
+use case_rows::{Case, Faults};
 use command_answers::{Status, stl2st};
 use command_words::image_name;
 use s7_base::NoMemory;

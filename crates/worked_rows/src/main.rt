@@ -2,19 +2,18 @@
 //!
 //! A case shows what no clause says: that the definitions give the texts, reports and refusals which the languages
 //! ask for. Each is answered by the one call that the program itself makes, `stl2st` of `command_answers`, over
-//! sources and sinks in memory. `cases` reads a file, `texts` the texts in it, `answers` asks.
+//! sources and sinks in memory. `case_rows` reads a file, `answers` asks.
 #![tactic(auto)]
 
 use crate::answers::{Answer, answer};
-use crate::cases::{Case, Cases, Question, Stop, has_key};
+use case_rows::{Case, Cases, Question, Stop, has_key};
+use command_answers::Status;
 use s7_base::NoMemory;
 use std::alloc::Global;
 use std::process::ExitCode;
 use std::{env, fs};
 
 mod answers;
-mod cases;
-mod texts;
 
 /// How many cases were run, and how many of them were answered otherwise or could not be read.
 #[derive(Clone, Copy)]
@@ -44,17 +43,30 @@ impl Tally {
     }
 }
 
+fn status_named(name: &str) -> Option<Status> {
+    match name {
+        "Done" => Some(Status::Done),
+        "Refused" => Some(Status::Refused),
+        "Usage" => Some(Status::Usage),
+        "BadImage" => Some(Status::BadImage),
+        "BadCall" => Some(Status::BadCall),
+        "Faulted" => Some(Status::Faulted),
+        "Going" => Some(Status::Going),
+        "ReadFault" => Some(Status::ReadFault),
+        "WriteFault" => Some(Status::WriteFault),
+        "TooLong" => Some(Status::TooLong),
+        _ => None,
+    }
+}
+
 /// Whether the answer is the one that the case wants; where it is another, both are shown.
 fn is_wanted(rt: &impl Print, file: &str, case: &Case, found: &Answer) -> Result<bool, Stop> {
-    if found.0 == case.status && found.1.taken() == case.answer.as_slice() {
+    let is_status = status_named(case.status.as_str()) == Some(found.0);
+    if is_status && found.1.taken() == case.answer.as_slice() {
         return Ok(true);
     }
     println!(rt; "FAILED {file}:{}", case.line)?;
-    println!(rt;
-        "  wanted: {:?} {}",
-        case.status,
-        case.answer.escape_ascii()
-    )?;
+    println!(rt; "  wanted: {} {}", case.status, case.answer.escape_ascii())?;
     println!(rt;
         "  came:   {:?} {}",
         found.0,

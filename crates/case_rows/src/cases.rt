@@ -2,46 +2,10 @@
 //!
 //! A line begins with a key and a blank, a line of a text with four blanks, a comment with `#`. docs/ARCHITECTURE.md
 //! has the keys ("Where a worked row goes").
+use crate::stop::Stop;
 use crate::texts::{NamedText, put_line};
-use command_answers::Status;
-use s7_base::NoMemory;
-use std::alloc::{AllocError, AllocFailed, Global};
-use std::{io, mem};
-
-/// Why no further case of a file is run.
-#[derive(Clone, Copy, Debug, PartialEq)]
-pub enum Stop {
-    /// A line has no form of a case.
-    NoForm,
-
-    /// The file can't be read, or the output not written.
-    NoFile,
-    NoMemory,
-}
-
-impl From<io::Error> for Stop {
-    fn from(_fault: io::Error) -> Stop {
-        Stop::NoFile
-    }
-}
-
-impl From<NoMemory> for Stop {
-    fn from(_refused: NoMemory) -> Stop {
-        Stop::NoMemory
-    }
-}
-
-impl From<AllocError> for Stop {
-    fn from(_refused: AllocError) -> Stop {
-        Stop::NoMemory
-    }
-}
-
-impl<T: Drop> From<AllocFailed<T>> for Stop {
-    fn from(_refused: AllocFailed<T>) -> Stop {
-        Stop::NoMemory
-    }
-}
+use std::alloc::Global;
+use std::mem;
 
 /// Which calls of the devices fail: the number of one, from 1, or 0 for none; and how much the output takes.
 #[derive(Clone, Copy)]
@@ -81,7 +45,9 @@ pub struct Case {
     pub source: Vec<u8>,
     pub image: Vec<u8>,
     pub faults: Faults,
-    pub status: Status,
+
+    /// The name of its status.
+    pub status: String,
     pub answer: Vec<u8>,
 }
 
@@ -92,7 +58,7 @@ impl Case {
             source: Vec::new(alloc),
             image: Vec::new(alloc),
             faults: NO_FAULTS,
-            status: Status::Done,
+            status: String::new(alloc),
             answer: Vec::new(alloc),
         }
     }
@@ -236,7 +202,7 @@ impl Cases {
             Some((name, rest)) => (name, Some(rest)),
             None => (line, None),
         };
-        self.case.status = status_named(name).ok_or(Stop::NoForm)?;
+        self.case.status = String::from_str(self.alloc, name)?;
         self.case.line = self.line;
         self.begin(Part::Answer, rest)
     }
@@ -307,20 +273,4 @@ fn end_of(part: Part) -> &'static [u8] {
 
 fn number_of(digits: &str) -> Result<u32, Stop> {
     digits.parse().map_err(|_| Stop::NoForm)
-}
-
-fn status_named(name: &str) -> Option<Status> {
-    match name {
-        "Done" => Some(Status::Done),
-        "Refused" => Some(Status::Refused),
-        "Usage" => Some(Status::Usage),
-        "BadImage" => Some(Status::BadImage),
-        "BadCall" => Some(Status::BadCall),
-        "Faulted" => Some(Status::Faulted),
-        "Going" => Some(Status::Going),
-        "ReadFault" => Some(Status::ReadFault),
-        "WriteFault" => Some(Status::WriteFault),
-        "TooLong" => Some(Status::TooLong),
-        _ => None,
-    }
 }

@@ -3,7 +3,7 @@
 //! A backslash begins a sign: `\n`, `\r`, `\t` and `\\`, `\xF6` for a byte, `\(NAME)` for the text of that name,
 //! `\200{piece}` for a piece so many times, in which `\#` is the number of the turn. A backslash at the end of a
 //! line takes away the line end behind it.
-use crate::cases::Stop;
+use crate::stop::Stop;
 use itoa::Buffer;
 
 /// A text that others take in by its name.
