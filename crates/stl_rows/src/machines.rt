@@ -8,11 +8,7 @@ use std::alloc::Global;
 use stl_machine::{Machine, MachineRefusal};
 use stl_tree::{Block, BlockName, Call, Instr, Op, Program};
 
-fn push_ops<const N: usize>(
-    body: &mut List<Instr>,
-    line: Line,
-    ops: [Op; N],
-) -> Result<(), NoMemory> {
+fn push_ops(body: &mut List<Instr>, line: Line, ops: Vec<Op>) -> Result<(), NoMemory> {
     for op in ops {
         body.push(Instr { line, op })?;
     }
@@ -23,11 +19,7 @@ fn push_ops<const N: usize>(
 }
 
 /// A block of some instructions, with its end word behind them.
-pub fn block<const N: usize>(
-    alloc: Global,
-    name: BlockName,
-    ops: [Op; N],
-) -> Result<Block, NoMemory> {
+pub fn block(alloc: Global, name: BlockName, ops: Vec<Op>) -> Result<Block, NoMemory> {
     let line = Line(1);
     let mut body = List::new(alloc);
     push_ops(&mut body, line, ops)?;
@@ -50,7 +42,7 @@ pub fn program_with(alloc: Global, blocks: List<Block>) -> Program {
 }
 
 /// The program of the block OB 1 alone.
-pub fn program<const N: usize>(alloc: Global, ops: [Op; N]) -> Result<Program, NoMemory> {
+pub fn program(alloc: Global, ops: Vec<Op>) -> Result<Program, NoMemory> {
     let block = block(alloc, BlockName::Ob(1), ops)?;
     let mut blocks = List::new(alloc);
     blocks.push(block)?;

@@ -91,8 +91,9 @@ fn want_portions(
 
 #[test]
 fn a_run_is_the_same_in_any_portions_and_stays_at_its_end(rt: HostRuntime) -> Result<(), Fail> {
-    let program = program(rt.alloc(), [AN, STORE])?;
-    want_portions(&rt, rt.alloc(), &program, &PORTIONS)
+    let alloc = rt.alloc();
+    let program = program(alloc, vec![in alloc; AN, STORE]?)?;
+    want_portions(&rt, alloc, &program, &PORTIONS)
 }
 
 static END_WORD: [Portion; 4] = [(0, GOING, 0), (1, ENDED, 0), (0, ENDED, 0), (1, ENDED, 0)];
@@ -100,7 +101,7 @@ static END_WORD: [Portion; 4] = [(0, GOING, 0), (1, ENDED, 0), (0, ENDED, 0), (1
 #[test]
 fn the_end_word_is_a_step(rt: HostRuntime) -> Result<(), Fail> {
     let alloc = rt.alloc();
-    let program = program(alloc, [])?;
+    let program = program(alloc, Vec::new(alloc))?;
     wants_portions(&rt, alloc, &program, &END_WORD)
 }
 
@@ -120,7 +121,7 @@ fn push_blocks(
 ) -> Result<(), NoMemory> {
     for (name, first) in rows {
         let check = Op::Check(*first, BitArg::At(INPUT));
-        let block = block(alloc, *name, [check, STORE])?;
+        let block = block(alloc, *name, vec![in alloc; check, STORE]?)?;
         blocks.push(block)?;
     }
     Ok(())
@@ -282,13 +283,9 @@ fn wants_fault(
 }
 
 /// Each fault stands between two assignments of a one.
-fn want_faults<const N: usize>(
-    rt: &impl Abort,
-    alloc: Global,
-    rows: [Faulty; N],
-) -> Result<(), Fail> {
+fn want_faults(rt: &impl Abort, alloc: Global, rows: [Faulty; 18]) -> Result<(), Fail> {
     for (before, op, fault) in rows {
-        let program = program(alloc, [AN, STORE, before, op, STORE_NEXT])?;
+        let program = program(alloc, vec![in alloc; AN, STORE, before, op, STORE_NEXT]?)?;
         wants_fault(rt, alloc, &program, fault)?;
     }
     Ok(())
@@ -344,8 +341,9 @@ const A_LOCAL: Op = Op::Check(Check::A, BitArg::At(LOCAL));
 
 #[test]
 fn local_data_is_zero_when_a_run_begins(rt: HostRuntime) -> Result<(), Fail> {
-    let program = program(rt.alloc(), [A_LOCAL, STORE])?;
-    let mut machine = machine_with_locals(rt.alloc(), &program)?;
+    let alloc = rt.alloc();
+    let program = program(alloc, vec![in alloc; A_LOCAL, STORE]?)?;
+    let mut machine = machine_with_locals(alloc, &program)?;
     wants_no_locals(&rt, &mut machine);
     Ok(())
 }
@@ -361,7 +359,9 @@ fn wants_end(rt: &impl Abort, machine: &mut Machine<'_>) -> Result<(), Fail> {
 /// The program writes a bit of the local data, and reads it.
 #[test]
 fn local_data_is_kept_within_a_run(rt: HostRuntime) -> Result<(), Fail> {
-    let program = program(rt.alloc(), [AN, Op::Assign(LOCAL), A_LOCAL, STORE])?;
-    let mut machine = machine_with_locals(rt.alloc(), &program)?;
+    let alloc = rt.alloc();
+    let ops = vec![in alloc; AN, Op::Assign(LOCAL), A_LOCAL, STORE]?;
+    let program = program(alloc, ops)?;
+    let mut machine = machine_with_locals(alloc, &program)?;
     wants_end(&rt, &mut machine)
 }
