@@ -3,7 +3,7 @@ use case_rows::{Case, Faults};
 use command_answers::{Status, stl2st};
 use command_words::image_name;
 use s7_base::NoMemory;
-use s7_io::{MemSink, MemSource, NoFile, Sink, Source, SureSource};
+use s7_io::{MemSink, MemSource, NoFile, Source, SureSource};
 use std::alloc::Global;
 
 /// What the program ends with, and what it has written.
