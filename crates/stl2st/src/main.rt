@@ -3,7 +3,7 @@
 //!
 //! The call that it makes, `stl2st` of `command_answers`, has the promises of the program as its clauses. Here
 //! arguments and streams are handed to it, with the image that `image_name` of `command_words` finds, and the
-//! number of its status is that of the process. Rows on the call stand in `program_rows`.
+//! number of its status is that of the process. Rows on the call stand in `worked_rows`.
 #![tactic(auto)]
 
 use crate::image_file::ImageFile;
