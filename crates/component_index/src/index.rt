@@ -61,6 +61,13 @@ impl<'d> Components<'d> {
         Ok(Components { decls, scopes, own })
     }
 
+    /// The declarations.
+    pub fn declarations(&self) -> &'d [Declaration]
+        ensures { result.now ≡ self.now }
+    {
+        self.decls
+    }
+
     /// The component that a name and a path behind it name.
     fn component_behind(
         &self,

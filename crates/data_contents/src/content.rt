@@ -6,9 +6,10 @@ ghost use Rattle.stl_rules.specs.DataBlocks.{or_two};
 ghost use Rattle.stl_rules.specs.Layouts.{initial_of};
 
 use crate::values::put_values;
+use component_index::Components;
 use s7_base::{Break, List, NoMemory, Rejection, first_of_all};
 use std::alloc::Global;
-use stl_tree::{Declaration, RawInitial};
+use stl_tree::RawInitial;
 use symbol_layout::layout;
 
 /// The most bytes of a data block.
@@ -41,35 +42,35 @@ fn or_two(bytes: Vec<u8>) -> Result<List<u8>, NoMemory>
 /// What a data block holds whose declarations keep the rules, from their initial bytes.
 fn filled(
     alloc: Global,
-    decls: &[Declaration],
+    components: &Components<'_>,
     values: &[RawInitial],
     initial: List<u8>,
 ) -> Result<Content, NoMemory>
-    requires kept { AreKept decls.now }
-    requires initial { initial ≡ initial_of (decls.now ∷ []) }
-    ensures { IfOk result (Holds decls.now values.now) }
+    requires kept { AreKept components.now }
+    requires initial { initial ≡ initial_of (components.now ∷ []) }
+    ensures { IfOk result (Holds components.now values.now) }
 {
     let mut bytes = initial.into_vec();
     let mut breaks = List::new(alloc);
-    put_values(alloc, decls, values, bytes.as_mut_slice(), &mut breaks)?;
+    put_values(alloc, components, values, bytes.as_mut_slice(), &mut breaks)?;
     match first_of_all(breaks.as_slice()) {
         Some(first) => Ok(Content::BadValues(first)),
         None => Ok(Content::Bytes(or_two(bytes)?)),
     }
 }
 
-/// The bytes of a data block by its declarations and its initial values, or the first rule that they break: one of
+/// The bytes of a data block by the index of its declarations and its initial values, or the first rule that they break: one of
 /// the layout of its declarations, `UnknownName` at the line of an initial value whose path names nothing, or
 /// `BadOperand` at one that is no value of its component.
 pub fn content_of(
     alloc: Global,
-    decls: &[Declaration],
+    components: &Components<'_>,
     values: &[RawInitial],
 ) -> Result<Content, NoMemory>
-    ensures { IfOk result (Holds decls.now values.now) }
+    ensures { IfOk result (Holds components.now values.now) }
 {
-    match layout(alloc, decls, MOST_IN_BLOCK) {
-        Ok(layout) => filled(alloc, decls, values, layout.initial),
+    match layout(alloc, components.declarations(), MOST_IN_BLOCK) {
+        Ok(layout) => filled(alloc, components, values, layout.initial),
         Err(Rejection::Refused(line, rule)) => Ok(Content::BadDeclarations(Break { line, rule })),
         Err(Rejection::NoMemory) => Err(NoMemory),
     }

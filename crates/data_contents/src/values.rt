@@ -11,7 +11,7 @@ use component_index::Components;
 use s7_base::{Break, List, NoMemory, Reason, note};
 use std::alloc::Global;
 use stl_rules::Component;
-use stl_tree::{Constant, Declaration, ElemType, RawInitial};
+use stl_tree::{Constant, ElemType, RawInitial};
 use symbol_layout::{fits_width, value_in, width_of};
 
 /// A constant is a value of a component of this type.
@@ -81,7 +81,7 @@ fn put_value(
 }
 
 /// Puts initial values one after another, and notes the rules that they break.
-fn put_each(
+pub fn put_values(
     alloc: Global,
     decls: &Components<'_>,
     values: &[RawInitial],
@@ -96,20 +96,4 @@ fn put_each(
         put_value(alloc, decls, v, bytes, breaks)?;
     }
     Ok(())
-}
-
-/// The same of declarations, by an index of their components.
-pub fn put_values(
-    alloc: Global,
-    decls: &[Declaration],
-    values: &[RawInitial],
-    bytes: &mut [u8],
-    breaks: &mut List<Break>,
-) -> Result<(), NoMemory>
-    requires { AreInside (length bytes.old) decls.now }
-    ensures bytes { OnOk result (bytes.new ≡ fold (with_value decls.now) bytes.old values.now) }
-    ensures breaks { OnOk result (breaks.new ≡ breaks.old ++ flat_map (initial_breaks decls.now) values.now) }
-{
-    let components = Components::new(alloc, decls)?;
-    put_each(alloc, &components, values, bytes, breaks)
 }

@@ -31,8 +31,4 @@ pub unjudged : (what : Mnemonic) → op_with what behind.Unjudged ≡ None
 unjudged (is.Check c) = refl
 unjudged what = refl
 
-pub other : (what : Mnemonic) → op_with what behind.Other ≡ None
-other (is.Check c) = refl
-other what = refl
-
-pub ruleset none_fit = (outside, no_pointer, no_number, unknown, unfit, unjudged, other)
+pub ruleset none_fit = (outside, no_pointer, no_number, unknown, unfit, unjudged)

@@ -1,7 +1,7 @@
 //! The instruction that a raw one is, by its mnemonic and what stands behind it.
 ghost use Rattle.std.specs.Prelude.{◌≡◌, ◌≢◌, Some, None, if◌then◌else◌};
 ghost use Rattle.s7_base.specs.declared.word.Width.TheVariants as wide;
-ghost use Rattle.stl_rules.specs.Programs.{adding, combining, comparing, is_compared, loading_pointer, moving_pointer, op_by, op_with, pointed, shifting, storing_pointer, with_number, within};
+ghost use Rattle.stl_rules.specs.Programs.{adding, combining, comparing, is_compared, loading_pointer, moving_pointer, op_by, op_or_rule, op_with, or_bad_operand, outside_rule, pointed, shifting, some_place, some_pointer, storing_pointer, with_number, within};
 ghost use Rattle.stl_rules.specs.declared.given.Given.TheVariants as behind;
 ghost use Rattle.stl_tree.specs.Accepted.{is_of_pointers};
 ghost use Rattle.stl_tree.specs.Accumulators.{bits_wide, signed_part};
@@ -10,8 +10,9 @@ ghost use Rattle.stl_tree.specs.declared.program.Op.{Op};
 ghost use Rattle.stl_tree.specs.declared.program.Op.TheVariants as op;
 ghost use Rattle.stl_tree.specs.declared.program.Operand.{Operand};
 
-use crate::pointer::may_hold_pointers;
-use s7_base::{Check, Width};
+use crate::pointer::{may_hold_pointers, pointer_constant};
+use memory_areas::AreaName;
+use s7_base::{Check, Reason, Width};
 use status_word::Test;
 use stl_constants::fits;
 use stl_rules::Given;
@@ -400,16 +401,64 @@ fn op_with(what: Mnemonic, given: Given) -> Option<Op>
         Given::DbBy(number) => with_db_by(what, number),
         Given::DiBy(number) => with_di_by(what, number),
         Given::Outside(_, _) | Given::NoPointer | Given::NoNumber | Given::Unknown => None,
-        Given::Unfit | Given::Unjudged | Given::Other => None,
+        Given::Unfit | Given::Unjudged => None,
     }
 }
 
 /// An instruction by what its mnemonic is, if it is one.
-pub fn op_by(what: Option<Mnemonic>, given: Given) -> Option<Op>
+fn op_by(what: Option<Mnemonic>, given: Given) -> Option<Op>
     ensures { result ≡ op_by what given }
 {
     match what {
         Some(what) => op_with(what, given),
         None => None,
+    }
+}
+
+/// An instruction, or the rule that an operand breaks which its mnemonic has not.
+fn or_bad_operand(op: Option<Op>) -> Result<Op, Reason>
+    ensures { result ≡ or_bad_operand op }
+{
+    op.ok_or(Reason::BadOperand)
+}
+
+/// The rule that an operand outside its range breaks: one of another width or kind has that rule first.
+fn outside_rule(op: Option<Op>) -> Reason
+    ensures { result ≡ outside_rule op }
+{
+    match op {
+        Some(_) => Reason::BadAddress,
+        None => Reason::BadOperand,
+    }
+}
+
+/// The rule that a place outside its area breaks.
+fn place_rule(what: Option<Mnemonic>, area: AreaName, width: Width) -> Reason
+    ensures { result ≡ outside_rule (op_by what (behind.At (some_place area) width)) }
+{
+    let some_place = Operand::Direct(area, 0, 0);
+    outside_rule(op_by(what, Given::At(some_place, width)))
+}
+
+/// The rule that a pointer outside its range breaks.
+fn pointer_rule(what: Option<Mnemonic>) -> Reason
+    ensures { result ≡ outside_rule (op_by what (behind.Constant some_pointer)) }
+{
+    outside_rule(op_by(what, Given::Constant(pointer_constant(0))))
+}
+
+/// The instruction that a mnemonic makes of what stands behind it, or the rule that is broken: `UnknownName`,
+/// `BadOperand` or `BadAddress`, of several the one that comes first.
+pub fn op_or_rule(what: Option<Mnemonic>, given: Given) -> Result<Op, Reason>
+    ensures { result ≡ op_or_rule what given }
+{
+    match given {
+        Given::Unknown => Err(Reason::UnknownName),
+        Given::Unfit => Err(Reason::BadOperand),
+        Given::NoNumber => Err(Reason::BadAddress),
+        Given::Unjudged => Ok(Op::Nop),
+        Given::Outside(area, width) => Err(place_rule(what, area, width)),
+        Given::NoPointer => Err(pointer_rule(what)),
+        _ => or_bad_operand(op_by(what, given)),
     }
 }

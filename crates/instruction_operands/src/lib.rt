@@ -2,16 +2,15 @@
 //!
 //! Stands on `stl_rules`, which has all of this as definitions. `place` makes an operand of a written place, of the
 //! address of a symbol and of a component, `pointer` of what a pointer names, or says that it lies outside its area
-//! or range; `instruction` has the instruction of each mnemonic and operand, or none where they don't go together. No
-//! call takes memory, and none can refuse.
+//! or range; `instruction` has the instruction of each mnemonic and operand, or the rule that is broken. No call takes
+//! memory.
 #![tactic(auto)]
 
-pub use instruction::op_by;
+pub use instruction::op_or_rule;
 pub use number::may_have;
 pub use place::{given_component, given_place, given_symbol};
 pub use pointer::{
     given_by_memory, given_by_register, given_crossing, given_db_by, given_di_by, given_pointer,
-    pointer_constant,
 };
 
 mod instruction;

@@ -1,4 +1,4 @@
 pub mod Accepting
 pub mod Judging
 pub mod Lists
-pub mod Operations
+pub mod Turns

@@ -1,1 +1,1 @@
-pub mod Finished
+pub mod Later

@@ -2,17 +2,17 @@
 ghost use Rattle.std.specs.Prelude.{◌≡◌, IfOk};
 ghost use Rattle.s7_base.specs.Answers.{Answers};
 ghost use Rattle.s7_base.specs.Broken.{first_of_all};
-ghost use Rattle.stl_checks.specs.inner.Finished.{finished};
-ghost use Rattle.stl_rules.specs.Stages.{brackets, no_blocks};
+ghost use Rattle.stl_checks.specs.inner.Later.{first_later};
+ghost use Rattle.stl_rules.specs.Stages.{no_blocks};
 ghost use Rattle.stl_rules.specs.Verdict.{judged, verdict};
 ghost use Rattle.stl_tree.specs.Accepted.{IsAccepted};
 
-use crate::brackets::first_bracket;
-use s7_base::{Break, Line, Reason, Rejection};
+use crate::brackets::first_in_bodies;
+use s7_base::{Break, Line, NoMemory, Reason, Rejection};
 use std::alloc::Global;
 use stl_reader::read_blocks;
 use stl_tree::{Program, RawProgram};
-use symbol_names::{resolve, unbuilt};
+use symbol_names::resolve;
 
 /// The rule that a text without a block breaks.
 fn no_blocks(raw: &RawProgram) -> Option<Break>
@@ -27,16 +27,11 @@ fn no_blocks(raw: &RawProgram) -> Option<Break>
     }
 }
 
-/// A program whose names, blocks and layouts break no rule, or the first rule that its brackets break, or else
-/// this one.
-fn finished(alloc: Global, program: Program, other: Option<Break>) -> Result<Program, Rejection>
-    ensures { Answers result (finished other program) }
+/// The first rule of the stages behind that of the names.
+fn first_later(alloc: Global, raw: &RawProgram) -> Result<Option<Break>, NoMemory>
+    ensures { IfOk result (λ first. first ≡ first_later raw.now) }
 {
-    let bracket = first_bracket(alloc, program.blocks.as_slice())?;
-    match bracket.or(other) {
-        Some(first) => Err(Rejection::Refused(first.line, first.rule)),
-        None => Ok(program),
-    }
+    Ok(first_in_bodies(alloc, raw)?.or(no_blocks(raw)))
 }
 
 /// The program of a raw program, or its first broken rule.
@@ -44,12 +39,12 @@ fn finished(alloc: Global, program: Program, other: Option<Break>) -> Result<Pro
 fn judged(alloc: Global, raw: RawProgram) -> Result<Program, Rejection>
     ensures { Answers result (judged raw) }
 {
-    if let Some(first) = unbuilt(alloc, &raw)? {
-        return Err(Rejection::Refused(first.line, first.rule));
-    }
-    let other = no_blocks(&raw);
+    let later = first_later(alloc, &raw)?;
     let program = resolve(alloc, raw)?;
-    finished(alloc, program, other)
+    match later {
+        Some(first) => Err(Rejection::Refused(first.line, first.rule)),
+        None => Ok(program),
+    }
 }
 
 /// The program of a text, or its first broken rule.

@@ -1,74 +1,78 @@
 -- The verdict gives only programs that keep the rules.
 use Rattle.std.proofs.Common.{◌≡◌, ◌≢◌, ℕ, zero, suc, ◌+◌, List, [], ◌∷◌, ◌++◌, length, Bool, true, false, not, if◌then◌else◌, Option, Some, None, Result, Ok, Err, refl, sym, ap, subst, ◌∙◌, arith}
-use Rattle.std.specs.Prelude.{All, IfSome, nat_lt, option_map, slice_get}
-use Rattle.std.specs.List.{cons_option, filter_map, flat_map, position_or_len}
-use Rattle.std.proofs.lemmas.Bool.{both_ways, le-ltb, ne_eqb}
+use Rattle.std.specs.Prelude.{All, IfSome, map, nat_le, nat_lt, slice_get}
+use Rattle.std.specs.Option.{is_some}
+use Rattle.std.specs.List.{flat_map, position_or_len}
+use Rattle.std.proofs.lemmas.Bool.{and_parts, both_ways, le-ltb, leb-true, ne_eqb}
 use Rattle.std.proofs.lemmas.List.Concat.{flat_map-cons}
 use Rattle.std.proofs.lemmas.List.Elements.{All-append, All-cons, All-nil, All-head, All-tail}
 use Rattle.memory_areas.specs.declared.call.BlockName.{BlockName}
-use Rattle.memory_areas.specs.declared.call.BlockName.TheVariants.{Ob}
+use Rattle.memory_areas.specs.declared.call.BlockName.TheVariants.{Ob, Fc, Fb}
 use Rattle.memory_areas.specs.declared.place.AreaName.{AreaName}
 use Rattle.memory_areas.specs.declared.place.AreaName.TheVariants as area_name
 use Rattle.memory_areas.specs.declared.sizes.TheConstants.{MOST_BLOCKS}
-use Rattle.nesting_stack.specs.Entries.{most_open}
-use Rattle.s7_base.specs.Broken.{broken}
+use Rattle.s7_base.specs.Broken.{first_of_all}
 use Rattle.s7_base.specs.Tokens.{tokens_of, line_at_end}
 use Rattle.s7_base.specs.declared.broken.Break.{Break}
-use Rattle.s7_base.specs.declared.reason.Kind.TheVariants.{NotBuilt}
 use Rattle.s7_base.specs.declared.reason.Line.{Line}
 use Rattle.s7_base.specs.declared.reason.Reason.{Reason}
-use Rattle.s7_base.specs.declared.reason.Reason.TheVariants.{TooManyBrackets, Unsupported}
 use Rattle.s7_base.specs.declared.reason.Rejection.{Rejection}
 use Rattle.s7_base.specs.declared.token.Token.{Token}
-use Rattle.stl_tree.specs.Accepted.{AreDistinct, HaveOperands, IsAccepted, IsAcceptedBlock, IsBlockNumber, IsEnded, IsSymbol}
+use Rattle.stl_tree.specs.Accepted.{AreDistinct, HasOperand, HaveOperands, IsAccepted, IsAcceptedBlock, IsBlockNumber, IsEnded, IsSymbol}
 use Rattle.stl_tree.specs.Brackets.{AreNested, WithNumber, open_behind}
 use Rattle.stl_tree.specs.StlRun.{block_named, is_same_name}
 use Rattle.stl_grammar.specs.RawPrograms.{raw_of, raw_by_tokens, raw_text}
 use Rattle.stl_rules.specs.Accepting.{IsKept, IsText}
 use Rattle.stl_rules.specs.Layouts.{breaks_in}
 use Rattle.stl_rules.specs.Names.{block_number, may_have}
-use Rattle.stl_rules.specs.Programs.{block_of, block_with, body_of, instr_of, name_numbered, program_of, sight_of, symbol_area, symbol_at, symbol_in, symbol_of}
-use Rattle.stl_rules.specs.Raw.{Sight, most_local}
-use Rattle.stl_rules.specs.Stages.{blocks_behind, brackets, brackets_at, brackets_from, brackets_in, dbs_behind, heading_breaks, instr_breaks, is_among, is_built_kind, names, no_blocks, none_among, one_too_many, open_then, symbols_behind, unbuilt, unbuilt_block, unbuilt_data, unbuilt_instr, with_block_number}
+use Rattle.stl_rules.specs.Programs.{block_name, block_of, block_with, body_of, instr_of, program_of, symbol_area, symbol_at, symbol_in, symbol_of}
+use Rattle.stl_rules.specs.Raw.{Scope, are_refused, most_in_block, most_local}
+use Rattle.stl_rules.specs.Stages.{blocks_behind, bodies, body_breaks, brackets_at, brackets_from, content_breaks, dbs_behind, heading_breaks, initial_breaks, instr_breaks, is_among, names, no_blocks, none_among, one_too_many, open_at_end, open_then, symbols_behind, with_block_number}
 use Rattle.stl_rules.specs.Verdict.{judged_by, verdict}
 use Rattle.stl_rules.specs.VerdictLaws.{VerdictIsAccepted}
 use Rattle.stl_tree.specs.declared.program.Block.{Block}
 use Rattle.stl_tree.specs.declared.program.Instr.{Instr}
-use Rattle.stl_tree.specs.declared.program.Op.{Op}
 use Rattle.stl_tree.specs.declared.program.Op.TheVariants as op
 use Rattle.stl_tree.specs.declared.program.Program.{Program}
 use Rattle.stl_tree.specs.declared.raw.BlockKind.{BlockKind}
 use Rattle.stl_tree.specs.declared.raw.BlockKind.TheVariants as block
+use Rattle.stl_tree.specs.declared.raw.Declaration.{Declaration}
 use Rattle.stl_tree.specs.declared.raw.RawBlock.{RawBlock}
+use Rattle.stl_tree.specs.declared.raw.RawData.{RawData}
+use Rattle.stl_tree.specs.declared.raw.RawDataKind.{RawDataKind}
+use Rattle.stl_tree.specs.declared.raw.RawDataKind.TheVariants as data_kind
+use Rattle.stl_tree.specs.declared.raw.RawInitial.{RawInitial}
+use Rattle.stl_tree.specs.declared.raw.RawInstr.{RawInstr}
 use Rattle.stl_tree.specs.declared.raw.RawProgram.{RawProgram}
 use Rattle.stl_tree.specs.declared.raw.SymbolAddress.{SymbolAddress}
 use Rattle.stl_tree.specs.declared.raw.SymbolAddress.TheVariants as address
+use Rattle.stl_tree.specs.declared.raw.SymbolLine.{SymbolLine}
+use Rattle.stl_statements.specs.Mnemonics.{mnemonic_named}
 use Rattle.stl_rules.proofs.AcceptingLaws.{agree}
 use Rattle.stl_rules.proofs.DataBlockLaws.{are_blocks, comes_among, numbers, stays_among}
-use Rattle.stl_rules.proofs.Lists.{all_both, all_made, no_more, no_parts, none_of_all}
-use Rattle.stl_rules.proofs.ProgramLaws.{Holds, instr_is, opened}
+use Rattle.stl_rules.proofs.Lists.{all_made, no_more, no_parts, none_of_all}
+use Rattle.stl_rules.proofs.ProgramLaws.{IsClear, IsLaidOut, behind_instr, has_operand, opened}
 
 -- Brackets
 
-bracket_opened : (b : Bool) (line : Line) (n : ℕ) (rest : List Instr) → (if b then [] else broken line TooManyBrackets) ≡ [] → AreNested rest (suc n) →
-    WithNumber (if b then Some (suc n) else None) (AreNested rest)
-bracket_opened true line n rest e h = h
-bracket_opened false line n rest e h = absurd cc
+end_nested : (line : Line) (n : ℕ) → open_at_end line n ≡ [] → AreNested (record { line = line; op = op.BlockEnd } ∷ []) n
+end_nested line zero e = tt
+end_nested line (suc n) e = absurd cc
 
-nested_at : (line : Line) (o : Op) (n : ℕ) (rest : List Instr) → brackets_at line o n ≡ [] → AreNested rest (open_then o n) → WithNumber (open_behind o n) (AreNested rest)
-nested_at line (op.Bracket c) n rest e h = bracket_opened (nat_lt n most_open) line n rest e h
-nested_at line op.Close zero rest e h = absurd cc
-nested_at line op.Close (suc n) rest e h = h
-nested_at line op.BlockEnd zero rest e h = h
-nested_at line op.BlockEnd (suc n) rest e h = absurd cc
-nested_at line other n rest e h = h
+nested_from : (P : ℕ → Type 0) (o : Option ℕ) (n : ℕ) → o ≡ Some n → P n → WithNumber o P
+nested_from P o n e h = subst (λ x. WithNumber x P) (sym e) h
 
--- instructions that break no rule of brackets are nested
-pub nested : (n : ℕ) (body : List Instr) → brackets_from n body ≡ [] → AreNested body n
-nested n [] e = tt
-nested n (i ∷ rest) e =
-    let parts = no_parts (brackets_at i.line i.op n) (brackets_from (open_then i.op n) rest) e in
-    nested_at i.line i.op n rest parts.0 (nested (open_then i.op n) rest parts.1)
+-- instructions that break no rule of names and of brackets are nested
+nested : (scope : Scope) (n : ℕ) (raws : List RawInstr) → IsClear scope → All (λ raw. instr_breaks scope raw ≡ []) raws
+    → brackets_from scope.block.end_line n raws ≡ []
+    → AreNested (map (instr_of scope) raws ++ (record { line = scope.block.end_line; op = op.BlockEnd } ∷ [])) n
+nested scope n [] clear all e = end_nested scope.block.end_line n e
+nested scope n (raw ∷ rest) clear all e =
+    let what = mnemonic_named raw.op.mnemonic in
+    let parts = no_parts (brackets_at raw.line what n) (brackets_from scope.block.end_line (open_then what n) rest) e in
+    nested_from (AreNested (map (instr_of scope) rest ++ (record { line = scope.block.end_line; op = op.BlockEnd } ∷ []))) (open_behind (instr_of scope raw).op n) (open_then what n)
+    (behind_instr scope raw n clear (All-head (λ x. instr_breaks scope x ≡ []) raw rest all) parts.0)
+    (nested scope (open_then what n) rest clear (All-tail (λ x. instr_breaks scope x ≡ []) raw rest all) parts.1)
 
 -- Bodies
 
@@ -80,34 +84,51 @@ ended : (body : List Instr) (line : Line) → IsEnded (body ++ (record { line = 
 ended [] line = refl
 ended (i ∷ rest) line = ends_behind i (rest ++ (record { line = line; op = op.BlockEnd } ∷ [])) (ended rest line)
 
-operands_of : (sight : Sight) (raw : RawBlock) → HaveOperands (body_of sight raw)
-operands_of sight raw =
-    All-append Holds (filter_map (instr_of sight) raw.body) (record { line = raw.end_line; op = op.BlockEnd } ∷ [])
-    (all_made (λ x. Unit {0}) Holds (instr_of sight) (λ x h. instr_is sight x) raw.body (no_more raw.body))
-    (All-cons Holds (record { line = raw.end_line; op = op.BlockEnd }) [] tt (All-nil Holds))
+abbrev Holds : Instr → Type 0
+Holds i = HasOperand i.op
+
+operands : (scope : Scope) (raws : List RawInstr) → IsClear scope → All (λ raw. instr_breaks scope raw ≡ []) raws → All Holds (map (instr_of scope) raws)
+operands scope [] clear all = All-nil Holds
+operands scope (raw ∷ rest) clear all =
+    All-cons Holds (instr_of scope raw) (map (instr_of scope) rest)
+    (has_operand scope raw clear (All-head (λ x. instr_breaks scope x ≡ []) raw rest all))
+    (operands scope rest clear (All-tail (λ x. instr_breaks scope x ≡ []) raw rest all))
+
+operands_of : (scope : Scope) → IsClear scope → All (λ raw. instr_breaks scope raw ≡ []) scope.block.body → HaveOperands (body_of scope)
+operands_of scope clear all =
+    All-append Holds (map (instr_of scope) scope.block.body) (record { line = scope.block.end_line; op = op.BlockEnd } ∷ [])
+    (operands scope scope.block.body clear all)
+    (All-cons Holds (record { line = scope.block.end_line; op = op.BlockEnd }) [] tt (All-nil Holds))
 
 -- Blocks
 
--- a block that keeps the rules but for its brackets
-record IsSound (b : Block) : Type 0 where
-  operands : HaveOperands b.body
-  ends : IsEnded b.body
-  number : IsBlockNumber b.name
-  formals : b.formals ≡ []
+-- no block of some has a number, whatever its kind
+abbrev number_of : BlockName → ℕ
+number_of (Ob n) = n
+number_of (Fc n) = n
+number_of (Fb n) = n
 
-accepted : (b : Block) → IsSound b → brackets_in b ≡ [] → IsAcceptedBlock b
-accepted b sound e =
-    record {
-      operands = sound.operands;
-      brackets = nested 0 b.body e;
-      ends = sound.ends;
-      number = sound.number;
-      formals = sound.formals;
-    }
+abbrev NoNumber : ℕ → List Block → Type 0
+NoNumber n blocks = All (λ (b : Block). number_of b.name ≡ n → ⊥) blocks
 
--- no block of some is the organization block of a number
-abbrev NoOb : ℕ → List Block → Type 0
-NoOb n blocks = All (λ (b : Block). is_same_name b.name (Ob n) ≡ false) blocks
+-- so none has a name with it
+other_name : (a b : BlockName) → (number_of a ≡ number_of b → ⊥) → is_same_name a b ≡ false
+other_name (Ob n) (Ob m) h = ne_eqb n m h
+other_name (Fc n) (Fc m) h = ne_eqb n m h
+other_name (Fb n) (Fb m) h = ne_eqb n m h
+other_name (Ob n) (Fc m) h = refl
+other_name (Ob n) (Fb m) h = refl
+other_name (Fc n) (Ob m) h = refl
+other_name (Fc n) (Fb m) h = refl
+other_name (Fb n) (Ob m) h = refl
+other_name (Fb n) (Fc m) h = refl
+
+none_so : (called : BlockName) (blocks : List Block) → NoNumber (number_of called) blocks → All (λ (b : Block). is_same_name b.name called ≡ false) blocks
+none_so called [] h = All-nil (λ (b : Block). is_same_name b.name called ≡ false)
+none_so called (b ∷ rest) h =
+    All-cons (λ (x : Block). is_same_name x.name called ≡ false) b rest
+    (other_name b.name called (All-head (λ (x : Block). number_of x.name ≡ number_of called → ⊥) b rest h))
+    (none_so called rest (All-tail (λ (x : Block). number_of x.name ≡ number_of called → ⊥) b rest h))
 
 first_fails : (blocks : List Block) (called : BlockName) → All (λ (b : Block). is_same_name b.name called ≡ false) blocks
     → position_or_len (λ (b : Block). is_same_name b.name called) blocks ≡ length blocks
@@ -128,89 +149,105 @@ none_named blocks called h =
     past : (n : ℕ) → (if nat_lt n n then Some n else None) ≡ None
     past n = ap (λ t. if t then Some n else None) (le-ltb n n (omega arith))
 
+-- a block with a number of its kind keeps the rules
+abbrev IsMade : ℕ → Block → Type 0
+IsMade n b = (number_of b.name ≡ n) × IsAcceptedBlock b
+
 -- what blocks become that stand behind others with these numbers
 record AreKept (before : List ℕ) (blocks : List Block) : Type 0 where
-  sound : All IsSound blocks
+  kept : All IsAcceptedBlock blocks
   apart : AreDistinct blocks
-  others : (n : ℕ) → is_among n before ≡ true → NoOb n blocks
+  others : (n : ℕ) → is_among n before ≡ true → NoNumber n blocks
 
--- an organization block with the number of its heading
-abbrev IsOb : ℕ → Block → Type 0
-IsOb n b = (b.name ≡ Ob n) × IsSound b
+number_is : (kind : BlockKind) (n : ℕ) → may_have kind n ≡ true → IsBlockNumber (block_name kind (Ok n))
+number_is block.Ob n e = opened n e
+number_is block.Db n e = opened n e
+number_is block.Fc n e = leb-true n 65535 (and_parts (nat_le 0 n) (nat_le n 65535) e).1
+number_is block.Fb n e = leb-true n 65535 (and_parts (nat_le 0 n) (nat_le n 65535) e).1
 
-numbered : (text : RawProgram) (raw : RawBlock) (kind : BlockKind) (n : ℕ) → may_have kind n ≡ true
-    → IfSome (option_map (block_with (sight_of text raw) raw) (name_numbered kind (Ok n))) (IsOb n)
-numbered text raw block.Ob n e = (
-  refl,
+has_number : (kind : BlockKind) (n : ℕ) → number_of (block_name kind (Ok n)) ≡ n
+has_number block.Ob n = refl
+has_number block.Db n = refl
+has_number block.Fc n = refl
+has_number block.Fb n = refl
+
+-- a block whose names and brackets break no rule
+made : (scope : Scope) (kind : BlockKind) (n : ℕ) → IsClear scope → may_have kind n ≡ true
+    → All (λ raw. instr_breaks scope raw ≡ []) scope.block.body → body_breaks scope.block ≡ []
+    → IsMade n (block_with scope (block_name kind (Ok n)))
+made scope kind n clear e all closed = (
+  has_number kind n,
   record {
-    operands = operands_of (sight_of text raw) raw;
-    ends = ended (filter_map (instr_of (sight_of text raw)) raw.body) raw.end_line;
-    number = opened n e;
+    operands = operands_of scope clear all;
+    brackets = nested scope 0 scope.block.body clear all closed;
+    ends = ended (map (instr_of scope) scope.block.body) scope.block.end_line;
+    number = number_is kind n e;
     formals = refl;
   },
 )
-numbered text raw other n e = tt
 
-with_one : (n : ℕ) (before : List ℕ) (o : Option Block) (rest : List Block) → is_among n before ≡ false → IfSome o (IsOb n)
-    → AreKept (with_block_number before (Ok n)) rest → AreKept before (cons_option o rest)
-with_one n before None rest new is k = record { sound = k.sound; apart = k.apart; others = λ m h. k.others m (stays_among m before (Ok n) h) }
-with_one n before (Some b) rest new is k =
+with_one : (n : ℕ) (before : List ℕ) (b : Block) (rest : List Block) → is_among n before ≡ false → IsMade n b
+    → AreKept (with_block_number before (Ok n)) rest → AreKept before (b ∷ rest)
+with_one n before b rest new is k =
     record {
-      sound = All-cons IsSound b rest is.1 k.sound;
-      apart = (subst (λ name. block_named name rest ≡ None) (sym is.0) (none_named rest (Ob n) (k.others n (comes_among n before))), k.apart);
+      kept = All-cons IsAcceptedBlock b rest is.1 k.kept;
+      apart = (none_named rest b.name (none_so b.name rest (subst (λ i. NoNumber i rest) (sym is.0) (k.others n (comes_among n before)))), k.apart);
       others = λ m h.
-          All-cons (λ (x : Block). is_same_name x.name (Ob m) ≡ false) b rest
-          (subst (λ name. is_same_name name (Ob m) ≡ false) (sym is.0) (ne_eqb n m (other m h)))
+          All-cons (λ (x : Block). number_of x.name ≡ m → ⊥) b rest
+          (λ e. absurd (both_ways (is_among n before) new (subst (λ i. is_among i before ≡ true) (sym e ∙ is.0) h)))
           (k.others m (stays_among m before (Ok n) h));
     }
-  where
-    other : (m : ℕ) → is_among m before ≡ true → n ≡ m → ⊥
-    other m h e = both_ways (is_among n before) new (subst (λ i. is_among i before ≡ true) (sym e) h)
 
-headed : (text : RawProgram) (raw : RawBlock) (before : List ℕ) (r : Result ℕ Reason) (rest : List Block) → heading_breaks raw.kind raw.line before r ≡ []
-    → AreKept (with_block_number before r) rest
-    → AreKept before (cons_option (option_map (block_with (sight_of text raw) raw) (name_numbered raw.kind r)) rest)
-headed text raw before (Err reason) rest e k = absurd cc
-headed text raw before (Ok n) rest e k =
-    let h = numbers raw.kind raw.line before n e in
-    with_one n before (option_map (block_with (sight_of text raw) raw) (name_numbered raw.kind (Ok n))) rest h.1 (numbered text raw raw.kind n h.0) k
+headed : (scope : Scope) (kind : BlockKind) (before : List ℕ) (r : Result ℕ Reason) (rest : List Block) → IsClear scope
+    → heading_breaks kind scope.block.line before r ≡ [] → All (λ raw. instr_breaks scope raw ≡ []) scope.block.body
+    → body_breaks scope.block ≡ [] → AreKept (with_block_number before r) rest
+    → AreKept before (block_with scope (block_name kind r) ∷ rest)
+headed scope kind before (Err reason) rest clear e all closed k = absurd cc
+headed scope kind before (Ok n) rest clear e all closed k =
+    let h = numbers kind scope.block.line before n e in
+    with_one n before (block_with scope (block_name kind (Ok n))) rest h.1 (made scope kind n clear h.0 all closed) k
 
-kept : (text : RawProgram) (before : List ℕ) (raws : List RawBlock) → blocks_behind text before raws ≡ [] → AreKept before (filter_map (block_of text) raws)
-kept text before [] e =
-    record { sound = All-nil IsSound; apart = tt; others = λ n h. All-nil (λ (b : Block). is_same_name b.name (Ob n) ≡ false) }
-kept text before (raw ∷ raws) e =
+-- declarations that break no rule
+not_refused : (limit : ℕ) (decls : List Declaration) → breaks_in limit (decls ∷ []) ≡ [] → are_refused limit decls ≡ false
+not_refused limit decls e = ap (λ breaks. is_some (first_of_all breaks)) e
+
+own_laid_out : (values : List RawInitial) (kind : RawDataKind) → content_breaks values kind ≡ [] → IsLaidOut kind
+own_laid_out values (data_kind.Own decls) e =
+    not_refused most_in_block decls (no_parts (breaks_in most_in_block (decls ∷ []))
+    (if are_refused most_in_block decls then [] else flat_map (initial_breaks decls) values) e).0
+own_laid_out values (data_kind.Instance name) e = tt
+
+laid_out : (symbols : List SymbolLine) (before : List ℕ) (dbs : List RawData) → dbs_behind symbols before dbs ≡ [] → All (λ (d : RawData). IsLaidOut d.kind) dbs
+laid_out symbols before [] e = All-nil (λ (d : RawData). IsLaidOut d.kind)
+laid_out symbols before (d ∷ dbs) e =
+    let number = block_number symbols block.Db d.name in
+    let all = no_parts (heading_breaks block.Db d.line before number ++ content_breaks d.initial d.kind)
+    (dbs_behind symbols (with_block_number before number) dbs) e in
+    let own = no_parts (heading_breaks block.Db d.line before number) (content_breaks d.initial d.kind) all.0 in
+    All-cons (λ (x : RawData). IsLaidOut x.kind) d dbs (own_laid_out d.initial d.kind own.1)
+    (laid_out symbols (with_block_number before number) dbs all.1)
+
+kept : (text : RawProgram) (before : List ℕ) (raws : List RawBlock) → All (λ (d : RawData). IsLaidOut d.kind) text.dbs
+    → blocks_behind text before raws ≡ [] → flat_map body_breaks raws ≡ [] → AreKept before (map (block_of text) raws)
+kept text before [] dbs e closed =
+    record { kept = All-nil IsAcceptedBlock; apart = tt; others = λ n h. All-nil (λ (b : Block). number_of b.name ≡ n → ⊥) }
+kept text before (raw ∷ raws) dbs e closed =
+    let scope : Scope = record { text = text; block = raw } in
     let number = block_number text.symbols raw.kind raw.name in
-    let all = no_parts (heading_breaks raw.kind raw.line before number ++ breaks_in most_local (raw.temps ∷ []) ++ flat_map (instr_breaks (sight_of text raw)) raw.body)
+    let all = no_parts (heading_breaks raw.kind raw.line before number ++ breaks_in most_local (raw.temps ∷ []) ++ flat_map (instr_breaks scope) raw.body)
     (blocks_behind text (with_block_number before number) raws) e in
-    let own = no_parts (heading_breaks raw.kind raw.line before number ++ breaks_in most_local (raw.temps ∷ []))
-    (flat_map (instr_breaks (sight_of text raw)) raw.body) all.0 in
+    let own = no_parts (heading_breaks raw.kind raw.line before number ++ breaks_in most_local (raw.temps ∷ [])) (flat_map (instr_breaks scope) raw.body) all.0 in
     let head = no_parts (heading_breaks raw.kind raw.line before number) (breaks_in most_local (raw.temps ∷ [])) own.0 in
-    headed text raw before number (filter_map (block_of text) raws) head.0 (kept text (with_block_number before number) raws all.1)
+    let brackets = no_parts (body_breaks raw) (flat_map body_breaks raws) (sym (flat_map-cons body_breaks raw raws) ∙ closed) in
+    let clear : IsClear scope = record { temps = not_refused most_local raw.temps head.1; dbs = dbs } in
+    headed scope raw.kind before number (map (block_of text) raws) clear head.0 (none_of_all (instr_breaks scope) raw.body own.1) brackets.0
+    (kept text (with_block_number before number) raws dbs all.1 brackets.1)
 
 -- There is a block
 
-some_by : (text : RawProgram) (raw : RawBlock) (kind : BlockKind) (r : Result ℕ Reason) (rest : List Block)
-    → (if is_built_kind kind then [] else broken raw.line (Unsupported NotBuilt)) ≡ [] → heading_breaks kind raw.line [] r ≡ []
-    → cons_option (option_map (block_with (sight_of text raw) raw) (name_numbered kind r)) rest ≢ []
-some_by text raw block.Ob (Ok n) rest e f = λ g. cc
-some_by text raw block.Ob (Err reason) rest e f = absurd cc
-some_by text raw block.Fc r rest e f = absurd cc
-some_by text raw block.Fb r rest e f = absurd cc
-some_by text raw block.Db r rest e f = absurd cc
-
-some_block : (text : RawProgram) (raws : List RawBlock) → flat_map (unbuilt_block text) raws ≡ [] → blocks_behind text [] raws ≡ [] → none_among raws ≡ []
-    → filter_map (block_of text) raws ≢ []
-some_block text [] e f none = absurd cc
-some_block text (raw ∷ rest) e f none =
-    let number = block_number text.symbols raw.kind raw.name in
-    let all = no_parts (unbuilt_block text raw) (flat_map (unbuilt_block text) rest) (sym (flat_map-cons (unbuilt_block text) raw rest) ∙ e) in
-    let built = no_parts (if is_built_kind raw.kind then [] else broken raw.line (Unsupported NotBuilt)) (flat_map (unbuilt_instr (sight_of text raw)) raw.body) all.0 in
-    let behind = no_parts (heading_breaks raw.kind raw.line [] number ++ breaks_in most_local (raw.temps ∷ []) ++ flat_map (instr_breaks (sight_of text raw)) raw.body)
-    (blocks_behind text (with_block_number [] number) rest) f in
-    let own = no_parts (heading_breaks raw.kind raw.line [] number ++ breaks_in most_local (raw.temps ∷ []))
-    (flat_map (instr_breaks (sight_of text raw)) raw.body) behind.0 in
-    let head = no_parts (heading_breaks raw.kind raw.line [] number) (breaks_in most_local (raw.temps ∷ [])) own.0 in
-    some_by text raw raw.kind number (filter_map (block_of text) rest) built.0 head.0
+some_block : (text : RawProgram) (raws : List RawBlock) → none_among raws ≡ [] → map (block_of text) raws ≢ []
+some_block text [] none = absurd cc
+some_block text (raw ∷ rest) none = λ g. cc
 
 -- Symbols
 
@@ -227,17 +264,15 @@ symbol_is name elsewhere = tt
 -- Programs
 
 -- a raw program that breaks no rule has an accepted program
-pub raw_accepted : (raw : RawProgram) → unbuilt raw ≡ [] → names raw ≡ [] → brackets (program_of raw) ≡ [] → no_blocks raw ≡ [] → IsAccepted (program_of raw)
-raw_accepted raw built named closed some =
-    let blocks : List Block = filter_map (block_of raw) raw.blocks in
-    let unbuilt_parts = no_parts (flat_map unbuilt_data raw.dbs) (flat_map (unbuilt_block raw) raw.blocks) built in
+pub raw_accepted : (raw : RawProgram) → names raw ≡ [] → bodies raw ≡ [] → no_blocks raw ≡ [] → IsAccepted (program_of raw)
+raw_accepted raw named closed some =
     let all = no_parts (symbols_behind [] raw.symbols ++ dbs_behind raw.symbols [] raw.dbs ++ one_too_many (slice_get raw.dbs MOST_BLOCKS)) (blocks_behind raw [] raw.blocks) named in
     let few = no_parts (symbols_behind [] raw.symbols ++ dbs_behind raw.symbols [] raw.dbs) (one_too_many (slice_get raw.dbs MOST_BLOCKS)) all.0 in
     let dbs = no_parts (symbols_behind [] raw.symbols) (dbs_behind raw.symbols [] raw.dbs) few.0 in
-    let k = kept raw [] raw.blocks all.1 in
+    let k = kept raw [] raw.blocks (laid_out raw.symbols [] raw.dbs dbs.1) all.1 closed in
     record {
-      some = some_block raw raw.blocks unbuilt_parts.1 all.1 some;
-      blocks = all_both IsSound (λ (b : Block). brackets_in b ≡ []) IsAcceptedBlock accepted blocks k.sound (none_of_all brackets_in blocks closed);
+      some = some_block raw raw.blocks some;
+      blocks = k.kept;
       names = k.apart;
       dbs = are_blocks raw.symbols raw.dbs dbs.1 few.1;
       symbols = all_made (λ x. Unit {0}) IsSymbol symbol_of (λ line h. symbol_is line.name line.address) raw.symbols (no_more raw.symbols);
@@ -247,17 +282,14 @@ raw_accepted raw built named closed some =
 program_accepted : (end : Line) (tokens : List Token) (program : Program) → IsText end tokens program → IsAccepted program
 program_accepted end tokens program text =
     let raw = raw_of text.items in
-    let on_names : List (List Break) = names raw ∷ brackets (program_of raw) ∷ no_blocks raw ∷ [] in
-    let on_brackets : List (List Break) = brackets (program_of raw) ∷ no_blocks raw ∷ [] in
+    let on_bodies : List (List Break) = bodies raw ∷ no_blocks raw ∷ [] in
     let on_all : List (List Break) = no_blocks raw ∷ [] in
-    let after : All IsKept on_names = All-tail IsKept (unbuilt raw) on_names text.kept in
-    let later : All IsKept on_brackets = All-tail IsKept (names raw) on_brackets after in
-    let last : All IsKept on_all = All-tail IsKept (brackets (program_of raw)) on_all later in
-    let built : unbuilt raw ≡ [] = All-head IsKept (unbuilt raw) on_names text.kept in
-    let named : names raw ≡ [] = All-head IsKept (names raw) on_brackets after in
-    let closed : brackets (program_of raw) ≡ [] = All-head IsKept (brackets (program_of raw)) on_all later in
+    let later : All IsKept on_bodies = All-tail IsKept (names raw) on_bodies text.kept in
+    let last : All IsKept on_all = All-tail IsKept (bodies raw) on_all later in
+    let named : names raw ≡ [] = All-head IsKept (names raw) on_bodies text.kept in
+    let closed : bodies raw ≡ [] = All-head IsKept (bodies raw) on_all later in
     let some : no_blocks raw ≡ [] = All-head IsKept (no_blocks raw) [] last in
-    subst IsAccepted text.program_is (raw_accepted raw built named closed some)
+    subst IsAccepted text.program_is (raw_accepted raw named closed some)
 
 -- the program of a raw program that is read keeps the rules
 by_tokens : (end : Line) (cut : Result (List Token) Rejection) (program : Program) → judged_by (raw_by_tokens end cut) ≡ Ok program → IsAccepted program

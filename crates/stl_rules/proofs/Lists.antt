@@ -36,10 +36,3 @@ few_made make (x ∷ xs) = with_one (make x) (filter_map make xs) (few_made make
     with_one : {Y : Type 0} (o : Option Y) (rest : List Y) → length rest ≤ length xs → length (cons_option o rest) ≤ length (x ∷ xs)
     with_one None rest h = omega arith
     with_one (Some y) rest h = omega arith
-
--- two facts of all items
-pub all_both : {X : Type 0} (P Q R : X → Type 0) → ((x : X) → P x → Q x → R x) → (xs : List X) → All P xs → All Q xs → All R xs
-all_both P Q R both [] p q = All-nil R
-all_both P Q R both (x ∷ xs) p q =
-    All-cons R x xs (both x (All-head P x xs p) (All-head Q x xs q))
-    (all_both P Q R both xs (All-tail P x xs p) (All-tail Q x xs q))

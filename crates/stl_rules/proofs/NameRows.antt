@@ -1,6 +1,6 @@
 -- Names, blocks and layout, held against worked rows by computing what is judged of raw programs.
 use denote.Hole.Carrier
-use Rattle.std.proofs.Common.{◌≡◌, refl, List, [], ◌∷◌, ◌++◌, ℕ, Some, None, Ok, Result}
+use Rattle.std.proofs.Common.{◌≡◌, refl, List, [], ◌∷◌, ◌++◌, ℕ, Some, None, Ok, Result, Err}
 use Rattle.std.specs.Prelude.{codes, map, pos, replicate}
 use Rattle.memory_areas.specs.declared.call.BlockName.TheVariants.{Ob}
 use Rattle.memory_areas.specs.declared.data_block.DataBlock.{DataBlock}
@@ -15,9 +15,9 @@ use Rattle.s7_base.specs.declared.word.Width.TheVariants as width
 use Rattle.stl_statements.specs.Constants.{constant, plain}
 use Rattle.stl_statements.specs.Mnemonics.{mnemonic_named}
 use Rattle.stl_rules.specs.DeclarationRules.{scope_breaks}
-use Rattle.stl_rules.specs.Programs.{op_of, op_with}
-use Rattle.stl_rules.specs.Raw.{Sight, given}
-use Rattle.stl_rules.specs.Stages.{instr_breaks, operand_breaks}
+use Rattle.stl_rules.specs.Programs.{op_of, op_or_rule, op_with}
+use Rattle.stl_rules.specs.Raw.{Scope, given}
+use Rattle.stl_rules.specs.Stages.{instr_breaks}
 use Rattle.stl_rules.specs.TooLarge.{first_large}
 use Rattle.stl_rules.specs.Verdict.{judged}
 use Rattle.stl_statements.specs.declared.mnemonic.Mnemonic.TheVariants as is
@@ -158,14 +158,18 @@ with_its_block = refl
 -- Blocks
 
 -- OPN, whatever its row in the table is
-abbrev nothing : Sight
-nothing = record { symbols = []; dbs = []; temps = [] }
+abbrev inside : List SymbolLine → List RawData → List Declaration → Scope
+inside symbols dbs temps =
+    record { text = below symbols dbs []; block = ob 1 (Number 1) temps [] }
+
+abbrev nothing : Scope
+nothing = inside [] [] []
 
 opened_by_number : op_with is.Open (given nothing (operand.OpenDb (Number 7))) ≡ Some (op.OpenDb (open_arg.Number 7))
 unfolding given out-RawOperand Carrier.out
 opened_by_number = refl
 
-opened_zero : operand_breaks (Some is.Open) (given nothing (operand.OpenDb (Number 0))) ≡ BadAddress ∷ []
+opened_zero : op_or_rule (Some is.Open) (given nothing (operand.OpenDb (Number 0))) ≡ Err BadAddress
 unfolding given out-RawOperand Carrier.out
 opened_zero = refl
 
@@ -210,14 +214,14 @@ block_as_operand : judged (below some_symbols [] (instr (codes "A") (operand.Nam
 unfolding judged mnemonic_named op_of given out-RawOperand Carrier.out scope_breaks first_large
 block_as_operand = refl
 
-abbrev by_symbols : Sight
-by_symbols = record nothing { symbols = some_symbols }
+abbrev by_symbols : Scope
+by_symbols = inside some_symbols [] []
 
-marker_opened : operand_breaks (Some is.Open) (given by_symbols (operand.OpenDb (Name (codes "x")))) ≡ BadOperand ∷ []
+marker_opened : op_or_rule (Some is.Open) (given by_symbols (operand.OpenDb (Name (codes "x")))) ≡ Err BadOperand
 unfolding given out-RawOperand Carrier.out
 marker_opened = refl
 
-unknown_opened : operand_breaks (Some is.Open) (given by_symbols (operand.OpenDb (Name (codes "y")))) ≡ UnknownName ∷ []
+unknown_opened : op_or_rule (Some is.Open) (given by_symbols (operand.OpenDb (Name (codes "y")))) ≡ Err UnknownName
 unfolding given out-RawOperand Carrier.out
 unknown_opened = refl
 
@@ -233,7 +237,7 @@ twice_a_symbol : judged (below twice [] []) ≡ refused 21 DuplicateName
 unfolding judged mnemonic_named op_of given out-RawOperand Carrier.out scope_breaks first_large
 twice_a_symbol = refl
 
-first_is_meant : given (record { symbols = twice; dbs = []; temps = [] }) (operand.Named (codes "S")) ≡ behind.At (Direct area.M 1 0) width.Bit
+first_is_meant : given (inside twice [] []) (operand.Named (codes "S")) ≡ behind.At (Direct area.M 1 0) width.Bit
 unfolding given out-RawOperand Carrier.out
 first_is_meant = refl
 
@@ -287,8 +291,8 @@ unfolding judged mnemonic_named op_of given out-RawOperand Carrier.out first_lar
 twice_a_temporary = simp (extent_equations, rule_equations, inside_equations)
 
 -- a path into declarations that are refused breaks nothing
-unjudged : instr_breaks (record { symbols = []; dbs = []; temps = twice_x }) (instr (codes "A") (operand.Local (step.Name (codes "y") ∷ []))) ≡ []
-unfolding mnemonic_named given out-RawOperand Carrier.out first_large
+unjudged : instr_breaks (inside [] [] twice_x) (instr (codes "A") (operand.Local (step.Name (codes "y") ∷ []))) ≡ []
+unfolding mnemonic_named op_of given out-RawOperand Carrier.out first_large
 unjudged = simp (extent_equations, rule_equations, inside_equations)
 
 abbrev byte_and_bit : List Declaration
@@ -346,7 +350,7 @@ twice_block_5 = refl
 
 -- a path means the first of two data blocks
 first_block_is_meant :
-    given (record { symbols = some_symbols; dbs = db 11 5 four [] ∷ db 17 5 [] [] ∷ []; temps = [] }) (in_d (step.Index (pos 1 ∷ []) ∷ []))
+    given (inside some_symbols (db 11 5 four [] ∷ db 17 5 [] [] ∷ []) []) (in_d (step.Index (pos 1 ∷ []) ∷ []))
     ≡ behind.At (Opened 5 2 0) width.Word
 unfolding given out-RawOperand Carrier.out first_large
 first_block_is_meant = simp (extent_equations, rule_equations, inside_equations)

@@ -1,6 +1,8 @@
 -- The instructions of a program have their operands, and its blocks their numbers.
-use Rattle.std.proofs.Common.{◌≡◌, ℕ, ◌<◌, ◌+◌, ◌^◌, List, [], ◌∷◌, Bool, true, false, not, if◌then◌else◌, Option, Some, None, Result, Ok, Err, refl, arith}
-use Rattle.std.specs.Prelude.{IfSome, nat_le, nat_lt, option_map}
+use Rattle.std.proofs.Common.{◌≡◌, ℕ, zero, suc, ◌<◌, ◌+◌, ◌^◌, List, [], ◌∷◌, Bool, true, false, not, if◌then◌else◌, Option, Some, None, Result, Ok, Err, refl, ap, ◌∙◌, arith}
+use Rattle.std.specs.List.{find}
+use Rattle.std.proofs.lemmas.List.Elements.{All-head, All-tail}
+use Rattle.std.specs.Prelude.{All, IfOk, IfSome, nat_le, nat_lt, option_map}
 use Rattle.std.proofs.lemmas.Int.{ints}
 use Rattle.std.proofs.lemmas.Bool.{and_parts, le-leb, leb-true, ltb-true, not-true}
 use Rattle.memory_areas.specs.Access.{bytes_wide, is_byte_in, is_unaligned}
@@ -8,7 +10,10 @@ use Rattle.memory_areas.specs.declared.place.AreaName.{AreaName}
 use Rattle.memory_areas.specs.declared.place.AreaName.TheVariants as area
 use Rattle.memory_areas.specs.declared.sizes.TheConstants.{INPUT_BYTES, LOCAL_BYTES, MARKER_BYTES, OUTPUT_BYTES}
 use Rattle.s7_base.specs.declared.reason.Reason.{Reason}
-use Rattle.s7_base.specs.declared.reason.Reason.TheVariants.{UnknownName}
+use Rattle.nesting_stack.specs.Entries.{most_open}
+use Rattle.s7_base.specs.Broken.{broken}
+use Rattle.s7_base.specs.declared.reason.Line.{Line}
+use Rattle.s7_base.specs.declared.reason.Reason.TheVariants.{TooManyBrackets, UnknownName}
 use Rattle.s7_base.specs.SignedNumbers.{is_over}
 use Rattle.s7_base.specs.declared.check.Check.{Check}
 use Rattle.s7_base.specs.declared.check.Check.TheVariants as check
@@ -20,13 +25,15 @@ use Rattle.stl_tree.specs.Accumulators.{bits_wide, signed_part}
 use Rattle.stl_statements.specs.Constants.{constant, fits, value_in}
 use Rattle.stl_statements.specs.Pointers.{is_in_reach, offset_of, value_of}
 use Rattle.stl_statements.specs.Mnemonics.{mnemonic_named}
-use Rattle.stl_rules.specs.Programs.{adding, alone, checked, combining, comparing, instr_of, is_compared, loading, loading_pointer, moving_pointer, on_bit, on_number, op_by, op_of, op_with, opening, other_by, pointed, shifting, storing, storing_pointer, unchecked, with_number, within}
+use Rattle.stl_rules.specs.Programs.{adding, alone, checked, combining, comparing, instr_of, is_compared, loading, loading_pointer, moving_pointer, on_bit, on_number, op_by, op_of, op_or_rule, op_with, or_any, or_bad_operand, opening, other_by, pointed, shifting, storing, storing_pointer, unchecked, with_number, within}
 use Rattle.stl_rules.specs.Extents.{width_of}
-use Rattle.stl_rules.specs.Names.{block_number, db_numbered, may_have, symbol_named}
+use Rattle.stl_rules.specs.Names.{block_number, db_numbered, is_number, may_have, symbol_named}
 use Rattle.stl_rules.specs.Paths.{component_in}
-use Rattle.stl_rules.specs.Raw.{Sight, are_refused, given, given_component, given_held, given_if, given_in, given_in_data, given_in_kind, given_number, given_open, given_path, given_place, given_pointer, given_symbol, is_placed, may_stand, most_in_block, most_local, operand_at, place_of_kind}
+use Rattle.stl_rules.specs.Raw.{Scope, are_refused, given, given_component, given_held, given_if, given_in, given_in_data, given_in_kind, given_number, given_open, given_path, given_place, given_pointer, given_symbol, is_placed, may_stand, most_in_block, most_local, operand_at, place_of_kind}
 use Rattle.stl_rules.specs.declared.given.Given.{Given}
 use Rattle.stl_rules.specs.declared.given.Given.TheVariants as behind
+use Rattle.stl_rules.specs.Stages.{brackets_at, broken_by, instr_breaks, open_then}
+use Rattle.stl_tree.specs.Brackets.{open_behind}
 use Rattle.stl_tree.specs.Shifts.{most_steps}
 use Rattle.stl_statements.specs.Statements.{is_in_area}
 use Rattle.stl_tree.specs.WordLogic.{width_of as logic_width}
@@ -39,7 +46,6 @@ use Rattle.stl_tree.specs.declared.program.Ar.TheVariants as ar
 use Rattle.stl_tree.specs.declared.program.ArLoad.TheVariants as ar_load
 use Rattle.stl_tree.specs.declared.program.ArStore.TheVariants as ar_store
 use Rattle.stl_tree.specs.declared.raw.RawPointer.{RawPointer}
-use Rattle.stl_tree.specs.declared.program.Instr.{Instr}
 use Rattle.stl_tree.specs.declared.program.LoadArg.TheVariants as load
 use Rattle.stl_tree.specs.declared.program.Op.{Op}
 use Rattle.stl_tree.specs.declared.program.Op.TheVariants as op
@@ -67,6 +73,7 @@ use Rattle.stl_tree.specs.declared.raw.SymbolAddress.TheVariants as address
 -- Operands
 
 abbrev IsGiven : Given → Type 0
+IsGiven behind.Unjudged = ⊥
 IsGiven (behind.At o w) = IsOperand w o
 IsGiven (behind.Db n) = IsBlockOpened n
 IsGiven (behind.Di n) = IsBlockOpened n
@@ -148,20 +155,25 @@ component_is number name None = tt
 component_is number name (Some at) = kind_is number name at at.kind
 
 path_is : (limit : ℕ) (number : Option ℕ) (name : AreaName) (decls : List Declaration) (path : List PathStep)
-    → IsGiven (given_path limit number name decls path)
-path_is limit number name decls path = by (are_refused limit decls)
+    → are_refused limit decls ≡ false → IsGiven (given_path limit number name decls path)
+path_is limit number name decls path kept = by (are_refused limit decls) kept
   where
-    by : (b : Bool) → IsGiven (if b then behind.Unjudged else given_component number name (component_in (decls ∷ []) path))
-    by true = tt
-    by false = component_is number name (component_in (decls ∷ []) path)
+    by : (b : Bool) → b ≡ false → IsGiven (if b then behind.Unjudged else given_component number name (component_in (decls ∷ []) path))
+    by true e = absurd cc
+    by false e = component_is number name (component_in (decls ∷ []) path)
 
-in_kind_is : (n : ℕ) (path : List PathStep) (kind : RawDataKind) → IsGiven (given_in_kind n path kind)
-in_kind_is n path (data_kind.Own decls) = path_is most_in_block (Some n) area.Db decls path
-in_kind_is n path (data_kind.Instance name) = tt
+-- declarations of a data block that break no rule
+abbrev pub IsLaidOut : RawDataKind → Type 0
+IsLaidOut (data_kind.Own decls) = are_refused most_in_block decls ≡ false
+IsLaidOut (data_kind.Instance name) = Unit {0}
 
-in_data_is : (n : ℕ) (path : List PathStep) (o : Option RawData) → IsGiven (given_in_data n path o)
-in_data_is n path None = tt
-in_data_is n path (Some d) = in_kind_is n path d.kind
+in_kind_is : (n : ℕ) (path : List PathStep) (kind : RawDataKind) → IsLaidOut kind → IsGiven (given_in_kind n path kind)
+in_kind_is n path (data_kind.Own decls) h = path_is most_in_block (Some n) area.Db decls path h
+in_kind_is n path (data_kind.Instance name) h = tt
+
+in_data_is : (n : ℕ) (path : List PathStep) (o : Option RawData) → IfSome o (λ (d : RawData). IsLaidOut d.kind) → IsGiven (given_in_data n path o)
+in_data_is n path None h = tt
+in_data_is n path (Some d) h = in_kind_is n path d.kind h
 
 number_is : (make : ℕ → Given) → ((n : ℕ) → IsGiven (make n)) → (r : Result ℕ Reason) → IsGiven (given_number make r)
 number_is make h (Ok n) = h n
@@ -175,61 +187,107 @@ open_is make h n = by (may_have block.Db n) refl
     by true e = h n (opened n e)
     by false e = tt
 
-layer_is : (sight : Sight) (o : RawOperand-F RawOperand RawActual RawCall) → IsGiven (given_in sight o)
-layer_is sight (layer.At place) = place_is place
-layer_is sight (layer.Named name) = symbol_is (symbol_named sight.symbols name)
-layer_is sight (layer.InBlock name path) =
-    number_is (λ n. given_in_data n path (db_numbered sight.symbols sight.dbs n))
-    (λ n. in_data_is n path (db_numbered sight.symbols sight.dbs n)) (block_number sight.symbols block.Db (raw_name.Name name))
-layer_is sight (layer.Local path) = path_is most_local None area.L sight.temps path
-layer_is sight (layer.OpenDb name) =
-    number_is (given_open (λ n. behind.Db n)) (open_is (λ n. behind.Db n) (λ n h. h)) (block_number sight.symbols block.Db name)
-layer_is sight (layer.OpenDi name) =
-    number_is (given_open (λ n. behind.Di n)) (open_is (λ n. behind.Di n) (λ n h. h)) (block_number sight.symbols block.Db name)
-layer_is sight (layer.Pointer p) = pointer_is p
-layer_is sight (layer.ByMemory name w place) =
-    if_is (may_stand width.Dword place) name w (ByMemory name place.area place.byte) (λ e. stands width.Dword place e)
-layer_is sight (layer.ByRegister name w r p) =
-    if_is (is_in_reach p) name w (ByRegister name r (offset_of p)) (λ e. in_reach p e)
-layer_is sight (layer.Crossing w r p) = if_is (is_in_reach p) area.M w (Crossing r (offset_of p)) (λ e. in_reach p e)
-layer_is sight (layer.OpenDbBy place) = held_is (λ o. behind.DbBy o) (λ o h. h) place
-layer_is sight (layer.OpenDiBy place) = held_is (λ o. behind.DiBy o) (λ o h. h) place
-layer_is sight more = tt
+-- where a block stands whose temporaries, and the data blocks of whose text, break no rule
+pub record IsClear (scope : Scope) : Type 0 where
+  pub temps : are_refused most_local scope.block.temps ≡ false
+  pub dbs : All (λ (d : RawData). IsLaidOut d.kind) scope.text.dbs
 
-given_is : (sight : Sight) (o : RawOperand) → IsGiven (given sight o)
+-- what is found has what all have
+found_is : {X : Type 0} (P : X → Type 0) (test : X → Bool) (xs : List X) → All P xs → IfSome (find test xs) P
+found_is P test [] all = tt
+found_is P test (x ∷ xs) all = by (test x) (All-head P x xs all) (found_is P test xs (All-tail P x xs all))
+  where
+    by : (b : Bool) → P x → IfSome (find test xs) P → IfSome (if b then Some x else find test xs) P
+    by true h more = h
+    by false h more = more
+
+layer_is : (scope : Scope) (o : RawOperand-F RawOperand RawActual RawCall) → IsClear scope → IsGiven (given_in scope o)
+layer_is scope (layer.At place) clear = place_is place
+layer_is scope (layer.Named name) clear = symbol_is (symbol_named scope.text.symbols name)
+layer_is scope (layer.InBlock name path) clear =
+    number_is (λ n. given_in_data n path (db_numbered scope.text.symbols scope.text.dbs n))
+    (λ n. in_data_is n path (db_numbered scope.text.symbols scope.text.dbs n)
+    (found_is (λ (d : RawData). IsLaidOut d.kind) (λ (d : RawData). is_number n (block_number scope.text.symbols block.Db d.name)) scope.text.dbs clear.dbs))
+    (block_number scope.text.symbols block.Db (raw_name.Name name))
+layer_is scope (layer.Local path) clear = path_is most_local None area.L scope.block.temps path clear.temps
+layer_is scope (layer.OpenDb name) clear =
+    number_is (given_open (λ n. behind.Db n)) (open_is (λ n. behind.Db n) (λ n h. h)) (block_number scope.text.symbols block.Db name)
+layer_is scope (layer.OpenDi name) clear =
+    number_is (given_open (λ n. behind.Di n)) (open_is (λ n. behind.Di n) (λ n h. h)) (block_number scope.text.symbols block.Db name)
+layer_is scope (layer.Pointer p) clear = pointer_is p
+layer_is scope (layer.ByMemory name w place) clear =
+    if_is (may_stand width.Dword place) name w (ByMemory name place.area place.byte) (λ e. stands width.Dword place e)
+layer_is scope (layer.ByRegister name w r p) clear =
+    if_is (is_in_reach p) name w (ByRegister name r (offset_of p)) (λ e. in_reach p e)
+layer_is scope (layer.Crossing w r p) clear = if_is (is_in_reach p) area.M w (Crossing r (offset_of p)) (λ e. in_reach p e)
+layer_is scope (layer.OpenDbBy place) clear = held_is (λ o. behind.DbBy o) (λ o h. h) place
+layer_is scope (layer.OpenDiBy place) clear = held_is (λ o. behind.DiBy o) (λ o h. h) place
+layer_is scope more clear = tt
+
+given_is : (scope : Scope) (o : RawOperand) → IsClear scope → IsGiven (given scope o)
 unfolding given
-given_is sight o = layer_is sight (out-RawOperand o)
+given_is scope o clear = layer_is scope (out-RawOperand o) clear
 
 -- Instructions
 
+-- what an instruction does to the open brackets
+data Turn : Type 0 where
+  opens : Turn
+  closes : Turn
+  keeps : Turn
+  ends : Turn
+
+abbrev turn_of : Op → Turn
+turn_of (op.Bracket c) = opens
+turn_of op.Close = closes
+turn_of op.BlockEnd = ends
+turn_of other = keeps
+
+abbrev turn_by : Option Mnemonic → Turn
+turn_by (Some (is.Bracket c)) = opens
+turn_by (Some is.Close) = closes
+turn_by other = keeps
+
+-- an instruction has its operand, and does this to the open brackets
+abbrev Is : Turn → Op → Type 0
+Is turn o = HasOperand o × (turn_of o ≡ turn)
+
+-- one that keeps them
+abbrev Fits : Op → Type 0
+Fits o = Is keeps o
+
 abbrev MayBe : Option Op → Type 0
-MayBe o = IfSome o HasOperand
+MayBe o = IfSome o Fits
 
-alone_is : (o : Op) → HasOperand o → (g : Given) → MayBe (alone o g)
-alone_is o h behind.Nothing = h
-alone_is o h more = tt
+alone_by : (turn : Turn) (o : Op) → Is turn o → (g : Given) → IfSome (alone o g) (Is turn)
+alone_by turn o h behind.Nothing = h
+alone_by turn o h more = tt
 
-on_bit_is : (o : Operand → Op) → ((x : Operand) → IsOperand width.Bit x → HasOperand (o x)) → (g : Given) → IsGiven g → MayBe (on_bit o g)
+alone_is : (o : Op) → Fits o → (g : Given) → MayBe (alone o g)
+alone_is o h g = alone_by keeps o h g
+
+on_bit_is : (o : Operand → Op) → ((x : Operand) → IsOperand width.Bit x → Fits (o x)) → (g : Given) → IsGiven g → MayBe (on_bit o g)
 on_bit_is o h (behind.At x width.Bit) k = h x k
 on_bit_is o h more k = tt
 
 unchecked_is : (c : Check) → MayBe (unchecked c)
-unchecked_is check.O = tt
+unchecked_is check.O = (tt, refl)
 unchecked_is more = tt
 
 checked_is : (c : Check) (g : Given) → IsGiven g → MayBe (checked c g)
 checked_is c behind.Nothing h = unchecked_is c
-checked_is c (behind.At x width.Bit) h = h
+checked_is c (behind.At x width.Bit) h = (h, refl)
+checked_is c (behind.Flag t) h = (tt, refl)
 checked_is c more h = tt
 
 -- a width that is one of a number, or is not
-on_number_is : (o : Operand → Width → Op) → ((x : Operand) (w : Width) → IsNumberWidth w → IsOperand w x → HasOperand (o x w)) → (x : Operand) (w : Width) → IsOperand w x → MayBe (on_number o x w)
+on_number_is : (o : Operand → Width → Op) → ((x : Operand) (w : Width) → IsNumberWidth w → IsOperand w x → Fits (o x w)) → (x : Operand) (w : Width) → IsOperand w x → MayBe (on_number o x w)
 on_number_is o h x width.Bit k = tt
 on_number_is o h x width.Byte k = h x width.Byte tt k
 on_number_is o h x width.Word k = h x width.Word tt k
 on_number_is o h x width.Dword k = h x width.Dword tt k
 
-within_is : (bits value : ℕ) (o : ℕ → Op) → (value < 2 ^ bits → HasOperand (o value)) → MayBe (option_map o (within bits value))
+within_is : (bits value : ℕ) (o : ℕ → Op) → (value < 2 ^ bits → Fits (o value)) → MayBe (option_map o (within bits value))
 within_is bits value o h = by (nat_lt value (2 ^ bits)) refl
   where
     by : (b : Bool) → nat_lt value (2 ^ bits) ≡ b → MayBe (option_map o (if b then Some value else None))
@@ -237,14 +295,16 @@ within_is bits value o h = by (nat_lt value (2 ^ bits)) refl
     by false e = tt
 
 loading_is : (g : Given) → IsGiven g → MayBe (loading g)
-loading_is (behind.At x w) k = on_number_is (λ y u. op.Load (load.At y u)) (λ y u n i. (n, i)) x w k
-loading_is behind.Stw k = tt
-loading_is (behind.Constant c) k = within_is 32 c.value (λ value. op.Load (load.Constant value)) (λ h. h)
+loading_is (behind.At x w) k = on_number_is (λ y u. op.Load (load.At y u)) (λ y u n i. ((n, i), refl)) x w k
+loading_is behind.Stw k = (tt, refl)
+loading_is behind.DbNo k = (tt, refl)
+loading_is behind.DiNo k = (tt, refl)
+loading_is (behind.Constant c) k = within_is 32 c.value (λ value. op.Load (load.Constant value)) (λ h. (h, refl))
 loading_is more k = tt
 
 storing_is : (g : Given) → IsGiven g → MayBe (storing g)
-storing_is (behind.At x w) k = on_number_is op.Transfer (λ y u n i. (n, i)) x w k
-storing_is behind.Stw k = tt
+storing_is (behind.At x w) k = on_number_is op.Transfer (λ y u n i. ((n, i), refl)) x w k
+storing_is behind.Stw k = (tt, refl)
 storing_is more k = tt
 
 -- a part is in its range
@@ -257,9 +317,9 @@ dword_fits n = grind (arith, ints)
 adding_is : (g : Given) → MayBe (adding g)
 adding_is (behind.Constant c) = by c.signed
   where
-    by : (b : Bool) → HasOperand (if b then op.AddWord (signed_part width.Word c.value) else op.AddDword (signed_part width.Dword c.value))
-    by true = word_fits c.value
-    by false = dword_fits c.value
+    by : (b : Bool) → Fits (if b then op.AddWord (signed_part width.Word c.value) else op.AddDword (signed_part width.Dword c.value))
+    by true = (word_fits c.value, refl)
+    by false = (dword_fits c.value, refl)
 adding_is more = tt
 
 compared_is : (t : Test) (w : Width) → is_compared t w ≡ true → IsComparison t w
@@ -272,24 +332,24 @@ comparing_is : (t : Test) (w : Width) (g : Given) → MayBe (comparing t w g)
 comparing_is t w behind.Nothing = by (is_compared t w) refl
   where
     by : (b : Bool) → is_compared t w ≡ b → MayBe (if b then Some (op.Compare t w) else None)
-    by true e = compared_is t w e
+    by true e = (compared_is t w e, refl)
     by false e = tt
 comparing_is t w more = tt
 
-with_number_is : (o : ℕ → Op) → ((n : ℕ) → n < 2 ^ 8 → HasOperand (o n)) → (g : Given) → MayBe (with_number o g)
+with_number_is : (o : ℕ → Op) → ((n : ℕ) → n < 2 ^ 8 → Fits (o n)) → (g : Given) → MayBe (with_number o g)
 with_number_is o h (behind.Constant c) = within_is 8 c.value o (λ k. h c.value k)
 with_number_is o h more = tt
 
 shifting_is : (row : ShiftRow) (g : Given) → MayBe (shifting row g)
-shifting_is row behind.Nothing = tt
+shifting_is row behind.Nothing = (tt, refl)
 shifting_is row (behind.Constant c) = by (nat_le c.value (most_steps row)) refl
   where
     by : (b : Bool) → nat_le c.value (most_steps row) ≡ b → MayBe (if b then Some (op.Shift row (Some c.value)) else None)
-    by true e = leb-true c.value (most_steps row) e
+    by true e = (leb-true c.value (most_steps row) e, refl)
     by false e = tt
 shifting_is row more = tt
 
-pointed_is : (o : Operand → Op) → ((x : Operand) → MayHoldPointer width.Dword x → HasOperand (o x)) → (x : Operand) (w : Width) → IsOperand w x → MayBe (pointed o x w)
+pointed_is : (o : Operand → Op) → ((x : Operand) → MayHoldPointer width.Dword x → Fits (o x)) → (x : Operand) (w : Width) → IsOperand w x → MayBe (pointed o x w)
 pointed_is o h x width.Dword k = by (is_of_pointers x) refl
   where
     by : (b : Bool) → is_of_pointers x ≡ b → MayBe (if b then Some (o x) else None)
@@ -299,101 +359,154 @@ pointed_is o h x width.Bit k = tt
 pointed_is o h x width.Byte k = tt
 pointed_is o h x width.Word k = tt
 
-other_is : (o : Ar → Op) → HasOperand (o ar.One) → (r : Ar) → MayBe (other_by o r)
+other_is : (o : Ar → Op) → Fits (o ar.One) → (r : Ar) → MayBe (other_by o r)
 other_is o h ar.One = h
 other_is o h ar.Two = tt
 
 loading_pointer_is : (r : Ar) (g : Given) → IsGiven g → MayBe (loading_pointer r g)
-loading_pointer_is r behind.Nothing k = tt
-loading_pointer_is r (behind.Constant c) k = within_is 32 c.value (λ p. op.LoadAr r (ar_load.Constant p)) (λ h. h)
-loading_pointer_is r (behind.At x w) k = pointed_is (λ y. op.LoadAr r (ar_load.At y)) (λ y h. h) x w k
-loading_pointer_is r behind.OtherAr k = other_is (λ a. op.LoadAr a ar_load.OtherAr) refl r
+loading_pointer_is r behind.Nothing k = (tt, refl)
+loading_pointer_is r (behind.Constant c) k = within_is 32 c.value (λ p. op.LoadAr r (ar_load.Constant p)) (λ h. (h, refl))
+loading_pointer_is r (behind.At x w) k = pointed_is (λ y. op.LoadAr r (ar_load.At y)) (λ y h. (h, refl)) x w k
+loading_pointer_is r behind.OtherAr k = other_is (λ a. op.LoadAr a ar_load.OtherAr) (refl, refl) r
 loading_pointer_is r more k = tt
 
 storing_pointer_is : (r : Ar) (g : Given) → IsGiven g → MayBe (storing_pointer r g)
-storing_pointer_is r behind.Nothing k = tt
-storing_pointer_is r (behind.At x w) k = pointed_is (λ y. op.StoreAr r (ar_store.At y)) (λ y h. h) x w k
-storing_pointer_is r behind.OtherAr k = other_is (λ a. op.StoreAr a ar_store.OtherAr) refl r
+storing_pointer_is r behind.Nothing k = (tt, refl)
+storing_pointer_is r (behind.At x w) k = pointed_is (λ y. op.StoreAr r (ar_store.At y)) (λ y h. (h, refl)) x w k
+storing_pointer_is r behind.OtherAr k = other_is (λ a. op.StoreAr a ar_store.OtherAr) (refl, refl) r
 storing_pointer_is r more k = tt
 
 moving_pointer_is : (r : Ar) (g : Given) → MayBe (moving_pointer r g)
-moving_pointer_is r behind.Nothing = tt
-moving_pointer_is r (behind.Constant c) = within_is 19 c.value (λ offset. op.AddAr r (Some offset)) (λ h. h)
+moving_pointer_is r behind.Nothing = (tt, refl)
+moving_pointer_is r (behind.Constant c) = within_is 19 c.value (λ offset. op.AddAr r (Some offset)) (λ h. (h, refl))
 moving_pointer_is r more = tt
 
 opening_is : (g : Given) → IsGiven g → MayBe (opening g)
-opening_is (behind.Db n) h = h
-opening_is (behind.Di n) h = h
-opening_is (behind.DbBy o) h = h
-opening_is (behind.DiBy o) h = h
+opening_is (behind.Db n) h = (h, refl)
+opening_is (behind.Di n) h = (h, refl)
+opening_is (behind.DbBy o) h = (h, refl)
+opening_is (behind.DiBy o) h = (h, refl)
 opening_is more h = tt
 
 combining_is : (row : LogicRow) (g : Given) → MayBe (combining row g)
-combining_is row behind.Nothing = tt
+combining_is row behind.Nothing = (tt, refl)
 combining_is row (behind.Constant c) = by (fits (logic_width row) c)
   where
     value : ℕ
     value = value_in (logic_width row) c
 
     by : (b : Bool) → MayBe (if b then option_map (λ v. op.Logic row (Some v)) (within (bits_wide (logic_width row)) value) else None)
-    by true = within_is (bits_wide (logic_width row)) value (λ v. op.Logic row (Some v)) (λ h. h)
+    by true = within_is (bits_wide (logic_width row)) value (λ v. op.Logic row (Some v)) (λ h. (h, refl))
     by false = tt
 combining_is row more = tt
 
-with_is : (what : Mnemonic) (g : Given) → IsGiven g → MayBe (op_with what g)
+with_is : (what : Mnemonic) (g : Given) → IsGiven g → IfSome (op_with what g) (Is (turn_by (Some what)))
 with_is (is.Check c) g h = checked_is c g h
-with_is (is.Bracket c) g h = alone_is (op.Bracket c) tt g
-with_is is.Close g h = alone_is op.Close tt g
-with_is is.Assign g h = on_bit_is op.Assign (λ x k. k) g h
-with_is is.Set g h = on_bit_is op.Set (λ x k. k) g h
-with_is is.Reset g h = on_bit_is op.Reset (λ x k. k) g h
-with_is is.SetRlo g h = alone_is op.SetRlo tt g
-with_is is.ClearRlo g h = alone_is op.ClearRlo tt g
-with_is is.NotRlo g h = alone_is op.NotRlo tt g
-with_is is.Save g h = alone_is op.Save tt g
-with_is is.EdgeUp g h = on_bit_is op.EdgeUp (λ x k. k) g h
-with_is is.EdgeDown g h = on_bit_is op.EdgeDown (λ x k. k) g h
+with_is (is.Bracket c) g h = alone_by opens (op.Bracket c) (tt, refl) g
+with_is is.Close g h = alone_by closes op.Close (tt, refl) g
+with_is is.Assign g h = on_bit_is op.Assign (λ x k. (k, refl)) g h
+with_is is.Set g h = on_bit_is op.Set (λ x k. (k, refl)) g h
+with_is is.Reset g h = on_bit_is op.Reset (λ x k. (k, refl)) g h
+with_is is.SetRlo g h = alone_is op.SetRlo (tt, refl) g
+with_is is.ClearRlo g h = alone_is op.ClearRlo (tt, refl) g
+with_is is.NotRlo g h = alone_is op.NotRlo (tt, refl) g
+with_is is.Save g h = alone_is op.Save (tt, refl) g
+with_is is.EdgeUp g h = on_bit_is op.EdgeUp (λ x k. (k, refl)) g h
+with_is is.EdgeDown g h = on_bit_is op.EdgeDown (λ x k. (k, refl)) g h
 with_is is.Load g h = loading_is g h
 with_is is.Transfer g h = storing_is g h
-with_is (is.Arith row) g h = alone_is (op.Arith row) tt g
+with_is (is.Arith row) g h = alone_is (op.Arith row) (tt, refl) g
 with_is (is.Compare t w) g h = comparing_is t w g
 with_is is.Plus g h = adding_is g
-with_is is.Inc g h = with_number_is op.Inc (λ n k. k) g
-with_is is.Dec g h = with_number_is op.Dec (λ n k. k) g
+with_is is.Inc g h = with_number_is op.Inc (λ n k. (k, refl)) g
+with_is is.Dec g h = with_number_is op.Dec (λ n k. (k, refl)) g
 with_is (is.Shift row) g h = shifting_is row g
-with_is is.Rlda g h = alone_is op.Rlda tt g
-with_is is.Rrda g h = alone_is op.Rrda tt g
+with_is is.Rlda g h = alone_is op.Rlda (tt, refl) g
+with_is is.Rrda g h = alone_is op.Rrda (tt, refl) g
 with_is (is.Logic row) g h = combining_is row g
-with_is (is.Unary row) g h = alone_is (op.Unary row) tt g
-with_is is.Tak g h = alone_is op.Tak tt g
-with_is is.Push g h = alone_is op.Push tt g
-with_is is.Pop g h = alone_is op.Pop tt g
+with_is (is.Unary row) g h = alone_is (op.Unary row) (tt, refl) g
+with_is is.Tak g h = alone_is op.Tak (tt, refl) g
+with_is is.Push g h = alone_is op.Push (tt, refl) g
+with_is is.Pop g h = alone_is op.Pop (tt, refl) g
 with_is (is.LoadAr r) g h = loading_pointer_is r g h
 with_is (is.StoreAr r) g h = storing_pointer_is r g h
-with_is is.ExchangeAr g h = alone_is op.ExchangeAr tt g
+with_is is.ExchangeAr g h = alone_is op.ExchangeAr (tt, refl) g
 with_is (is.AddAr r) g h = moving_pointer_is r g
 with_is is.Open g h = opening_is g h
-with_is is.ExchangeDb g h = alone_is op.ExchangeDb tt g
-with_is is.Nop g h = with_number_is (λ n. op.Nop) (λ n k. tt) g
+with_is is.ExchangeDb g h = alone_is op.ExchangeDb (tt, refl) g
+with_is is.Nop g h = with_number_is (λ n. op.Nop) (λ n k. (tt, refl)) g
 with_is is.TimerOrCounter g h = tt
 with_is is.Later g h = tt
 with_is (is.LeftOut kind) g h = tt
 
-by_is : (what : Option Mnemonic) (g : Given) → IsGiven g → MayBe (op_by what g)
+by_is : (what : Option Mnemonic) (g : Given) → IsGiven g → IfSome (op_by what g) (Is (turn_by what))
 by_is None g h = tt
 by_is (Some what) g h = with_is what g h
 
-op_is : (sight : Sight) (raw : RawOp) → MayBe (op_of sight raw)
+or_bad_is : (turn : Turn) (o : Option Op) → IfSome o (Is turn) → IfOk (or_bad_operand o) (Is turn)
+or_bad_is turn None h = tt
+or_bad_is turn (Some o) h = h
+
+or_rule_is : (what : Option Mnemonic) (g : Given) → IsGiven g → IfOk (op_or_rule what g) (Is (turn_by what))
+or_rule_is what behind.Unknown h = tt
+or_rule_is what behind.Unfit h = tt
+or_rule_is what behind.NoNumber h = tt
+or_rule_is what behind.Unjudged h = absurd h
+or_rule_is what (behind.Outside name w) h = tt
+or_rule_is what behind.NoPointer h = tt
+or_rule_is what g h = or_bad_is (turn_by what) (op_by what g) (by_is what g h)
+
+op_is : (scope : Scope) (raw : RawOp) → IsClear scope → IfOk (op_of scope raw) (Is (turn_by (mnemonic_named raw.mnemonic)))
 unfolding op_of
-op_is sight raw = by_is (mnemonic_named raw.mnemonic) (given sight raw.operand) (given_is sight raw.operand)
+op_is scope raw clear = or_rule_is (mnemonic_named raw.mnemonic) (given scope raw.operand) (given_is scope raw.operand clear)
 
-abbrev pub Holds : Instr → Type 0
-Holds i = HasOperand i.op
+-- an instruction that breaks no rule is one of a program
+any_is : (P : Op → Type 0) (line : Line) (r : Result Op Reason) → IfOk r P → broken_by line r ≡ [] → P (or_any r)
+any_is P line (Ok o) h e = h
+any_is P line (Err rule) h e = absurd cc
 
-on_line_is : (raw : RawInstr) (o : Option Op) → MayBe o → IfSome (option_map (λ what. record { line = raw.line; op = what }) o) Holds
-on_line_is raw None h = tt
-on_line_is raw (Some o) h = h
+instr_is : (scope : Scope) (raw : RawInstr) → IsClear scope → instr_breaks scope raw ≡ []
+    → Is (turn_by (mnemonic_named raw.op.mnemonic)) (instr_of scope raw).op
+instr_is scope raw clear e = any_is (Is (turn_by (mnemonic_named raw.op.mnemonic))) raw.line (op_of scope raw.op) (op_is scope raw.op clear) e
 
--- an instruction of a program has its operand
-pub instr_is : (sight : Sight) (raw : RawInstr) → IfSome (instr_of sight raw) Holds
-instr_is sight raw = on_line_is raw (op_of sight raw.op) (op_is sight raw.op)
+-- it has its operand
+pub has_operand : (scope : Scope) (raw : RawInstr) → IsClear scope → instr_breaks scope raw ≡ [] → HasOperand (instr_of scope raw).op
+has_operand scope raw clear e = (instr_is scope raw clear e).0
+
+-- Brackets
+
+-- how many are open behind a turn, if it may stand there
+abbrev open_by : Turn → ℕ → Option ℕ
+open_by opens n = if nat_lt n most_open then Some (suc n) else None
+open_by closes zero = None
+open_by closes (suc n) = Some n
+open_by keeps n = Some n
+open_by ends zero = Some 0
+open_by ends (suc n) = None
+
+behind_op : (o : Op) (n : ℕ) → open_behind o n ≡ open_by (turn_of o) n
+behind_op (op.Bracket c) n = refl
+behind_op op.Close zero = refl
+behind_op op.Close (suc n) = refl
+behind_op op.BlockEnd zero = refl
+behind_op op.BlockEnd (suc n) = refl
+behind_op other n = refl
+
+room : (b : Bool) (line : Line) (n : ℕ) → (if b then [] else broken line TooManyBrackets) ≡ [] → (if b then Some (suc n) else None) ≡ Some (suc n)
+room true line n e = refl
+room false line n e = absurd cc
+
+behind_turn : (line : Line) (what : Option Mnemonic) (n : ℕ) → brackets_at line what n ≡ [] → open_by (turn_by what) n ≡ Some (open_then what n)
+behind_turn line (Some (is.Bracket c)) n e = room (nat_lt n most_open) line n e
+behind_turn line (Some is.Close) zero e = absurd cc
+behind_turn line (Some is.Close) (suc n) e = refl
+behind_turn line other n e = refl
+
+-- and does to brackets what its mnemonic says
+pub behind_instr : (scope : Scope) (raw : RawInstr) (n : ℕ) → IsClear scope → instr_breaks scope raw ≡ []
+    → brackets_at raw.line (mnemonic_named raw.op.mnemonic) n ≡ []
+    → open_behind (instr_of scope raw).op n ≡ Some (open_then (mnemonic_named raw.op.mnemonic) n)
+behind_instr scope raw n clear e f =
+    behind_op (instr_of scope raw).op n
+    ∙ ap (λ t. open_by t n) (instr_is scope raw clear e).1
+    ∙ behind_turn raw.line (mnemonic_named raw.op.mnemonic) n f

@@ -1,9 +1,9 @@
--- The program of a raw program: its instructions by what their mnemonics are and their operands, and the
--- names of its blocks.
-use Rattle.std.specs.Prelude.{ℕ, ◌^◌, Bool, false, nat_le, nat_lt, if◌then◌else◌, List, [], ◌∷◌, ◌++◌, Option, Some, None, option_map, Result, Ok}
+-- The program of a raw program: its instructions by what their mnemonics are and their operands, or the rules that these
+-- break, and the names of its blocks. Instructions and blocks stand at the places that they have in the raw program.
+use Rattle.std.specs.Prelude.{ℕ, ◌^◌, Bool, false, nat_le, nat_lt, if◌then◌else◌, List, [], ◌∷◌, ◌++◌, map, Option, Some, None, option_map, Result, Ok, Err}
 use Rattle.std.specs.List.{filter_map}
 use Rattle.memory_areas.specs.declared.call.BlockName.{BlockName}
-use Rattle.memory_areas.specs.declared.call.BlockName.TheVariants.{Ob}
+use Rattle.memory_areas.specs.declared.call.BlockName.TheVariants.{Ob, Fc, Fb}
 use Rattle.memory_areas.specs.declared.place.Area.{Area}
 use Rattle.memory_areas.specs.declared.place.Area.TheVariants as area
 use Rattle.memory_areas.specs.declared.place.AreaName.{AreaName}
@@ -11,16 +11,17 @@ use Rattle.memory_areas.specs.declared.place.AreaName.TheVariants as name
 use Rattle.s7_base.specs.declared.check.Check.{Check}
 use Rattle.s7_base.specs.declared.check.Check.TheVariants as check
 use Rattle.s7_base.specs.declared.reason.Reason.{Reason}
+use Rattle.s7_base.specs.declared.reason.Reason.TheVariants.{BadAddress, BadOperand, UnknownName}
 use Rattle.s7_base.specs.declared.word.Width.{Width}
 use Rattle.s7_base.specs.declared.word.Width.TheVariants as width
 use Rattle.status_word.specs.declared.test.Test.{Test}
 use Rattle.stl_tree.specs.Accumulators.{bits_wide, signed_part}
 use Rattle.stl_tree.specs.Arithmetic.{is_comparison}
-use Rattle.stl_statements.specs.Constants.{fits, value_in}
+use Rattle.stl_statements.specs.Constants.{constant, fits, value_in}
 use Rattle.stl_statements.specs.Mnemonics.{mnemonic_named}
 use Rattle.stl_rules.specs.DataBlocks.{data_of, in_order}
 use Rattle.stl_rules.specs.Names.{block_number}
-use Rattle.stl_rules.specs.Raw.{Sight, given}
+use Rattle.stl_rules.specs.Raw.{Scope, given}
 use Rattle.stl_tree.specs.Accepted.{is_of_pointers}
 use Rattle.stl_tree.specs.Shifts.{most_steps}
 use Rattle.stl_tree.specs.WordLogic.{width_of as logic_width}
@@ -42,10 +43,12 @@ use Rattle.stl_tree.specs.declared.program.Op.{Op}
 use Rattle.stl_tree.specs.declared.program.Op.TheVariants as op
 use Rattle.stl_tree.specs.declared.program.OpenArg.TheVariants as open_arg
 use Rattle.stl_tree.specs.declared.program.Operand.{Operand}
+use Rattle.stl_tree.specs.declared.program.Operand.TheVariants.{Direct}
 use Rattle.stl_tree.specs.declared.program.Program.{Program}
 use Rattle.stl_tree.specs.declared.program.Symbol.{Symbol}
 use Rattle.stl_tree.specs.declared.raw.BlockKind.{BlockKind}
 use Rattle.stl_tree.specs.declared.raw.BlockKind.TheVariants as block
+use Rattle.stl_tree.specs.declared.raw.Constant.{Constant}
 use Rattle.stl_tree.specs.declared.raw.RawBlock.{RawBlock}
 use Rattle.stl_tree.specs.declared.raw.RawInstr.{RawInstr}
 use Rattle.stl_tree.specs.declared.raw.RawOp.{RawOp}
@@ -224,39 +227,69 @@ abbrev pub op_by : Option Mnemonic → Given → Option Op
 op_by None g = None
 op_by (Some what) g = op_with what g
 
--- the instruction that a raw one is, if it is one
-unfoldable pub op_of : Sight → RawOp → Option Op
-op_of sight raw = op_by (mnemonic_named raw.mnemonic) (given sight raw.operand)
+-- any place of an area, for the question which area and width a mnemonic has
+abbrev pub some_place : AreaName → Operand
+some_place name = Direct name 0 0
+
+-- any pointer, for the question whether a mnemonic has one
+abbrev pub some_pointer : Constant
+some_pointer = constant width.Dword 0
+
+-- an instruction, or the rule that an operand breaks which its mnemonic has not
+abbrev pub or_bad_operand : Option Op → Result Op Reason
+or_bad_operand None = Err BadOperand
+or_bad_operand (Some what) = Ok what
+
+-- the rule that an operand outside its range breaks: one of another width or kind has that rule first
+abbrev pub outside_rule : Option Op → Reason
+outside_rule None = BadOperand
+outside_rule (Some what) = BadAddress
+
+-- the instruction that a mnemonic makes of what stands behind it, or the rule that is broken, of several the one that
+-- comes first; a path into declarations that break a rule breaks none itself, and makes any instruction
+abbrev pub op_or_rule : Option Mnemonic → Given → Result Op Reason
+op_or_rule what behind.Unknown = Err UnknownName
+op_or_rule what behind.Unfit = Err BadOperand
+op_or_rule what behind.NoNumber = Err BadAddress
+op_or_rule what behind.Unjudged = Ok op.Nop
+op_or_rule what (behind.Outside name w) = Err (outside_rule (op_by what (behind.At (some_place name) w)))
+op_or_rule what behind.NoPointer = Err (outside_rule (op_by what (behind.Constant some_pointer)))
+op_or_rule what g = or_bad_operand (op_by what g)
+
+-- the instruction that a raw one is, or the rule that it breaks
+unfoldable pub op_of : Scope → RawOp → Result Op Reason
+op_of scope raw = op_or_rule (mnemonic_named raw.mnemonic) (given scope raw.operand)
+
+-- any instruction where a rule is broken, since nobody looks at it then
+abbrev pub or_any : Result Op Reason → Op
+or_any (Ok what) = what
+or_any (Err rule) = op.Nop
 
 -- an instruction on its line
-abbrev pub instr_of : Sight → RawInstr → Option Instr
-instr_of sight raw = option_map (λ what. record { line = raw.line; op = what }) (op_of sight raw.op)
+abbrev pub instr_of : Scope → RawInstr → Instr
+instr_of scope raw = record { line = raw.line; op = or_any (op_of scope raw.op) }
 
 -- Blocks
 
--- what names mean in a block of a text
-abbrev pub sight_of : RawProgram → RawBlock → Sight
-sight_of text raw = record { symbols = text.symbols; dbs = text.dbs; temps = raw.temps }
+-- the name of a block by its kind and its number, any where it has none; a data block is none of these blocks
+abbrev pub block_name : BlockKind → Result ℕ Reason → BlockName
+block_name block.Fc (Ok n) = Fc n
+block_name block.Fb (Ok n) = Fb n
+block_name kind (Ok n) = Ob n
+block_name kind (Err reason) = Ob 0
 
--- the name of a block by its kind and its number, if it is built
-abbrev pub name_numbered : BlockKind → Result ℕ Reason → Option BlockName
-name_numbered block.Ob (Ok n) = Some (Ob n)
-name_numbered unbuilt number = None
-
-abbrev pub block_name : List SymbolLine → RawBlock → Option BlockName
-block_name symbols raw = name_numbered raw.kind (block_number symbols raw.kind raw.name)
-
--- the instructions of a raw block, the last of them that of its end word
-abbrev pub body_of : Sight → RawBlock → List Instr
-body_of sight raw = filter_map (instr_of sight) raw.body ++ (record { line = raw.end_line; op = op.BlockEnd } ∷ [])
+-- the instructions of a block, the last of them that of its end word: each at the place where it stands in the text
+abbrev pub body_of : Scope → List Instr
+body_of scope = map (instr_of scope) scope.block.body ++ (record { line = scope.block.end_line; op = op.BlockEnd } ∷ [])
 
 -- a block by its name
-abbrev pub block_with : Sight → RawBlock → BlockName → Block
-block_with sight raw name = record { name = name; line = raw.line; formals = []; body = body_of sight raw }
+abbrev pub block_with : Scope → BlockName → Block
+block_with scope name = record { name = name; line = scope.block.line; formals = []; body = body_of scope }
 
 -- the block that a raw one is
-abbrev pub block_of : RawProgram → RawBlock → Option Block
-block_of text raw = option_map (block_with (sight_of text raw) raw) (block_name text.symbols raw)
+abbrev pub block_of : RawProgram → RawBlock → Block
+block_of text raw =
+    block_with (record { text = text; block = raw }) (block_name raw.kind (block_number text.symbols raw.kind raw.name))
 
 -- Symbols
 
@@ -288,6 +321,6 @@ program_of raw =
     record {
       dbs = in_order (filter_map (data_of raw.symbols) raw.dbs);
       instances = [];
-      blocks = filter_map (block_of raw) raw.blocks;
+      blocks = map (block_of raw) raw.blocks;
       symbols = filter_map symbol_of raw.symbols;
     }

@@ -24,6 +24,7 @@ use Rattle.stl_tree.specs.declared.raw.Declaration.{Declaration}
 use Rattle.stl_tree.specs.declared.raw.ElemType.{ElemType}
 use Rattle.stl_tree.specs.declared.raw.PathStep.{PathStep}
 use Rattle.stl_tree.specs.declared.raw.RawActual.{RawActual}
+use Rattle.stl_tree.specs.declared.raw.RawBlock.{RawBlock}
 use Rattle.stl_tree.specs.declared.raw.RawCall.{RawCall}
 use Rattle.stl_tree.specs.declared.raw.RawData.{RawData}
 use Rattle.stl_tree.specs.declared.raw.RawDataKind.{RawDataKind}
@@ -32,19 +33,18 @@ use Rattle.stl_tree.specs.declared.raw.RawName.TheVariants as raw_name
 use Rattle.stl_tree.specs.declared.raw.RawOperand.{RawOperand, RawOperand-F, out-RawOperand}
 use Rattle.stl_tree.specs.declared.raw.RawOperand.TheOpen as layer
 use Rattle.stl_tree.specs.declared.raw.RawPlace.{RawPlace}
+use Rattle.stl_tree.specs.declared.raw.RawProgram.{RawProgram}
 use Rattle.stl_tree.specs.declared.raw.SymbolAddress.{SymbolAddress}
 use Rattle.stl_tree.specs.declared.raw.SymbolAddress.TheVariants as address
-use Rattle.stl_tree.specs.declared.raw.SymbolLine.{SymbolLine}
 use Rattle.stl_rules.specs.Extents.{width_of}
 use Rattle.stl_rules.specs.Layouts.{breaks_in}
 use Rattle.stl_rules.specs.Paths.{component_in}
 use Rattle.stl_rules.specs.declared.laid.Component.{Component}
 
--- what names mean in a block: the symbol table, the data blocks, and the temporaries of the block
-pub record Sight : Type 0 where
-  pub symbols : List SymbolLine
-  pub dbs : List RawData
-  pub temps : List Declaration
+-- what names mean where a block of a text stands
+pub record Scope : Type 0 where
+  pub text : RawProgram
+  pub block : RawBlock
 
 -- Written places
 
@@ -118,7 +118,7 @@ most_local = 256
 
 abbrev pub given_in_kind : ℕ → List PathStep → RawDataKind → Given
 given_in_kind n path (data_kind.Own decls) = given_path most_in_block (Some n) area.Db decls path
-given_in_kind n path (data_kind.Instance name) = behind.Other
+given_in_kind n path (data_kind.Instance name) = behind.Unfit
 
 abbrev pub given_in_data : ℕ → List PathStep → Option RawData → Given
 given_in_data n path None = behind.Unknown
@@ -136,30 +136,31 @@ given_open make n = if may_have block.Db n then make n else behind.NoNumber
 
 -- Operands
 
-abbrev pub given_in : Sight → RawOperand-F RawOperand RawActual RawCall → Given
-given_in sight layer.Missing = behind.Nothing
-given_in sight (layer.At place) = given_place place
-given_in sight (layer.Named name) = given_symbol (symbol_named sight.symbols name)
-given_in sight (layer.InBlock name path) =
-    given_number (λ n. given_in_data n path (db_numbered sight.symbols sight.dbs n))
-    (block_number sight.symbols block.Db (raw_name.Name name))
-given_in sight (layer.Local path) = given_path most_local None area.L sight.temps path
-given_in sight (layer.Flag test) = behind.Flag test
-given_in sight layer.Stw = behind.Stw
-given_in sight layer.DbNo = behind.DbNo
-given_in sight layer.DiNo = behind.DiNo
-given_in sight (layer.Constant constant) = behind.Constant constant
-given_in sight (layer.Pointer p) = given_pointer p
-given_in sight (layer.ByMemory name w place) = given_if (may_stand width.Dword place) name w (ByMemory name place.area place.byte)
-given_in sight (layer.ByRegister name w r p) = given_if (is_in_reach p) name w (ByRegister name r (offset_of p))
-given_in sight (layer.Crossing w r p) = given_if (is_in_reach p) area.M w (Crossing r (offset_of p))
-given_in sight layer.OtherAr = behind.OtherAr
-given_in sight (layer.OpenDb name) = given_number (given_open (λ n. behind.Db n)) (block_number sight.symbols block.Db name)
-given_in sight (layer.OpenDi name) = given_number (given_open (λ n. behind.Di n)) (block_number sight.symbols block.Db name)
-given_in sight (layer.OpenDbBy place) = given_held (λ o. behind.DbBy o) place
-given_in sight (layer.OpenDiBy place) = given_held (λ o. behind.DiBy o) place
-given_in sight unbuilt = behind.Other
+abbrev pub given_in : Scope → RawOperand-F RawOperand RawActual RawCall → Given
+given_in scope layer.Missing = behind.Nothing
+given_in scope (layer.At place) = given_place place
+given_in scope (layer.Named name) = given_symbol (symbol_named scope.text.symbols name)
+given_in scope (layer.InBlock name path) =
+    given_number (λ n. given_in_data n path (db_numbered scope.text.symbols scope.text.dbs n))
+    (block_number scope.text.symbols block.Db (raw_name.Name name))
+given_in scope (layer.Local path) = given_path most_local None area.L scope.block.temps path
+given_in scope (layer.Flag test) = behind.Flag test
+given_in scope layer.Stw = behind.Stw
+given_in scope layer.DbNo = behind.DbNo
+given_in scope layer.DiNo = behind.DiNo
+given_in scope (layer.Constant constant) = behind.Constant constant
+given_in scope (layer.Pointer p) = given_pointer p
+given_in scope (layer.ByMemory name w place) = given_if (may_stand width.Dword place) name w (ByMemory name place.area place.byte)
+given_in scope (layer.ByRegister name w r p) = given_if (is_in_reach p) name w (ByRegister name r (offset_of p))
+given_in scope (layer.Crossing w r p) = given_if (is_in_reach p) area.M w (Crossing r (offset_of p))
+given_in scope layer.OtherAr = behind.OtherAr
+given_in scope (layer.OpenDb name) = given_number (given_open (λ n. behind.Db n)) (block_number scope.text.symbols block.Db name)
+given_in scope (layer.OpenDi name) = given_number (given_open (λ n. behind.Di n)) (block_number scope.text.symbols block.Db name)
+given_in scope (layer.OpenDbBy place) = given_held (λ o. behind.DbBy o) place
+given_in scope (layer.OpenDiBy place) = given_held (λ o. behind.DiBy o) place
+given_in scope (layer.Label label) = behind.Unfit
+given_in scope (layer.Call call) = behind.Unfit
 
 -- what stands behind the mnemonic of a raw operand
-unfoldable pub given : Sight → RawOperand → Given
-given sight operand = given_in sight (out-RawOperand operand)
+unfoldable pub given : Scope → RawOperand → Given
+given scope operand = given_in scope (out-RawOperand operand)

@@ -1,33 +1,20 @@
 -- The rules of a raw program, stage by stage: each of them gives all that breaks it.
-use Rattle.std.specs.Prelude.{ℕ, zero, suc, Bool, true, false, not, ◌==◌, ◌&&◌, nat_lt, if◌then◌else◌, List, [], ◌∷◌, ◌++◌, map, slice_get, Option, Some, None, Result, Ok, Err}
+use Rattle.std.specs.Prelude.{ℕ, zero, suc, Bool, true, false, not, ◌==◌, nat_lt, if◌then◌else◌, List, [], ◌∷◌, ◌++◌, map, slice_get, Option, Some, None, Result, Ok, Err}
 use Rattle.std.specs.List.{flat_map, list_any}
-use Rattle.memory_areas.specs.declared.place.AreaName.{AreaName}
-use Rattle.s7_base.specs.declared.word.Width.TheVariants as width
-use Rattle.stl_statements.specs.Constants.{constant}
 use Rattle.memory_areas.specs.declared.sizes.TheConstants.{MOST_BLOCKS}
 use Rattle.nesting_stack.specs.Entries.{most_open}
 use Rattle.s7_base.specs.Broken.{broken, first_of_all}
 use Rattle.s7_base.specs.declared.broken.Break.{Break}
-use Rattle.s7_base.specs.declared.reason.Kind.TheVariants.{NotBuilt}
 use Rattle.s7_base.specs.declared.reason.Line.{Line}
 use Rattle.s7_base.specs.declared.reason.Reason.{Reason}
-use Rattle.s7_base.specs.declared.reason.Reason.TheVariants.{BadAddress, BadOperand, BracketMissing, BracketOpen, DuplicateBlock, DuplicateName, NoBlocks, TooLarge, TooManyBrackets, UnknownName, Unsupported}
+use Rattle.s7_base.specs.declared.reason.Reason.TheVariants.{BadAddress, BadOperand, BracketMissing, BracketOpen, DuplicateBlock, DuplicateName, NoBlocks, TooLarge, TooManyBrackets, UnknownName}
 use Rattle.stl_rules.specs.Names.{block_number, may_have}
-use Rattle.stl_rules.specs.Programs.{op_by, program_of, sight_of}
-use Rattle.stl_rules.specs.Raw.{Sight, are_refused, given, most_in_block, most_local}
-use Rattle.stl_rules.specs.declared.given.Given.{Given}
-use Rattle.stl_rules.specs.declared.given.Given.TheVariants as behind
+use Rattle.stl_rules.specs.Programs.{op_of}
+use Rattle.stl_rules.specs.Raw.{Scope, are_refused, most_in_block, most_local}
 use Rattle.stl_statements.specs.Mnemonics.{mnemonic_named}
 use Rattle.stl_statements.specs.Statements.{is_in_area}
 use Rattle.stl_statements.specs.declared.mnemonic.Mnemonic.{Mnemonic}
 use Rattle.stl_statements.specs.declared.mnemonic.Mnemonic.TheVariants as is
-use Rattle.stl_tree.specs.declared.program.Block.{Block}
-use Rattle.stl_tree.specs.declared.program.Instr.{Instr}
-use Rattle.stl_tree.specs.declared.program.Op.{Op}
-use Rattle.stl_tree.specs.declared.program.Op.TheVariants as op
-use Rattle.stl_tree.specs.declared.program.Operand.{Operand}
-use Rattle.stl_tree.specs.declared.program.Operand.TheVariants.{Direct}
-use Rattle.stl_tree.specs.declared.program.Program.{Program}
 use Rattle.stl_tree.specs.declared.raw.BlockKind.{BlockKind}
 use Rattle.stl_tree.specs.declared.raw.BlockKind.TheVariants as block
 use Rattle.stl_tree.specs.declared.raw.Constant.{Constant}
@@ -48,52 +35,6 @@ use Rattle.stl_rules.specs.Layouts.{breaks_in}
 use Rattle.stl_rules.specs.Paths.{component_in}
 use Rattle.stl_rules.specs.DeclarationRules.{fits_width, is_named, key_of, with_name}
 use Rattle.stl_rules.specs.declared.laid.Component.{Component}
-
--- What is not built: a form that the reader takes and that has no place in a program yet. The program of a
--- raw program leaves such forms out, so that no rule of a later stage is judged without this one.
-
--- a mnemonic is one of an instruction
-abbrev pub is_instruction : Option Mnemonic → Bool
-is_instruction None = false
-is_instruction (Some is.TimerOrCounter) = false
-is_instruction (Some is.Later) = false
-is_instruction (Some (is.LeftOut kind)) = false
-is_instruction (Some what) = true
-
--- what stands behind it is built
-abbrev pub is_built_operand : Given → Bool
-is_built_operand behind.Other = false
-is_built_operand g = true
-
--- a raw instruction that is none of a program
-abbrev pub unbuilt_instr : Sight → RawInstr → List Break
-unbuilt_instr sight raw =
-    if is_instruction (mnemonic_named raw.op.mnemonic) && is_built_operand (given sight raw.op.operand)
-    then []
-    else broken raw.line (Unsupported NotBuilt)
-
--- organization blocks alone are built
-abbrev pub is_built_kind : BlockKind → Bool
-is_built_kind block.Ob = true
-is_built_kind kind = false
-
--- a raw block that is none of a program, or has an instruction that is none
-abbrev pub unbuilt_block : RawProgram → RawBlock → List Break
-unbuilt_block text raw =
-    (if is_built_kind raw.kind then [] else broken raw.line (Unsupported NotBuilt))
-    ++ flat_map (unbuilt_instr (sight_of text raw)) raw.body
-
--- a data block has declarations of its own
-abbrev pub is_own : RawDataKind → Bool
-is_own (data_kind.Own decls) = true
-is_own (data_kind.Instance name) = false
-
--- an instance is not built
-abbrev pub unbuilt_data : RawData → List Break
-unbuilt_data d = if is_own d.kind then [] else broken d.line (Unsupported NotBuilt)
-
-abbrev pub unbuilt : RawProgram → List Break
-unbuilt raw = flat_map unbuilt_data raw.dbs ++ flat_map (unbuilt_block raw) raw.blocks
 
 -- Names, blocks and layout
 
@@ -164,32 +105,14 @@ abbrev pub one_too_many : Option RawData → List Break
 one_too_many None = []
 one_too_many (Some d) = broken d.line TooLarge
 
--- what an instruction breaks: its operand is of a width or kind that its mnemonic has
-abbrev pub kind_breaks : Option Op → List Reason
-kind_breaks None = BadOperand ∷ []
-kind_breaks (Some o) = []
+-- the rule that is broken on a line where there is no such thing
+abbrev pub broken_by : {X : Type 0} → Line → Result X Reason → List Break
+broken_by line (Ok x) = []
+broken_by line (Err rule) = broken line rule
 
--- any place of an area, for the question which area and width a mnemonic has
-abbrev pub some_place : AreaName → Operand
-some_place name = Direct name 0 0
-
--- any pointer, for the question whether a mnemonic has one
-abbrev pub some_pointer : Constant
-some_pointer = constant width.Dword 0
-
-abbrev pub operand_breaks : Option Mnemonic → Given → List Reason
-operand_breaks what behind.Unknown = UnknownName ∷ []
-operand_breaks what behind.Unfit = BadOperand ∷ []
-operand_breaks what behind.Unjudged = []
-operand_breaks what behind.NoNumber = BadAddress ∷ []
-operand_breaks what behind.Other = []
-operand_breaks what (behind.Outside name w) = kind_breaks (op_by what (behind.At (some_place name) w)) ++ BadAddress ∷ []
-operand_breaks what behind.NoPointer = kind_breaks (op_by what (behind.Constant some_pointer)) ++ BadAddress ∷ []
-operand_breaks what g = kind_breaks (op_by what g)
-
-abbrev pub instr_breaks : Sight → RawInstr → List Break
-instr_breaks sight raw =
-    map (λ reason. record { line = raw.line; rule = reason }) (operand_breaks (mnemonic_named raw.op.mnemonic) (given sight raw.op.operand))
+-- what an instruction breaks
+abbrev pub instr_breaks : Scope → RawInstr → List Break
+instr_breaks scope raw = broken_by raw.line (op_of scope raw.op)
 
 -- blocks, where others have these numbers before: headings, temporaries and instructions
 abbrev pub blocks_behind : RawProgram → List ℕ → List RawBlock → List Break
@@ -197,7 +120,7 @@ blocks_behind text before [] = []
 blocks_behind text before (raw ∷ raws) =
     let number = block_number text.symbols raw.kind raw.name in
     heading_breaks raw.kind raw.line before number ++ breaks_in most_local (raw.temps ∷ [])
-    ++ flat_map (instr_breaks (sight_of text raw)) raw.body
+    ++ flat_map (instr_breaks (record { text = text; block = raw })) raw.body
     ++ blocks_behind text (with_block_number before number) raws
 
 abbrev pub names : RawProgram → List Break
@@ -205,33 +128,39 @@ names raw =
     symbols_behind [] raw.symbols ++ dbs_behind raw.symbols [] raw.dbs ++ one_too_many (slice_get raw.dbs MOST_BLOCKS)
     ++ blocks_behind raw [] raw.blocks
 
--- Brackets
+-- Bodies: brackets
 
--- what an instruction breaks before which so many brackets are open: one opens where there is no room for
--- it, one closes where none is open, or one is open at the end of a block
-abbrev pub brackets_at : Line → Op → ℕ → List Break
-brackets_at line (op.Bracket c) n = if nat_lt n most_open then [] else broken line TooManyBrackets
-brackets_at line op.Close zero = broken line BracketMissing
-brackets_at line op.BlockEnd (suc n) = broken line BracketOpen
+-- what an instruction breaks before which so many brackets are open: one opens where there is no room for it, or one
+-- closes where none is open
+abbrev pub brackets_at : Line → Option Mnemonic → ℕ → List Break
+brackets_at line (Some (is.Bracket c)) n = if nat_lt n most_open then [] else broken line TooManyBrackets
+brackets_at line (Some is.Close) zero = broken line BracketMissing
 brackets_at line other n = []
 
 -- how many brackets are open behind an instruction; one for which there is no room is open all the same
-abbrev pub open_then : Op → ℕ → ℕ
-open_then (op.Bracket c) n = suc n
-open_then op.Close zero = zero
-open_then op.Close (suc n) = n
+abbrev pub open_then : Option Mnemonic → ℕ → ℕ
+open_then (Some (is.Bracket c)) n = suc n
+open_then (Some is.Close) zero = zero
+open_then (Some is.Close) (suc n) = n
 open_then other n = n
 
--- what instructions break before which so many brackets are open
-abbrev pub brackets_from : ℕ → List Instr → List Break
-brackets_from n [] = []
-brackets_from n (instr ∷ rest) = brackets_at instr.line instr.op n ++ brackets_from (open_then instr.op n) rest
+-- brackets that are open at the end of a block
+abbrev pub open_at_end : Line → ℕ → List Break
+open_at_end line zero = []
+open_at_end line (suc n) = broken line BracketOpen
 
-abbrev pub brackets_in : Block → List Break
-brackets_in block = brackets_from 0 block.body
+-- what instructions break before which so many brackets are open, where the block ends on a line
+abbrev pub brackets_from : Line → ℕ → List RawInstr → List Break
+brackets_from end n [] = open_at_end end n
+brackets_from end n (raw ∷ rest) =
+    let what = mnemonic_named raw.op.mnemonic in
+    brackets_at raw.line what n ++ brackets_from end (open_then what n) rest
 
-abbrev pub brackets : Program → List Break
-brackets program = flat_map brackets_in program.blocks
+abbrev pub body_breaks : RawBlock → List Break
+body_breaks raw = brackets_from raw.end_line 0 raw.body
+
+abbrev pub bodies : RawProgram → List Break
+bodies raw = flat_map body_breaks raw.blocks
 
 -- The text as a whole
 
@@ -247,7 +176,7 @@ no_blocks raw = none_among raw.blocks
 
 -- all that a raw program breaks, a list a stage
 abbrev pub stages : RawProgram → List (List Break)
-stages raw = unbuilt raw ∷ names raw ∷ brackets (program_of raw) ∷ no_blocks raw ∷ []
+stages raw = names raw ∷ bodies raw ∷ no_blocks raw ∷ []
 
 -- the first of some broken rules, or else one of another stage
 abbrev pub or_later : Option Break → Option Break → Option Break

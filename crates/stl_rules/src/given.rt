@@ -5,7 +5,7 @@ use s7_base::Width;
 use status_word::Test;
 use stl_tree::{Constant, Operand};
 
-/// What stands behind a mnemonic, as far as built.
+/// What stands behind a mnemonic.
 #[derive(Clone, Copy)]
 pub enum Given {
     Nothing,
@@ -55,12 +55,9 @@ pub enum Given {
     /// A name that is not declared.
     Unknown,
 
-    /// A name for something that is no operand.
+    /// Something that is no operand, or a name for it.
     Unfit,
 
     /// A path into declarations that break a rule, which is named there.
     Unjudged,
-
-    /// Something that is not built.
-    Other,
 }

@@ -1,15 +1,12 @@
 -- What is made of the first items of a list, and of one more.
-use Rattle.std.proofs.Common.{◌≡◌, ◌<◌, ℕ, ◌+◌, List, [], ◌∷◌, ◌++◌, length, map, take, get_or, Option, Some, None, refl, sym, ap, ◌∙◌, append_assoc}
+use Rattle.std.proofs.Common.{◌≡◌, ◌<◌, ℕ, ◌+◌, List, [], ◌∷◌, ◌++◌, length, take, get_or, Option, Some, None, refl, sym, ap, ◌∙◌, append_assoc}
 use Rattle.std.specs.List.{cons_option, filter_map, flat_map}
 use Rattle.std.specs.Option.{option_to_list}
 use Rattle.std.proofs.lemmas.Grind.{flat_map-append}
-use Rattle.std.proofs.lemmas.List.{append-nil, map-append, take_more}
+use Rattle.std.proofs.lemmas.List.{append-nil}
+use Rattle.name_tables.proofs.Lists.{one_more}
 use Rattle.std.proofs.lemmas.List.Concat.{flat_map-cons}
 use Rattle.std.proofs.lemmas.List.Elements.{filter_map-append}
-
--- the first items with one more
-one_more : {X : Type 0} (xs : List X) (i : ℕ) (x : X) → i < length xs → x ≡ get_or xs i x → take (i + 1) xs ≡ take i xs ++ x ∷ []
-one_more xs i x before is = take_more xs i x before ∙ ap (λ y. take i xs ++ y ∷ []) (sym is)
 
 pub flat_more : {X Y : Type 0} (f : X → List Y) (xs : List X) (i : ℕ) (x : X) → i < length xs → x ≡ get_or xs i x
     → flat_map f (take (i + 1) xs) ≡ flat_map f (take i xs) ++ f x
@@ -35,10 +32,3 @@ pub put_turn : {X Y : Type 0} (h : X → Option Y) (start made later : List Y) (
 put_turn h start made later xs i x before is so_far e =
     e ∙ ap (λ l. l ++ option_to_list (h x)) so_far ∙ append_assoc start (filter_map h (take i xs)) (option_to_list (h x))
     ∙ ap (λ l. start ++ l) (sym (kept_more h xs i x before is))
-
--- one turn of a loop that puts one thing for each item to a list
-pub map_turn : {X Y : Type 0} (f : X → Y) (start made later : List Y) (xs : List X) (i : ℕ) (x : X) → i < length xs → x ≡ get_or xs i x
-    → made ≡ start ++ map f (take i xs) → later ≡ made ++ f x ∷ [] → later ≡ start ++ map f (take (i + 1) xs)
-map_turn f start made later xs i x before is so_far e =
-    e ∙ ap (λ l. l ++ f x ∷ []) so_far ∙ append_assoc start (map f (take i xs)) (f x ∷ [])
-    ∙ ap (λ l. start ++ l) (sym (ap (map f) (one_more xs i x before is) ∙ map-append f (take i xs) (x ∷ [])))

@@ -1,5 +1,5 @@
 -- Where no rule of names, blocks and layouts is broken, the parts that are made are those of the program.
-use Rattle.std.proofs.Common.{◌≡◌, ℕ, Bool, true, false, not, cond, List, [], ◌∷◌, ◌++◌, Option, Some, None, is_none, option_map, slice_get, Result, Ok, Err, refl, sym, ap, ◌∙◌}
+use Rattle.std.proofs.Common.{◌≡◌, ℕ, Bool, true, false, not, cond, List, [], ◌∷◌, ◌++◌, Option, Some, None, is_none, map, slice_get, Result, Ok, Err, refl, sym, ap, ◌∙◌}
 use Rattle.std.specs.List.{cons_option, filter_map, flat_map}
 use Rattle.memory_areas.specs.declared.call.BlockName.TheVariants.{Ob}
 use Rattle.memory_areas.specs.declared.data_block.DataBlock.{DataBlock}
@@ -15,8 +15,8 @@ use Rattle.stl_rules.specs.DataBlocks.{bytes_with, data_numbered, data_of, in_or
 use Rattle.stl_rules.specs.DeclarationRules.{is_named, key_of, with_name}
 use Rattle.stl_rules.specs.Layouts.{breaks_in}
 use Rattle.stl_rules.specs.Names.{block_number, may_have}
-use Rattle.stl_rules.specs.Programs.{block_of, block_with, name_numbered, sight_of, symbol_of}
-use Rattle.stl_rules.specs.Raw.{most_local}
+use Rattle.stl_rules.specs.Programs.{block_name, block_of, block_with, symbol_of}
+use Rattle.stl_rules.specs.Raw.{Scope, most_local}
 use Rattle.stl_rules.specs.Stages.{blocks_behind, broken_if, content_breaks, dbs_behind, heading_breaks, instr_breaks, is_address, is_among, names, one_too_many, symbols_behind, with_block_number}
 use Rattle.stl_rules.specs.Verdict.{answered, resolved}
 use Rattle.stl_tree.specs.declared.program.Block.{Block}
@@ -32,7 +32,7 @@ use Rattle.stl_tree.specs.declared.raw.RawDataKind.TheVariants as data_kind
 use Rattle.stl_tree.specs.declared.raw.RawInitial.{RawInitial}
 use Rattle.stl_tree.specs.declared.raw.RawProgram.{RawProgram}
 use Rattle.stl_tree.specs.declared.raw.SymbolLine.{SymbolLine}
-use Rattle.symbol_names.specs.inner.Kept.{block_kept, bytes_kept, bytes_unless, data_by, data_kept, name_kept, symbol_kept}
+use Rattle.symbol_names.specs.inner.Kept.{block_within, bytes_kept, bytes_unless, data_by, data_kept, name_within, symbol_kept}
 
 -- Lists without an item
 
@@ -113,25 +113,25 @@ few_enough (Some d) h = absurd cc
 -- Blocks
 
 name_is : (kind : BlockKind) (line : Line) (before : List ℕ) (number : Result ℕ Reason) → heading_breaks kind line before number ≡ []
-    → name_kept kind number ≡ name_numbered kind number
-name_is block.Ob line before (Ok n) h = ap (λ b. cond b (Some (Ob n)) None) (number_kept block.Ob line before n h)
-name_is block.Ob line before (Err reason) h = refl
-name_is kind line before number h = refl
+    → name_within kind number ≡ block_name kind number
+name_is kind line before (Ok n) h = ap (λ b. cond b (block_name kind (Ok n)) (Ob 0)) (number_kept kind line before n h)
+name_is kind line before (Err reason) h = absurd cc
 
 blocks_kept : (text : RawProgram) (before : List ℕ) (raws : List RawBlock) → blocks_behind text before raws ≡ []
-    → filter_map (block_kept text) raws ≡ filter_map (block_of text) raws
+    → map (block_within text) raws ≡ map (block_of text) raws
 blocks_kept text before [] h = refl
 blocks_kept text before (raw ∷ raws) h =
+    let scope : Scope = record { text = text; block = raw } in
     let number : Result ℕ Reason = block_number text.symbols raw.kind raw.name in
     let heading : List Break = heading_breaks raw.kind raw.line before number in
     let temps : List Break = breaks_in most_local (raw.temps ∷ []) in
-    let body : List Break = flat_map (instr_breaks (sight_of text raw)) raw.body in
+    let body : List Break = flat_map (instr_breaks scope) raw.body in
     let own : (heading ++ temps) ++ body ≡ [] = front_empty ((heading ++ temps) ++ body) (blocks_behind text (with_block_number before number) raws) h in
     let later : blocks_behind text (with_block_number before number) raws ≡ []
     = back_empty ((heading ++ temps) ++ body) (blocks_behind text (with_block_number before number) raws) h in
     let good : heading ≡ [] = front_empty heading temps (front_empty (heading ++ temps) body own) in
-    ap (λ o. cons_option (option_map (block_with (sight_of text raw) raw) o) (filter_map (block_kept text) raws)) (name_is raw.kind raw.line before number good)
-    ∙ ap (cons_option (block_of text raw)) (blocks_kept text (with_block_number before number) raws later)
+    ap (λ name. block_with scope name ∷ map (block_within text) raws) (name_is raw.kind raw.line before number good)
+    ∙ ap (λ blocks. block_of text raw ∷ blocks) (blocks_kept text (with_block_number before number) raws later)
 
 -- The whole
 
@@ -148,7 +148,7 @@ module _ (raw : RawProgram) where
 
   pub accepted_as : (dbs : List DataBlock) (blocks : List Block) (symbols : List Symbol) → None ≡ first_of_all (names raw)
       → dbs ≡ in_order (filter_map (data_kept (is_none (slice_get raw.dbs MOST_BLOCKS)) raw.symbols) raw.dbs)
-      → blocks ≡ filter_map (block_kept raw) raw.blocks → symbols ≡ filter_map symbol_kept raw.symbols
+      → blocks ≡ map (block_within raw) raw.blocks → symbols ≡ filter_map symbol_kept raw.symbols
       → resolved raw ≡ Ok (record { dbs = dbs; instances = []; blocks = blocks; symbols = symbols })
   accepted_as dbs blocks symbols h d b s =
       let empty : names raw ≡ [] = first_of_all_is_first.none (names raw) (sym h) in
@@ -162,7 +162,7 @@ module _ (raw : RawProgram) where
       let dbs_are : dbs ≡ in_order (filter_map (data_of raw.symbols) raw.dbs)
       = d ∙ ap (λ b. in_order (filter_map (data_kept b raw.symbols) raw.dbs)) keep
       ∙ ap in_order (dbs_kept raw.symbols [] raw.dbs (back_empty own_symbols own_dbs two)) in
-      let blocks_are : blocks ≡ filter_map (block_of raw) raw.blocks = b ∙ blocks_kept raw [] raw.blocks (back_empty ((own_symbols ++ own_dbs) ++ many) own_blocks empty) in
+      let blocks_are : blocks ≡ map (block_of raw) raw.blocks = b ∙ blocks_kept raw [] raw.blocks (back_empty ((own_symbols ++ own_dbs) ++ many) own_blocks empty) in
       let symbols_are : symbols ≡ filter_map symbol_of raw.symbols = s ∙ symbols_kept [] raw.symbols (front_empty own_symbols own_dbs two) in
       sym (ap (answered raw) h) ∙ ap (λ (p : Program). Ok p) (sym (same_program dbs_are blocks_are symbols_are))
 

@@ -1,9 +1,6 @@
-pub mod Built
 pub mod Contents
 pub mod Filtered
 pub mod Firsts
 pub mod Kept
 pub mod Operands
-pub mod Places
-pub mod Tables
 pub mod Turns

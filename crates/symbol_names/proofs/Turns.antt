@@ -14,7 +14,8 @@ use Rattle.stl_tree.specs.declared.raw.RawProgram.{RawProgram}
 use Rattle.stl_tree.specs.declared.raw.SymbolLine.{SymbolLine}
 use Rattle.symbol_names.specs.inner.Firsts.{with_breaks}
 use Rattle.symbol_names.specs.inner.Kept.{block_breaks, db_breaks}
-use Rattle.symbol_names.specs.inner.Places.{block_numbers, db_numbers, line_breaks, names_before, numbers_before}
+use Rattle.name_tables.specs.Before.{block_numbers, db_numbers, names_before, numbers_before}
+use Rattle.symbol_names.specs.inner.Kept.{line_breaks}
 use Rattle.std.specs.List.{flat_map}
 use Rattle.symbol_names.proofs.Filtered.{flat_more}
 use Rattle.symbol_names.proofs.Firsts.{behind, none_more}

@@ -1,4 +1,3 @@
 pub mod Firsts
 pub mod Kept
-pub mod Places
 pub mod Refused

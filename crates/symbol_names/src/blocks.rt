@@ -1,30 +1,26 @@
 //! The organization blocks of a text.
-ghost use Rattle.std.specs.Prelude.{◌≡◌, ◌∷◌, ◌++◌, [], IfOk, OnOk, Ok, map, option_map, take};
-ghost use Rattle.std.specs.List.{filter_map, flat_map};
-ghost use Rattle.std.specs.Option.{option_to_list};
-ghost use Rattle.stl_rules.specs.Programs.{body_of, instr_of, op_by, sight_of};
+ghost use Rattle.std.specs.Prelude.{◌≡◌, ◌∷◌, ◌++◌, [], IfOk, OnOk, Ok, map, take};
+ghost use Rattle.std.specs.List.{flat_map};
+ghost use Rattle.name_tables.specs.Before.{block_numbers, numbers_before};
 ghost use Rattle.stl_rules.specs.Layouts.{breaks_in};
+ghost use Rattle.stl_rules.specs.Programs.{block_name, body_of, instr_of, op_of, or_any};
 ghost use Rattle.stl_rules.specs.Raw.{most_local};
-ghost use Rattle.stl_rules.specs.Stages.{blocks_behind, instr_breaks, kind_breaks, operand_breaks};
-ghost use Rattle.stl_tree.specs.declared.raw.RawData.{RawData};
-ghost use Rattle.symbol_names.specs.inner.Firsts.{reasons_at, with_breaks};
-ghost use Rattle.symbol_names.specs.inner.Kept.{block_breaks, block_kept, body_breaks, instr_with, name_kept};
-ghost use Rattle.symbol_names.specs.inner.Places.{block_numbers, numbers_before};
+ghost use Rattle.stl_rules.specs.Stages.{blocks_behind, instr_breaks};
+ghost use Rattle.symbol_names.specs.inner.Firsts.{with_breaks};
+ghost use Rattle.symbol_names.specs.inner.Kept.{block_breaks, block_within, content_breaks_of, name_within};
 ghost use Rattle.symbol_names.specs.inner.Refused.{own_of};
 
 use crate::first::{join, note};
 use crate::headings::note_heading;
 use crate::laid::Laid;
-use crate::names::{Names, numbers_of_blocks};
-use crate::numbers::Numbers;
-use crate::sight::Sight;
-use instruction_operands::{may_have, op_by, pointer_constant};
-use s7_base::{Break, Line, List, NoMemory, Reason};
+use crate::scope::Scope;
+use component_index::Components;
+use instruction_operands::{may_have, op_or_rule};
+use name_tables::{Names, Numbers, numbers_of_blocks};
+use s7_base::{Break, List, NoMemory, Reason};
 use std::alloc::Global;
 use stl_mnemonics::mnemonic_named;
-use stl_rules::Given;
-use stl_statements::Mnemonic;
-use stl_tree::{Block, BlockKind, BlockName, Instr, Op, Operand, RawBlock, RawInstr};
+use stl_tree::{Block, BlockKind, BlockName, Instr, Op, RawBlock, RawInstr};
 use symbol_layout::first_break;
 
 /// The most bytes of local data.
@@ -33,87 +29,63 @@ const MOST_LOCAL: u32 = 256;
 /// What is found of blocks.
 #[derive(Drop)]
 pub struct Blocks {
-    /// Those with a number of their kind.
+    /// One for each raw block, in the order of the text.
     pub made: List<Block>,
 
     pub first: Option<Break>,
 }
 
-/// An operand that its mnemonic has not.
-#[tactic(auto, using(crate::proofs::Firsts::none_more))]
-fn note_kind(first: &mut Option<Break>, line: Line, what: Option<Mnemonic>, given: Given)
-    ensures { first.new ≡ with_breaks first.old (reasons_at line (kind_breaks (op_by what given))) }
+/// The instruction that a raw one is, any where it breaks a rule, which is noted then.
+#[tactic(auto, using(crate::proofs::Firsts::none_more), unfolding(stl_rules::specs::Programs::op_of))]
+fn op_of(
+    alloc: Global,
+    scope: &Scope<'_, '_>,
+    raw: &RawInstr,
+    first: &mut Option<Break>,
+) -> Result<Op, NoMemory>
+    ensures op { IfOk result (λ op. op ≡ or_any (op_of scope.now raw.now.op)) }
+    ensures first { OnOk result (first.new ≡ with_breaks first.old (instr_breaks scope.now raw.now)) }
 {
-    match op_by(what, given) {
-        Some(_) => {}
-        None => note(first, line, Reason::BadOperand),
-    }
-}
-
-/// What an instruction breaks, by its mnemonic and what stands behind it.
-#[tactic(auto, using(crate::proofs::Firsts::none_more, crate::proofs::Firsts::behind, crate::proofs::Operands::outside_breaks, crate::proofs::Operands::no_pointer_breaks))]
-fn note_operand(first: &mut Option<Break>, line: Line, what: Option<Mnemonic>, given: Given)
-    ensures { first.new ≡ with_breaks first.old (reasons_at line (operand_breaks what given)) }
-{
-    match given {
-        Given::Unknown => note(first, line, Reason::UnknownName),
-        Given::Unfit => note(first, line, Reason::BadOperand),
-        Given::Unjudged | Given::Other => {}
-        Given::NoNumber => note(first, line, Reason::BadAddress),
-        Given::Outside(area, width) => {
-            let some_place = Operand::Direct(area, 0, 0);
-            note_kind(first, line, what, Given::At(some_place, width));
-            note(first, line, Reason::BadAddress);
+    let what = mnemonic_named(raw.op.mnemonic.as_slice());
+    let given = scope.given(alloc, &raw.op.operand)?;
+    match op_or_rule(what, given) {
+        Ok(op) => Ok(op),
+        Err(rule) => {
+            note(first, raw.line, rule);
+            Ok(Op::Nop)
         }
-        Given::NoPointer => {
-            note_kind(first, line, what, Given::Constant(pointer_constant(0)));
-            note(first, line, Reason::BadAddress);
-        }
-        _ => note_kind(first, line, what, given),
     }
 }
 
 /// One more instruction of a body.
-fn put_op(body: &mut List<Instr>, line: Line, op: Option<Op>) -> Result<(), NoMemory>
-    ensures { OnOk result (body.new ≡ body.old ++ option_to_list (instr_with line op)) }
-{
-    match op {
-        Some(op) => body.push(Instr { line, op }),
-        None => Ok(()),
-    }
-}
-
-/// One more instruction of a body, if it is one.
 fn put_instr(
     alloc: Global,
-    sight: &Sight<'_, '_>,
+    scope: &Scope<'_, '_>,
     raw: &RawInstr,
     body: &mut List<Instr>,
     first: &mut Option<Break>,
 ) -> Result<(), NoMemory>
-    ensures body { OnOk result (body.new ≡ body.old ++ option_to_list (instr_of sight.now raw.now)) }
-    ensures first { OnOk result (first.new ≡ with_breaks first.old (instr_breaks sight.now raw.now)) }
+    ensures body { OnOk result (body.new ≡ body.old ++ instr_of scope.now raw.now ∷ []) }
+    ensures first { OnOk result (first.new ≡ with_breaks first.old (instr_breaks scope.now raw.now)) }
 {
-    let what = mnemonic_named(raw.op.mnemonic.as_slice());
-    let given = sight.given(alloc, &raw.op.operand)?;
-    note_operand(first, raw.line, what, given);
-    put_op(body, raw.line, op_by(what, given))
+    let op = op_of(alloc, scope, raw, first)?;
+    body.push(Instr { line: raw.line, op })
 }
 
 /// The instructions of a body but for its end word.
 #[tactic(auto, using(crate::proofs::Firsts::behind, crate::proofs::Firsts::none_more))]
 fn put_instrs(
     alloc: Global,
-    sight: &Sight<'_, '_>,
+    scope: &Scope<'_, '_>,
     raws: &[RawInstr],
     body: &mut List<Instr>,
     first: &mut Option<Break>,
 ) -> Result<(), NoMemory>
-    ensures body { OnOk result (body.new ≡ body.old ++ filter_map (instr_of sight.now) raws.now) }
-    ensures first { OnOk result (first.new ≡ with_breaks first.old (flat_map (instr_breaks sight.now) raws.now)) }
+    ensures body { OnOk result (body.new ≡ body.old ++ map (instr_of scope.now) raws.now) }
+    ensures first { OnOk result (first.new ≡ with_breaks first.old (flat_map (instr_breaks scope.now) raws.now)) }
 {
     for raw in raws {
-        put_instr(alloc, sight, raw, body, first)?;
+        put_instr(alloc, scope, raw, body, first)?;
     }
     Ok(())
 }
@@ -121,15 +93,15 @@ fn put_instrs(
 /// The instructions of a block.
 fn body_of(
     alloc: Global,
-    sight: &Sight<'_, '_>,
-    raw: &RawBlock,
+    scope: &Scope<'_, '_>,
     first: &mut Option<Break>,
 ) -> Result<List<Instr>, NoMemory>
-    ensures body { IfOk result (λ body. body ≡ body_of sight.now raw.now) }
-    ensures first { OnOk result (first.new ≡ with_breaks first.old (flat_map (instr_breaks sight.now) raw.now.body)) }
+    ensures body { IfOk result (λ body. body ≡ body_of scope.now) }
+    ensures first { OnOk result (first.new ≡ with_breaks first.old (flat_map (instr_breaks scope.now) scope.now.block.body)) }
 {
+    let raw = scope.block();
     let mut body = List::new(alloc);
-    put_instrs(alloc, sight, raw.body.as_slice(), &mut body, first)?;
+    put_instrs(alloc, scope, raw.body.as_slice(), &mut body, first)?;
     body.push(Instr {
         line: raw.end_line,
         op: Op::BlockEnd,
@@ -137,44 +109,24 @@ fn body_of(
     Ok(body)
 }
 
-/// The name of a block of a number, where that is one of its kind.
-fn name_numbered(kind: BlockKind, number: u32) -> Option<BlockName>
-    ensures { result ≡ name_kept kind (Ok number) }
+/// The name of a block by its kind and its number.
+fn name_numbered(kind: BlockKind, number: u16) -> BlockName
+    ensures { result ≡ block_name kind (Ok number) }
 {
     match kind {
-        BlockKind::Ob if may_have(BlockKind::Ob, number) => Some(BlockName::Ob(number as u16)),
-        _ => None,
+        BlockKind::Fc => BlockName::Fc(number),
+        BlockKind::Fb => BlockName::Fb(number),
+        BlockKind::Ob | BlockKind::Db => BlockName::Ob(number),
     }
 }
 
-/// The name of a block, where it has a number of its kind.
-fn name_of(kind: BlockKind, number: Result<u32, Reason>) -> Option<BlockName>
-    ensures { result ≡ name_kept kind number }
+/// The name of a block, any where its number is none of its kind.
+fn name_within(kind: BlockKind, number: Result<u32, Reason>) -> BlockName
+    ensures { result ≡ name_within kind number }
 {
     match number {
-        Ok(number) => name_numbered(kind, number),
-        Err(_) => None,
-    }
-}
-
-/// Puts a block to the others, where it has a name.
-fn put_named(
-    alloc: Global,
-    made: &mut List<Block>,
-    line: Line,
-    name: Option<BlockName>,
-    body: List<Instr>,
-) -> Result<(), NoMemory>
-    ensures { OnOk result (made.new ≡ made.old ++ option_to_list (option_map (λ n. record { name = n; line = line; formals = []; body = body }) name)) }
-{
-    match name {
-        Some(name) => made.push(Block {
-            name,
-            line,
-            formals: List::new(alloc),
-            body,
-        }),
-        None => Ok(()),
+        Ok(number) if may_have(kind, number) => name_numbered(kind, number as u16),
+        _ => BlockName::Ob(0),
     }
 }
 
@@ -191,7 +143,8 @@ fn temps_of<'t>(
     let temps = raw.temps.as_slice();
     let temps_first = first_break(alloc, temps, MOST_LOCAL)?;
     join(first, temps_first);
-    Laid::new(alloc, temps, MOST_LOCAL, temps_first.is_some())
+    let components = Components::new(alloc, temps)?;
+    Ok(Laid::new(components, MOST_LOCAL, temps_first.is_some()))
 }
 
 /// The instructions of a block, by what names mean in it.
@@ -204,12 +157,12 @@ fn body_in(
     first: &mut Option<Break>,
 ) -> Result<List<Instr>, NoMemory>
     requires { laid.now ≡ map own_of names.now.dbs }
-    ensures body { IfOk result (λ body. body ≡ body_of (sight_of names.now raw.now) raw.now) }
-    ensures first { OnOk result (first.new ≡ with_breaks first.old (body_breaks names.now raw.now)) }
+    ensures body { IfOk result (λ body. body ≡ body_of (record { text = names.now; block = raw.now })) }
+    ensures first { OnOk result (first.new ≡ with_breaks first.old (content_breaks_of (record { text = names.now; block = raw.now }))) }
 {
     let temps = temps_of(alloc, raw, first)?;
-    let sight = Sight::new(names, laid, &temps);
-    body_of(alloc, &sight, raw, first)
+    let scope = Scope::new(names, laid, raw, &temps);
+    body_of(alloc, &scope, first)
 }
 
 /// One more block.
@@ -224,7 +177,7 @@ fn put_block(
     blocks: &mut Blocks,
 ) -> Result<(), NoMemory>
     requires { laid.now ≡ map own_of names.now.dbs }
-    ensures made { OnOk result (blocks.new.made ≡ blocks.old.made ++ option_to_list (block_kept names.now raw.now)) }
+    ensures made { OnOk result (blocks.new.made ≡ blocks.old.made ++ block_within names.now raw.now ∷ []) }
     ensures first { OnOk result (blocks.new.first ≡ with_breaks blocks.old.first (block_breaks names.now (numbers_before (take place numbers.now)) raw.now)) }
 {
     let number = names.symbols().block_number(alloc, raw.kind, &raw.name)?;
@@ -237,13 +190,12 @@ fn put_block(
         &mut blocks.first,
     );
     let body = body_in(alloc, names, laid, raw, &mut blocks.first)?;
-    put_named(
-        alloc,
-        &mut blocks.made,
-        raw.line,
-        name_of(raw.kind, number),
+    blocks.made.push(Block {
+        name: name_within(raw.kind, number),
+        line: raw.line,
+        formals: List::new(alloc),
         body,
-    )
+    })
 }
 
 /// The numbers of blocks.
@@ -265,7 +217,7 @@ fn put_each(
 ) -> Result<(), NoMemory>
     requires laid { laid.now ≡ map own_of names.now.dbs }
     requires numbers { numbers.now ≡ block_numbers names.now.symbols raws.now }
-    ensures made { OnOk result (blocks.new.made ≡ blocks.old.made ++ filter_map (block_kept names.now) raws.now) }
+    ensures made { OnOk result (blocks.new.made ≡ blocks.old.made ++ map (block_within names.now) raws.now) }
     ensures first { OnOk result (blocks.new.first ≡ with_breaks blocks.old.first (blocks_behind names.now [] raws.now)) }
 {
     for place in 0..raws.len() {
@@ -284,7 +236,7 @@ fn put_all(
     blocks: &mut Blocks,
 ) -> Result<(), NoMemory>
     requires { laid.now ≡ map own_of names.now.dbs }
-    ensures made { OnOk result (blocks.new.made ≡ blocks.old.made ++ filter_map (block_kept names.now) raws.now) }
+    ensures made { OnOk result (blocks.new.made ≡ blocks.old.made ++ map (block_within names.now) raws.now) }
     ensures first { OnOk result (blocks.new.first ≡ with_breaks blocks.old.first (blocks_behind names.now [] raws.now)) }
 {
     let numbers = numbers_of(alloc, names, raws)?;
@@ -300,7 +252,7 @@ pub fn put_blocks(
     first: Option<Break>,
 ) -> Result<Blocks, NoMemory>
     requires { laid.now ≡ map own_of names.now.dbs }
-    ensures made { IfOk result (λ b. b.made ≡ filter_map (block_kept names.now) raws.now) }
+    ensures made { IfOk result (λ b. b.made ≡ map (block_within names.now) raws.now) }
     ensures first { IfOk result (λ b. b.first ≡ with_breaks first (blocks_behind names.now [] raws.now)) }
 {
     let mut blocks = Blocks {

@@ -11,25 +11,25 @@ ghost use Rattle.stl_tree.specs.declared.raw.BlockKind.TheVariants as block;
 ghost use Rattle.stl_tree.specs.declared.raw.RawDataKind.TheVariants as data_kind;
 ghost use Rattle.symbol_names.specs.inner.Firsts.{with_breaks};
 ghost use Rattle.symbol_names.specs.inner.Kept.{bytes_kept, data_by, data_kept, db_breaks, kept_if};
-ghost use Rattle.symbol_names.specs.inner.Places.{db_numbers, numbers_before};
+ghost use Rattle.name_tables.specs.Before.{db_numbers, numbers_before};
 ghost use Rattle.symbol_names.specs.inner.Refused.{decls_of, is_refused, own_of};
 
 use crate::first::{join, note};
 use crate::headings::note_heading;
 use crate::laid::Laid;
-use crate::names::Names;
+use component_index::Components;
 use data_contents::{Content, content_of};
 use instruction_operands::may_have;
 use memory_areas::{DataBlock, MOST_BLOCKS};
+use name_tables::Names;
 use s7_base::{Break, List, NoMemory, Reason};
 use std::alloc::Global;
 use stl_tree::{BlockKind, Declaration, RawData, RawDataKind, RawInitial};
-use symbol_layout::first_break;
 
 /// The most bytes of a data block.
 const MOST_IN_BLOCK: u32 = 16_384;
 
-/// What a data block holds.
+/// What a data block comes to.
 #[derive(Drop)]
 struct Filled {
     /// Its declarations break a rule.
@@ -55,12 +55,16 @@ pub struct Found<'t> {
 
 /// What declarations and initial values come to.
 #[tactic(auto, using(crate::proofs::Contents::content_lemmas))]
-fn fill_own(alloc: Global, decls: &[Declaration], values: &[RawInitial]) -> Result<Filled, NoMemory>
-    ensures refused { IfOk result (λ f. f.refused ≡ is_refused (data_kind.Own decls.now)) }
-    ensures first { IfOk result (λ f. f.first ≡ first_of_all (content_breaks values.now (data_kind.Own decls.now))) }
-    ensures bytes { IfOk result (λ f. f.bytes ≡ bytes_kept values.now (data_kind.Own decls.now)) }
+fn fill_own(
+    alloc: Global,
+    components: &Components<'_>,
+    values: &[RawInitial],
+) -> Result<Filled, NoMemory>
+    ensures refused { IfOk result (λ f. f.refused ≡ is_refused (data_kind.Own components.now)) }
+    ensures first { IfOk result (λ f. f.first ≡ first_of_all (content_breaks values.now (data_kind.Own components.now))) }
+    ensures bytes { IfOk result (λ f. f.bytes ≡ bytes_kept values.now (data_kind.Own components.now)) }
 {
-    match content_of(alloc, decls, values)? {
+    match content_of(alloc, components, values)? {
         Content::Bytes(bytes) => Ok(Filled {
             refused: false,
             first: None,
@@ -79,14 +83,15 @@ fn fill_own(alloc: Global, decls: &[Declaration], values: &[RawInitial]) -> Resu
     }
 }
 
-/// What a data block comes to.
-fn fill(alloc: Global, d: &RawData) -> Result<Filled, NoMemory>
+/// What a data block comes to, by the index of its declarations.
+fn fill(alloc: Global, components: &Components<'_>, d: &RawData) -> Result<Filled, NoMemory>
+    requires { components.now ≡ decls_of d.now.kind }
     ensures refused { IfOk result (λ f. f.refused ≡ is_refused d.now.kind) }
     ensures first { IfOk result (λ f. f.first ≡ first_of_all (content_breaks d.now.initial d.now.kind)) }
     ensures bytes { IfOk result (λ f. f.bytes ≡ bytes_kept d.now.initial d.now.kind) }
 {
-    match &d.kind {
-        RawDataKind::Own(decls) => fill_own(alloc, decls.as_slice(), d.initial.as_slice()),
+    match d.kind {
+        RawDataKind::Own(_) => fill_own(alloc, components, d.initial.as_slice()),
         RawDataKind::Instance(_) => Ok(Filled {
             refused: false,
             first: None,
@@ -133,22 +138,18 @@ fn put_made(
     }
 }
 
-/// The declarations of a data block, given whether they break a rule.
-fn laid_of(alloc: Global, kind: &RawDataKind, refused: bool) -> Result<Laid<'_>, NoMemory>
-    requires { refused ≡ is_refused kind.now }
-    ensures { IfOk result (λ laid. laid ≡ (most_in_block, decls_of kind.now)) }
+/// The declarations of a data block; an instance has none of its own.
+fn decls_of(kind: &RawDataKind) -> &[Declaration]
+    ensures { result.now ≡ decls_of kind.now }
 {
     match kind {
-        RawDataKind::Own(decls) => Laid::new(alloc, decls.as_slice(), MOST_IN_BLOCK, refused),
-        RawDataKind::Instance(_) => {
-            let none = first_break(alloc, &[], MOST_IN_BLOCK)?;
-            Laid::new(alloc, &[], MOST_IN_BLOCK, none.is_some())
-        }
+        RawDataKind::Own(decls) => decls.as_slice(),
+        RawDataKind::Instance(_) => &[],
     }
 }
 
 /// One more data block.
-#[tactic(auto, using(crate::proofs::Firsts::behind, crate::proofs::Firsts::joins))]
+#[tactic(auto, using(crate::proofs::Firsts::behind, crate::proofs::Firsts::joins, crate::proofs::Contents::refused_is))]
 fn put_data<'t>(
     alloc: Global,
     names: &Names<'_>,
@@ -171,14 +172,17 @@ fn put_data<'t>(
         number,
         &mut found.first,
     );
+    let components = Components::new(alloc, decls_of(&d.kind))?;
     let Filled {
         refused,
         first,
         bytes,
-    } = fill(alloc, d)?;
+    } = fill(alloc, &components, d)?;
     join(&mut found.first, first);
     put_made(&mut found.made, keep, data_by(number, bytes))?;
-    found.laid.push(laid_of(alloc, &d.kind, refused)?)?;
+    found
+        .laid
+        .push(Laid::new(components, MOST_IN_BLOCK, refused))?;
     Ok(())
 }
 

@@ -3,12 +3,12 @@ ghost use Rattle.std.specs.Prelude.{◌≡◌, [], OnOk, take};
 ghost use Rattle.stl_rules.specs.DeclarationRules.{is_named, key_of};
 ghost use Rattle.stl_rules.specs.Stages.{broken_if, heading_breaks, is_address, symbols_behind};
 ghost use Rattle.symbol_names.specs.inner.Firsts.{with_breaks};
-ghost use Rattle.symbol_names.specs.inner.Places.{line_breaks, names_before, numbers_before};
+ghost use Rattle.name_tables.specs.Before.{names_before, numbers_before};
+ghost use Rattle.symbol_names.specs.inner.Kept.{line_breaks};
 
 use crate::first::{note, note_if};
-use crate::numbers::Numbers;
-use crate::symbols::Symbols;
 use instruction_operands::may_have;
+use name_tables::{Numbers, Symbols};
 use s7_base::{Break, Line, NoMemory, Reason};
 use std::alloc::Global;
 use stl_places::is_in_area;

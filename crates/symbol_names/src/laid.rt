@@ -9,7 +9,7 @@ use s7_base::NoMemory;
 use std::alloc::Global;
 use std::marker::Model;
 use stl_rules::Given;
-use stl_tree::{Declaration, PathStep};
+use stl_tree::PathStep;
 
 /// The declarations of a block. Contracts see them behind the most bytes that they may take.
 #[derive(Drop)]
@@ -41,21 +41,15 @@ impl<'d> Model for Laid<'d> {
 
 impl<'d> Laid<'d> {
     /// Declarations that break a rule within a limit, or none.
-    pub fn new(
-        alloc: Global,
-        decls: &'d [Declaration],
-        limit: u32,
-        refused: bool,
-    ) -> Result<Laid<'d>, NoMemory>
-        requires { refused ≡ are_refused limit decls.now }
-        ensures { IfOk result (λ laid. laid ≡ (limit, decls.now)) }
+    pub fn new(components: Components<'d>, limit: u32, refused: bool) -> Laid<'d>
+        requires { refused ≡ are_refused limit components }
+        ensures { result ≡ (limit, components.entry) }
     {
-        let components = Components::new(alloc, decls)?;
-        Ok(Laid {
+        Laid {
             limit,
             refused,
             components,
-        })
+        }
     }
 
     /// What a path names, in an area or in the data block of a number.

@@ -1,5 +1,5 @@
 //! The program of a raw program, or the first rule of names, blocks and layouts that it breaks.
-ghost use Rattle.std.specs.Prelude.{◌≡◌, ◌++◌, ◌<◌, IfOk, OnOk, is_none, slice_get};
+ghost use Rattle.std.specs.Prelude.{◌≡◌, ◌++◌, ◌<◌, IfOk, OnOk, is_none, map, slice_get};
 ghost use Rattle.std.specs.List.{filter_map};
 ghost use Rattle.std.specs.Option.{option_to_list};
 ghost use Rattle.memory_areas.specs.declared.sizes.TheConstants.{MOST_BLOCKS};
@@ -8,14 +8,14 @@ ghost use Rattle.s7_base.specs.Broken.{first_of_all};
 ghost use Rattle.stl_rules.specs.Programs.{symbol_area, symbol_in};
 ghost use Rattle.stl_rules.specs.Stages.{names as names_stage};
 ghost use Rattle.stl_rules.specs.Verdict.{resolved};
-ghost use Rattle.symbol_names.specs.inner.Kept.{block_kept, data_kept, symbol_kept};
+ghost use Rattle.symbol_names.specs.inner.Kept.{block_within, data_kept, symbol_kept};
 
 use crate::blocks::{Blocks, put_blocks};
 use crate::data::{Found, note_too_many, put_dbs};
 use crate::headings::{is_address, note_symbols};
-use crate::names::Names;
 use data_contents::in_order;
 use memory_areas::{Area, AreaName, DataBlock, Place};
+use name_tables::Names;
 use s7_base::{Break, List, NoMemory, Rejection};
 use std::alloc::Global;
 use stl_tree::{Block, Program, RawPlace, RawProgram, Symbol, SymbolAddress, SymbolLine};
@@ -33,7 +33,7 @@ struct Parts {
 fn parts_by(alloc: Global, names: &Names<'_>, raw: &RawProgram) -> Result<Parts, NoMemory>
     requires { names.now ≡ raw.now }
     ensures dbs { IfOk result (λ p. p.dbs ≡ filter_map (data_kept (is_none (slice_get raw.now.dbs MOST_BLOCKS)) raw.now.symbols) raw.now.dbs) }
-    ensures blocks { IfOk result (λ p. p.blocks ≡ filter_map (block_kept raw.now) raw.now.blocks) }
+    ensures blocks { IfOk result (λ p. p.blocks ≡ map (block_within raw.now) raw.now.blocks) }
     ensures first { IfOk result (λ p. p.first ≡ first_of_all (names_stage raw.now)) }
 {
     let mut first = None;
@@ -56,7 +56,7 @@ fn parts_by(alloc: Global, names: &Names<'_>, raw: &RawProgram) -> Result<Parts,
 /// All that a raw program breaks, and the parts that can be made.
 fn parts_of(alloc: Global, raw: &RawProgram) -> Result<Parts, NoMemory>
     ensures dbs { IfOk result (λ p. p.dbs ≡ filter_map (data_kept (is_none (slice_get raw.now.dbs MOST_BLOCKS)) raw.now.symbols) raw.now.dbs) }
-    ensures blocks { IfOk result (λ p. p.blocks ≡ filter_map (block_kept raw.now) raw.now.blocks) }
+    ensures blocks { IfOk result (λ p. p.blocks ≡ map (block_within raw.now) raw.now.blocks) }
     ensures first { IfOk result (λ p. p.first ≡ first_of_all (names_stage raw.now)) }
 {
     let names = Names::new(alloc, raw)?;

@@ -1,10 +1,8 @@
 -- The first of the broken rules so far.
-use Rattle.std.specs.Prelude.{List, map, Option, Some, None}
+use Rattle.std.specs.Prelude.{List, Option, Some, None}
 use Rattle.std.specs.List.{fold}
 use Rattle.s7_base.specs.Broken.{sooner}
 use Rattle.s7_base.specs.declared.broken.Break.{Break}
-use Rattle.s7_base.specs.declared.reason.Line.{Line}
-use Rattle.s7_base.specs.declared.reason.Reason.{Reason}
 
 -- the first so far, and that of some more
 unfoldable pub with_breaks : Option Break → List Break → Option Break
@@ -14,7 +12,3 @@ with_breaks first breaks = fold sooner first breaks
 abbrev pub joined : Option Break → Option Break → Option Break
 joined first None = first
 joined first (Some other) = sooner first other
-
--- rules that are broken on a line
-abbrev pub reasons_at : Line → List Reason → List Break
-reasons_at line reasons = map (λ reason. record { line = line; rule = reason }) reasons

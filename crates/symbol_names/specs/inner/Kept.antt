@@ -1,22 +1,21 @@
 -- The parts of a program as far as they can be made: those that break no rule of names, blocks and layouts.
-use Rattle.std.specs.Prelude.{ℕ, Bool, true, false, if◌then◌else◌, List, ◌++◌, ◌∷◌, [], Option, Some, None, option_map, Result, Ok}
+use Rattle.std.specs.Prelude.{ℕ, Bool, true, false, not, if◌then◌else◌, List, ◌++◌, ◌∷◌, [], Option, Some, None, Result, Ok, Err}
 use Rattle.std.specs.List.{flat_map}
 use Rattle.memory_areas.specs.declared.call.BlockName.{BlockName}
 use Rattle.memory_areas.specs.declared.call.BlockName.TheVariants.{Ob}
 use Rattle.memory_areas.specs.declared.data_block.DataBlock.{DataBlock}
 use Rattle.s7_base.specs.Broken.{first_of_all}
 use Rattle.s7_base.specs.declared.broken.Break.{Break}
-use Rattle.s7_base.specs.declared.reason.Line.{Line}
 use Rattle.s7_base.specs.declared.reason.Reason.{Reason}
+use Rattle.s7_base.specs.declared.reason.Reason.TheVariants.{BadAddress, DuplicateName}
 use Rattle.stl_rules.specs.DataBlocks.{bytes_with}
 use Rattle.stl_rules.specs.Layouts.{breaks_in}
 use Rattle.stl_rules.specs.Names.{block_number, may_have}
-use Rattle.stl_rules.specs.Programs.{block_with, sight_of, symbol_of}
-use Rattle.stl_rules.specs.Raw.{most_local}
-use Rattle.stl_rules.specs.Stages.{content_breaks, heading_breaks, instr_breaks, is_address}
+use Rattle.stl_rules.specs.Programs.{block_name, block_with, symbol_of}
+use Rattle.stl_rules.specs.Raw.{Scope, most_local}
+use Rattle.stl_rules.specs.DeclarationRules.{is_named, key_of}
+use Rattle.stl_rules.specs.Stages.{broken_if, content_breaks, heading_breaks, instr_breaks, is_address}
 use Rattle.stl_tree.specs.declared.program.Block.{Block}
-use Rattle.stl_tree.specs.declared.program.Instr.{Instr}
-use Rattle.stl_tree.specs.declared.program.Op.{Op}
 use Rattle.stl_tree.specs.declared.program.Symbol.{Symbol}
 use Rattle.stl_tree.specs.declared.raw.BlockKind.{BlockKind}
 use Rattle.stl_tree.specs.declared.raw.BlockKind.TheVariants as block
@@ -59,28 +58,29 @@ data_kept keep symbols d = kept_if keep (data_by (block_number symbols block.Db 
 -- Blocks
 
 -- what the temporaries and the instructions break
-abbrev pub body_breaks : RawProgram → RawBlock → List Break
-body_breaks text raw = breaks_in most_local (raw.temps ∷ []) ++ flat_map (instr_breaks (sight_of text raw)) raw.body
+abbrev pub content_breaks_of : Scope → List Break
+content_breaks_of scope = breaks_in most_local (scope.block.temps ∷ []) ++ flat_map (instr_breaks scope) scope.block.body
 
 -- what a heading, the temporaries and the instructions break
 abbrev pub block_breaks : RawProgram → List ℕ → RawBlock → List Break
 block_breaks text before raw =
     heading_breaks raw.kind raw.line before (block_number text.symbols raw.kind raw.name) ++ breaks_in most_local (raw.temps ∷ [])
-    ++ flat_map (instr_breaks (sight_of text raw)) raw.body
+    ++ flat_map (instr_breaks (record { text = text; block = raw })) raw.body
 
--- an instruction on its line, if it is one
-abbrev pub instr_with : Line → Option Op → Option Instr
-instr_with line what = option_map (λ o. record { line = line; op = o }) what
+-- the name of a block, any where its number is none of its kind
+abbrev pub name_within : BlockKind → Result ℕ Reason → BlockName
+name_within kind (Ok n) = if may_have kind n then block_name kind (Ok n) else Ob 0
+name_within kind (Err reason) = Ob 0
 
--- the name of a block, where its number is one of its kind
-abbrev pub name_kept : BlockKind → Result ℕ Reason → Option BlockName
-name_kept block.Ob (Ok n) = if may_have block.Ob n then Some (Ob n) else None
-name_kept unbuilt number = None
-
-abbrev pub block_kept : RawProgram → RawBlock → Option Block
-block_kept text raw = option_map (block_with (sight_of text raw) raw) (name_kept raw.kind (block_number text.symbols raw.kind raw.name))
+abbrev pub block_within : RawProgram → RawBlock → Block
+block_within text raw =
+    block_with (record { text = text; block = raw }) (name_within raw.kind (block_number text.symbols raw.kind raw.name))
 
 -- Symbols
 
 abbrev pub symbol_kept : SymbolLine → Option Symbol
 symbol_kept line = if is_address line.address then symbol_of line else None
+
+-- what a line breaks, where these names stand before
+abbrev pub line_breaks : List (List ℕ) → SymbolLine → List Break
+line_breaks names line = broken_if (is_named (key_of line.name) names) line.line DuplicateName ++ broken_if (not (is_address line.address)) line.line BadAddress

@@ -5,6 +5,6 @@ use Rattle.data_contents.proofs.content.filled.Goals as goal
 
 pub put_values-requires : goal.put_values-requires
 put_values-requires c =
-    subst (λ bytes. AreInside (length bytes) c.args.decls.now)
+    subst (λ bytes. AreInside (length bytes) c.args.components.now)
     (sym (c.as_mut_slice.ensures.value ∙ c.into_vec-bytes.ensures ∙ c.requires.initial))
-    (all_inside c.args.decls.now c.requires.kept)
+    (all_inside c.args.components.now c.requires.kept)

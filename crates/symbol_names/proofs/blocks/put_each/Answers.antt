@@ -1,10 +1,9 @@
-use Rattle.std.proofs.Common.{◌≡◌, ◌++◌, refl, ap, sym, take, ◌∙◌}
-use Rattle.std.specs.List.{filter_map}
+use Rattle.std.proofs.Common.{◌≡◌, ◌++◌, map, refl, ap, sym, take, ◌∙◌}
 use Rattle.std.proofs.lemmas.List.{append-nil, take_all}
 use Rattle.symbol_names.specs.inner.Firsts.{with_breaks}
-use Rattle.symbol_names.specs.inner.Kept.{block_breaks, block_kept}
-use Rattle.symbol_names.specs.inner.Places.{block_numbers, numbers_before}
-use Rattle.symbol_names.proofs.Filtered.{put_turn}
+use Rattle.symbol_names.specs.inner.Kept.{block_breaks, block_within}
+use Rattle.name_tables.specs.Before.{block_numbers, numbers_before}
+use Rattle.name_tables.proofs.Lists.{map_turn}
 use Rattle.symbol_names.proofs.Turns.{block_turn, blocks_ended}
 use Rattle.symbol_names.proofs.blocks.put_each.Goals as goal
 
@@ -19,7 +18,7 @@ loop-place-preserved c =
     let first = c.loop-place.blocks.first in
     let noted : c.put_block.new.blocks.first ≡ with_breaks first (block_breaks text (numbers_before (take place (block_numbers text.symbols c.args.raws.now))) raw)
     = c.in_ok-put_block.ensures.first ∙ ap (λ all. with_breaks first (block_breaks text (numbers_before (take place all)) raw)) c.requires.numbers in (
-      put_turn (block_kept text) c.args.blocks.now.made c.loop-place.blocks.made c.put_block.new.blocks.made c.args.raws.now place raw c.loop-place-test.true
+      map_turn (block_within text) c.args.blocks.now.made c.loop-place.blocks.made c.put_block.new.blocks.made c.args.raws.now place raw c.loop-place-test.true
           c.index-raws-place.is c.loop-place.invariant.0 c.in_ok-put_block.ensures.made,
       block_turn text first c.put_block.new.blocks.first _ c.args.raws.now place raw c.loop-place-test.true c.index-raws-place.is noted c.loop-place.invariant.1,
     )
@@ -27,7 +26,7 @@ loop-place-preserved c =
 pub returns-clause-made : goal.returns-clause-made
 returns-clause-made c =
     c.loop-place.invariant.0
-    ∙ ap (λ raws. c.args.blocks.now.made ++ filter_map (block_kept c.args.names.now) raws) (take_all c.loop-place.place c.args.raws.now c.loop-place-test.false)
+    ∙ ap (λ raws. c.args.blocks.now.made ++ map (block_within c.args.names.now) raws) (take_all c.loop-place.place c.args.raws.now c.loop-place-test.false)
 
 pub returns-clause-first : goal.returns-clause-first
 returns-clause-first c =

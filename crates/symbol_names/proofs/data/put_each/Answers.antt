@@ -5,9 +5,10 @@ use Rattle.stl_rules.specs.Names.{block_number}
 use Rattle.stl_tree.specs.declared.raw.BlockKind.TheVariants as block
 use Rattle.symbol_names.specs.inner.Firsts.{with_breaks}
 use Rattle.symbol_names.specs.inner.Kept.{data_kept, db_breaks}
-use Rattle.symbol_names.specs.inner.Places.{db_numbers, numbers_before}
+use Rattle.name_tables.specs.Before.{db_numbers, numbers_before}
 use Rattle.symbol_names.specs.inner.Refused.{own_of}
-use Rattle.symbol_names.proofs.Filtered.{map_turn, put_turn}
+use Rattle.name_tables.proofs.Lists.{map_turn}
+use Rattle.symbol_names.proofs.Filtered.{put_turn}
 use Rattle.symbol_names.proofs.Turns.{db_turn, dbs_ended}
 use Rattle.symbol_names.proofs.data.put_each.Goals as goal
 

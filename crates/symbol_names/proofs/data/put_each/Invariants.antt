@@ -3,7 +3,7 @@ use Rattle.std.specs.List.{filter_map}
 use Rattle.stl_rules.specs.Stages.{dbs_behind}
 use Rattle.symbol_names.specs.inner.Firsts.{with_breaks}
 use Rattle.symbol_names.specs.inner.Kept.{data_kept}
-use Rattle.symbol_names.specs.inner.Places.{db_numbers, numbers_before}
+use Rattle.name_tables.specs.Before.{db_numbers, numbers_before}
 use Rattle.symbol_names.specs.inner.Refused.{own_of}
 use Rattle.symbol_names.proofs.data.put_each.Given as goal
 

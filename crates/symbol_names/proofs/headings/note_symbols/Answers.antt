@@ -1,6 +1,7 @@
 use Rattle.std.proofs.Common.{◌≡◌, ap, take, ◌∙◌}
 use Rattle.symbol_names.specs.inner.Firsts.{with_breaks}
-use Rattle.symbol_names.specs.inner.Places.{line_breaks, names_before}
+use Rattle.name_tables.specs.Before.{names_before}
+use Rattle.symbol_names.specs.inner.Kept.{line_breaks}
 use Rattle.symbol_names.proofs.Turns.{symbol_turn, symbols_ended}
 use Rattle.symbol_names.proofs.headings.note_symbols.Goals as goal
 

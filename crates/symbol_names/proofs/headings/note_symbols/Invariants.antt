@@ -1,7 +1,7 @@
 use Rattle.std.proofs.Common.{◌≡◌, [], take, drop}
 use Rattle.stl_rules.specs.Stages.{symbols_behind}
 use Rattle.symbol_names.specs.inner.Firsts.{with_breaks}
-use Rattle.symbol_names.specs.inner.Places.{names_before}
+use Rattle.name_tables.specs.Before.{names_before}
 use Rattle.symbol_names.proofs.headings.note_symbols.Given as goal
 
 -- what is found and what the rest breaks are what all lines break

@@ -1,0 +1,124 @@
+//! What names mean in a text.
+ghost use Rattle.std.specs.Prelude.{◌≡◌, ◌∷◌, ◌++◌, [], IfOk, OnOk, option_and_then, slice_get};
+ghost use Rattle.stl_rules.specs.Names.{block_number, db_numbered};
+ghost use Rattle.name_tables.specs.Before.{block_numbers, db_numbers};
+
+use crate::numbers::Numbers;
+use crate::symbols::Symbols;
+use s7_base::{NoMemory, Reason};
+use std::alloc::Global;
+use std::marker::Model;
+use stl_tree::{BlockKind, RawBlock, RawData, RawName, RawProgram};
+
+/// A text whose names are found by maps. Contracts see the text.
+#[derive(Drop)]
+pub struct Names<'t> {
+    text: &'t RawProgram,
+    symbols: Symbols<'t>,
+    dbs: Numbers,
+}
+
+impl<'t> Model for Names<'t> {
+    ghost use Rattle.std.specs.Prelude.{◌≡◌};
+    ghost use Rattle.stl_tree.specs.declared.raw.RawProgram.{RawProgram};
+    ghost use Rattle.name_tables.specs.Before.{db_numbers};
+    ghost use Rattle.std.specs.Coded.{codes};
+    ghost use Rattle.stl_tree.specs.contracts.raw.DeclType as declared;
+    ghost use Rattle.stl_tree.specs.contracts.raw.Declaration as declaration;
+    ghost use Rattle.stl_tree.specs.contracts.raw.RawOperand as operand;
+
+    ghost Value = { RawProgram };
+
+    ghost coded = { Prim.hlevel (codes, declared.the_row.coded, declaration.the_row.coded, operand.the_row.coded) };
+
+    ghost view = { λ n. n.text.now };
+
+    ghost invariant = { λ n. (n.symbols ≡ n.text.now.symbols)
+        × (n.dbs ≡ db_numbers n.text.now.symbols n.text.now.dbs) };
+}
+
+/// The number of one more block.
+fn put_number(
+    alloc: Global,
+    symbols: &Symbols<'_>,
+    kind: BlockKind,
+    name: &RawName,
+    numbers: &mut Vec<Result<u32, Reason>>,
+) -> Result<(), NoMemory>
+    ensures { OnOk result (numbers.new.items ≡ numbers.old.items ++ block_number symbols.now kind name.now ∷ []) }
+{
+    let number = symbols.block_number(alloc, kind, name)?;
+    numbers.push(number)?;
+    Ok(())
+}
+
+/// The numbers of data blocks.
+fn numbers_of_dbs(
+    alloc: Global,
+    symbols: &Symbols<'_>,
+    dbs: &[RawData],
+) -> Result<Vec<Result<u32, Reason>>, NoMemory>
+    ensures { IfOk result (λ numbers. numbers.items ≡ db_numbers symbols.now dbs.now) }
+{
+    let mut numbers = Vec::new(alloc);
+    for d in dbs {
+        put_number(alloc, symbols, BlockKind::Db, &d.name, &mut numbers)?;
+    }
+    Ok(numbers)
+}
+
+/// The numbers of the other blocks.
+pub fn numbers_of_blocks(
+    alloc: Global,
+    symbols: &Symbols<'_>,
+    blocks: &[RawBlock],
+) -> Result<Vec<Result<u32, Reason>>, NoMemory>
+    ensures { IfOk result (λ numbers. numbers.items ≡ block_numbers symbols.now blocks.now) }
+{
+    let mut numbers = Vec::new(alloc);
+    for raw in blocks {
+        put_number(alloc, symbols, raw.kind, &raw.name, &mut numbers)?;
+    }
+    Ok(numbers)
+}
+
+impl<'t> Names<'t> {
+    /// The names of a text.
+    pub fn new(alloc: Global, text: &'t RawProgram) -> Result<Names<'t>, NoMemory>
+        ensures { IfOk result (λ names. names ≡ text.now) }
+    {
+        let symbols = Symbols::new(alloc, text.symbols.as_slice())?;
+        let numbers = numbers_of_dbs(alloc, &symbols, text.dbs.as_slice())?;
+        let dbs = Numbers::new(alloc, numbers)?;
+        Ok(Names { text, symbols, dbs })
+    }
+
+    /// The text.
+    pub fn text(&self) -> &'t RawProgram
+        ensures { result.now ≡ self.now }
+    {
+        self.text
+    }
+
+    /// Its symbols.
+    pub fn symbols(&self) -> &Symbols<'t>
+        ensures { result.now ≡ self.now.symbols }
+    {
+        &self.symbols
+    }
+
+    /// The numbers of its data blocks.
+    pub fn dbs(&self) -> &Numbers
+        ensures { result.now ≡ db_numbers self.now.symbols self.now.dbs }
+    {
+        &self.dbs
+    }
+
+    /// The place of the data block of a number.
+    #[tactic(auto, using(crate::proofs::Places::db_at))]
+    pub fn place_of_db(&self, number: u32) -> Option<usize>
+        ensures { option_and_then (λ place. slice_get self.now.dbs place) result ≡ db_numbered self.now.symbols self.now.dbs number }
+    {
+        self.dbs.place_of(number)
+    }
+}

@@ -1,0 +1,26 @@
+-- Brackets by numbers.
+use Rattle.std.proofs.Common.{◌≡◌, ◌≢◌, ℕ, zero, suc, ◌-◌, [], Some, refl}
+use native.Mathlib.Numerals.{unary_clauses}
+use Rattle.s7_base.specs.Broken.{broken}
+use Rattle.s7_base.specs.declared.reason.Line.{Line}
+use Rattle.s7_base.specs.declared.reason.Reason.TheVariants.{BracketMissing, BracketOpen}
+use Rattle.stl_rules.specs.Stages.{brackets_at, open_at_end, open_then}
+use Rattle.stl_statements.specs.declared.mnemonic.Mnemonic.TheVariants as is
+
+pub close_missing : (line : Line) → brackets_at line (Some is.Close) 0 ≡ broken line BracketMissing
+close_missing line = refl
+
+pub close_there : (line : Line) (n : ℕ) → n ≢ 0 → brackets_at line (Some is.Close) n ≡ []
+close_there line zero h = absurd (h refl)
+close_there line (suc n) h = refl
+
+pub end_closed : (line : Line) → open_at_end line 0 ≡ []
+end_closed line = refl
+
+pub end_open : (line : Line) (n : ℕ) → n ≢ 0 → open_at_end line n ≡ broken line BracketOpen
+end_open line zero h = absurd (h refl)
+end_open line (suc n) h = refl
+
+pub close_then : (n : ℕ) → open_then (Some is.Close) n ≡ n - 1
+close_then zero = refl
+close_then (suc n) = simp unary_clauses refl

@@ -1,6 +1,0 @@
-use Rattle.std.proofs.Common.{◌≡◌, take}
-use Rattle.symbol_names.specs.inner.Places.{db_numbers}
-use Rattle.symbol_names.proofs.names.numbers_of_dbs.Given as goal
-
-abbrev pub invariant-loop-d : goal.invariant-loop-d
-invariant-loop-d l = l.numbers.items ≡ db_numbers l.symbols (take l.d-index l.dbs)

@@ -1,6 +1,0 @@
-use Rattle.std.proofs.Common.{take}
-use Rattle.symbol_names.specs.inner.Places.{AreNumberPlaces}
-use Rattle.symbol_names.proofs.numbers.places_of.Given as goal
-
-abbrev pub invariant-loop-place : goal.invariant-loop-place
-invariant-loop-place l = AreNumberPlaces (take l.place l.numbers) l.places.entries
