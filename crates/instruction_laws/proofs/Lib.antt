@@ -1,0 +1,5 @@
+mod Beside
+mod BitRows
+mod EffectRows
+mod NumberRows
+mod WordRows

@@ -1,0 +1,15 @@
+-- Laws of the instruction table.
+use Rattle.std.specs.Prelude.{◌^◌, ◌<◌}
+use Rattle.stl_tree.specs.Instructions.{effect_of}
+use Rattle.stl_tree.specs.Now.{Now}
+use Rattle.stl_tree.specs.Reads.{reads_of}
+use Rattle.stl_tree.specs.declared.program.Op.{Op}
+use Rattle.instruction_laws.specs.Agreement.{Agree, AreLike}
+
+-- what an instruction does depends on no register but those that it reads: where two states agree on these, it does
+-- alike to both. ACCU1 holds 32 bits: AD with no bit and OD with all bits read nothing, and would keep any above these
+abbrev pub EffectsDependOnReads : Type 0
+EffectsDependOnReads =
+    (op : Op) (one other : Now)
+    → one.registers.accu1 < 2 ^ 32 → other.registers.accu1 < 2 ^ 32 → Agree (reads_of op) one other
+    → AreLike one.registers other.registers (effect_of op one) (effect_of op other)
