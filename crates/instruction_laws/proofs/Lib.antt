@@ -2,4 +2,6 @@ mod Beside
 mod BitRows
 mod EffectRows
 mod NumberRows
+mod RangeNumbers
+mod RangeRows
 mod WordRows

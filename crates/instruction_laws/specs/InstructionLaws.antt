@@ -1,10 +1,12 @@
 -- Laws of the instruction table.
 use Rattle.std.specs.Prelude.{◌^◌, ◌<◌}
+use Rattle.stl_tree.specs.Accepted.{HasOperand}
 use Rattle.stl_tree.specs.Instructions.{effect_of}
 use Rattle.stl_tree.specs.Now.{Now}
 use Rattle.stl_tree.specs.Reads.{reads_of}
 use Rattle.stl_tree.specs.declared.program.Op.{Op}
 use Rattle.instruction_laws.specs.Agreement.{Agree, AreLike}
+use Rattle.instruction_laws.specs.Ranges.{IsInRange, LeavesInRange}
 
 -- what an instruction does depends on no register but those that it reads: where two states agree on these, it does
 -- alike to both. ACCU1 holds 32 bits: AD with no bit and OD with all bits read nothing, and would keep any above these
@@ -13,3 +15,7 @@ EffectsDependOnReads =
     (op : Op) (one other : Now)
     → one.registers.accu1 < 2 ^ 32 → other.registers.accu1 < 2 ^ 32 → Agree (reads_of op) one other
     → AreLike one.registers other.registers (effect_of op one) (effect_of op other)
+
+-- an instruction whose operand and constants are ones that it may have keeps registers and memory in their ranges
+abbrev pub RangesAreKept : Type 0
+RangesAreKept = (op : Op) (now : Now) → HasOperand op → IsInRange now → LeavesInRange (effect_of op now)

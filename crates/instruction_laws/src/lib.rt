@@ -1,12 +1,18 @@
-//! Laws of instructions: what an instruction does depends on no register but those that it reads.
+//! Laws of instructions: what an instruction does depends on no register but those that it reads, and it keeps
+//! registers and memory in their ranges.
 //!
-//! Stands on `stl_tree`, whose instruction table these laws are about. It computes nothing: the contracts of
-//! its functions are the laws.
+//! Stands on `stl_tree`, whose instruction table these laws are about; of `st_tree` it names when a memory holds
+//! bytes, and that writes keep it so. It computes nothing: the contracts of its functions are the laws.
 #![tactic(auto)]
 
-ghost use Rattle.instruction_laws.specs.InstructionLaws.{EffectsDependOnReads};
+ghost use Rattle.instruction_laws.specs.InstructionLaws.{EffectsDependOnReads, RangesAreKept};
 
 /// What an instruction does depends on no register but those that it reads.
 pub fn effects_depend_on_reads()
     ensures { EffectsDependOnReads }
+{}
+
+/// An instruction keeps registers and memory in their ranges.
+pub fn ranges_are_kept()
+    ensures { RangesAreKept }
 {}
