@@ -1,6 +1,7 @@
 mod Beside
 mod BitRows
 mod EffectRows
+mod LawRows
 mod NumberRows
 mod RangeNumbers
 mod RangeRows
