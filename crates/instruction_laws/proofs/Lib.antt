@@ -4,5 +4,5 @@ mod EffectRows
 mod LawRows
 mod NumberRows
 mod RangeNumbers
-mod RangeRows
+pub mod RangeRows
 mod WordRows

@@ -65,8 +65,9 @@ use Rattle.instruction_laws.proofs.RangeNumbers.{as_dword, combined_below, halve
 accu1_kept : (a : ℕ) (bits : StatusBits) (r : RegisterValues) → AreInRange r → a < 2 ^ 32 → AreInRange (record r { accu1 = a; status = bits })
 accu1_kept a bits r h small = record { accu1 = small; accu2 = h.accu2; ar1 = h.ar1; ar2 = h.ar2; db = h.db; di = h.di }
 
-bits_kept : (bits : StatusBits) (r : RegisterValues) → AreInRange r → AreInRange (record r { status = bits })
-bits_kept bits r h = accu1_kept r.accu1 bits r h h.accu1
+-- registers are in their ranges whatever the bits of the status word are
+pub any_status : (r : RegisterValues) (bits : StatusBits) → AreInRange r → AreInRange (record r { status = bits })
+any_status r bits h = accu1_kept r.accu1 bits r h h.accu1
 
 accus_kept : (a b : ℕ) (r : RegisterValues) → AreInRange r → a < 2 ^ 32 → b < 2 ^ 32 → AreInRange (record r { accu1 = a; accu2 = b })
 accus_kept a b r h small_a small_b = record { accu1 = small_a; accu2 = small_b; ar1 = h.ar1; ar2 = h.ar2; db = h.db; di = h.di }
@@ -88,7 +89,7 @@ pointer_small ar.Two r h = h.ar2
 blocks_kept : (m n : ℕ) (r : RegisterValues) → AreInRange r → m < 2 ^ 16 → n < 2 ^ 16 → AreInRange (record r { db = m; di = n })
 blocks_kept m n r h small_m small_n = record { accu1 = h.accu1; accu2 = h.accu2; ar1 = h.ar1; ar2 = h.ar2; db = small_m; di = small_n }
 
-db_kept : (n : ℕ) (r : RegisterValues) → AreInRange r → n < 2 ^ 16 → AreInRange (db_opened n r)
+pub db_kept : (n : ℕ) (r : RegisterValues) → AreInRange r → n < 2 ^ 16 → AreInRange (db_opened n r)
 db_kept n r h small = blocks_kept n r.di r h small h.di
 
 di_kept : (n : ℕ) (r : RegisterValues) → AreInRange r → n < 2 ^ 16 → AreInRange (di_opened n r)
@@ -103,7 +104,7 @@ numbers_kept arith_row.MulI x y r h = accu1_kept _ _ r h (pattern_below 32 (x *�
 numbers_kept arith_row.DivI x y r h = by (int_eq y (pos 0))
   where
     by : (b : Bool) → AreInRange (if b then record r { status = after_zero_divisor r.status } else both_in_words x y r)
-    by true = bits_kept (after_zero_divisor r.status) r h
+    by true = any_status r (after_zero_divisor r.status) h
     by false = accu1_kept _ _ r h (halves_below (int_rem x y) (int_div x y))
 numbers_kept arith_row.AddD x y r h = accu1_kept _ _ r h (with_number_below width.Dword r.accu1 (x +ℤ y) h.accu1)
 numbers_kept arith_row.SubD x y r h = accu1_kept _ _ r h (with_number_below width.Dword r.accu1 (x -ℤ y) h.accu1)
@@ -111,12 +112,12 @@ numbers_kept arith_row.MulD x y r h = accu1_kept _ _ r h (pattern_below 32 (x *�
 numbers_kept arith_row.DivD x y r h = by (int_eq y (pos 0))
   where
     by : (b : Bool) → AreInRange (if b then record r { status = after_zero_divisor r.status } else quotient_in_dword x y r)
-    by true = bits_kept (after_zero_divisor r.status) r h
+    by true = any_status r (after_zero_divisor r.status) h
     by false = accu1_kept _ _ r h (pattern_below 32 (int_div x y))
 numbers_kept arith_row.Mod x y r h = by (int_eq y (pos 0))
   where
     by : (b : Bool) → AreInRange (if b then record r { status = after_zero_divisor r.status } else remainder_in_dword x y r)
-    by true = bits_kept (after_zero_divisor r.status) r h
+    by true = any_status r (after_zero_divisor r.status) h
     by false = accu1_kept _ _ r h (pattern_below 32 (int_rem x y))
 
 shift_kept : (k : ShiftRow) (n : ℕ) (r : RegisterValues) → AreInRange r → AreInRange (shifted k n r)
@@ -139,7 +140,7 @@ logic_kept l c r h =
 
 digits_kept : (w : Width) (few : Bool) (p : ℕ) (r : RegisterValues) → AreInRange r → p < 2 ^ bits_wide w → AreInRange (with_digits w (if few then Some p else None) r)
 digits_kept w true p r h small = accu1_kept _ _ r h (with_part_below w r.accu1 p h.accu1 small)
-digits_kept w false p r h small = bits_kept _ r h
+digits_kept w false p r h small = any_status r _ h
 
 -- States
 
@@ -149,11 +150,11 @@ goes_on r now h small = record { registers = small; memory = h.memory }
 
 -- other status bits
 flags_kept : (bits : StatusBits) (now : Now) → IsInRange now → IsInRange (record now { registers = record now.registers { status = bits } })
-flags_kept bits now h = goes_on (record now.registers { status = bits }) now h (bits_kept bits now.registers h.registers)
+flags_kept bits now h = goes_on (record now.registers { status = bits }) now h (any_status now.registers bits h.registers)
 
 closes : (entries : List Entry) (now : Now) → IsInRange now → IsInRange (closed_with entries now)
 closes [] now h = h
-closes (e ∷ outer) now h = record { registers = bits_kept (after_close e now.registers.status) now.registers h.registers; memory = h.memory }
+closes (e ∷ outer) now h = record { registers = any_status now.registers (after_close e now.registers.status) h.registers; memory = h.memory }
 
 converts : (u : UnaryRow) (now : Now) → IsInRange now → LeavesInRange (on_accu1 u now)
 converts unary.Bti now h = by (bcd_value 3 (part width.Word now.registers.accu1))
@@ -303,7 +304,7 @@ writes_bit : (p : Place) (b : Bool) (bits : StatusBits) (now : Now) → IsInRang
     → LeavesInRange (with_value (write_bit p b now.memory) (λ m. next (record now { memory = m; registers = record now.registers { status = bits } })))
 writes_bit p b bits now h =
     by_memory (write_bit p b now.memory) (λ m. next (record now { memory = m; registers = record now.registers { status = bits } }))
-    (bit_written p b now.memory h.memory) (λ m holds. record { registers = bits_kept bits now.registers h.registers; memory = holds })
+    (bit_written p b now.memory h.memory) (λ m holds. record { registers = any_status now.registers bits h.registers; memory = holds })
 
 assigns : (o : Operand) (now : Now) → IsOperand width.Bit o → IsInRange now → LeavesInRange (effect_of (op.Assign o) now)
 assigns o now is h =
@@ -358,7 +359,7 @@ ranges_kept (op.Check c (arg.At o)) now is h =
     (λ p n k. by_bit (read_bit p n.memory) (λ b. on_status (after_check c b) n) (λ b. flags_kept (after_check c b n.registers.status) n k))
 ranges_kept (op.Check c (arg.Flag t)) now is h = flags_kept _ now h
 ranges_kept op.OrAlone now is h = flags_kept _ now h
-ranges_kept (op.Bracket c) now is h = record { registers = bits_kept _ now.registers h.registers; memory = h.memory }
+ranges_kept (op.Bracket c) now is h = record { registers = any_status now.registers _ h.registers; memory = h.memory }
 ranges_kept op.Close now is h = closes now.brackets now h
 ranges_kept (op.Assign o) now is h = assigns o now is h
 ranges_kept (op.Set o) now is h = stores (λ b rlo. b || rlo) o now is h

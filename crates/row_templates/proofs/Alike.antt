@@ -12,6 +12,8 @@ use Rattle.s7_base.specs.declared.register.Reg.TheVariants as reg
 use Rattle.stl_tree.specs.Now.{Activation, Now, depth}
 use Rattle.stl_tree.specs.Registers.{RegisterValues}
 use Rattle.stl_tree.specs.StlRun.{going_on}
+pub use Rattle.instruction_laws.proofs.RangeRows.{any_status}
+pub use Rattle.instruction_laws.specs.Ranges.{AreInRange}
 use Rattle.st_tree.specs.Fitting.{HoldsBytes}
 use Rattle.st_tree.specs.State.{Activation as StActivation, State, db_number, di_number, depth as depth_of_state, place_of}
 use Rattle.st_tree.specs.Values.{number_of, pattern}
@@ -52,19 +54,6 @@ IsHandedOn q = Unit {0}
 -- these register variables have their numbers
 abbrev pub AreAlike : (Reg → Type 0) → RegisterValues → (Reg → ℤ) → Type 0
 AreAlike asked r registers = (q : Reg) → asked q → registers q ≡ number_in r q
-
--- the accumulators and the address registers have 32 bits, and the numbers of data blocks 16
-pub record AreInRange (r : RegisterValues) : Type 0 where
-  pub accu1 : r.accu1 < 2 ^ 32
-  pub accu2 : r.accu2 < 2 ^ 32
-  pub ar1 : r.ar1 < 2 ^ 32
-  pub ar2 : r.ar2 < 2 ^ 32
-  pub db : r.db < 2 ^ 16
-  pub di : r.di < 2 ^ 16
-
--- they do whatever the bits of the status word are
-pub any_status : (r : RegisterValues) (bits : StatusBits) → AreInRange r → AreInRange (record r { status = bits })
-any_status r bits h = record { accu1 = h.accu1; accu2 = h.accu2; ar1 = h.ar1; ar2 = h.ar2; db = h.db; di = h.di }
 
 -- States
 

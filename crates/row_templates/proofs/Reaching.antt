@@ -37,7 +37,8 @@ use Rattle.st_tree.proofs.Equations.{assign_goes_on, assign_stops_at_value, valu
 use Rattle.row_templates.specs.Builders.{constant_of, local_of, set_local_of}
 use Rattle.row_templates.specs.Fetching.{may_fault, reach_of, reading_of, types_reached, writing_of}
 use Rattle.row_templates.specs.Pointing.{crossing_of, in_area_of, sum_of}
-use Rattle.row_templates.proofs.Alike.{AreAlike, AreInRange, IsKept, Related, keep_activations, keep_registers, place_now}
+use Rattle.instruction_laws.proofs.RangeRows.{db_kept}
+use Rattle.row_templates.proofs.Alike.{AreAlike, IsKept, Related, keep_activations, keep_registers, place_now}
 use Rattle.row_templates.proofs.DoesRow.{Stops}
 use Rattle.row_templates.proofs.Locals.{as_deep, local_read, local_wrote, own_length, own_of, own_other, own_same, with_own}
 use Rattle.row_templates.proofs.MemoryRows.{IsReadAt, KeepsWay, Writes, direct_reads, direct_writes, keeps_itself, pointer_reads, pointer_writes}
@@ -104,9 +105,8 @@ module _ (g : List Located) (calls : Calls) (units : ℕ) (acts : List Activatio
 
     open_related : (n : ℕ) → n < 2 ^ 16 → Related acts (with_registers (db_opened n) now) (open_state n)
     open_related n small =
-        let range : AreInRange now.registers = related.range in
         keep_registers IsKept acts now s related IsKept (db_opened n now.registers) (open_state n).registers (open_alike n)
-        (record { accu1 = range.accu1; accu2 = range.accu2; ar1 = range.ar1; ar2 = range.ar2; db = small; di = range.di })
+        (db_kept n now.registers related.range small)
 
     direct_reached : (a : AreaName) (byte x : ℕ) → Reaches g calls units acts now s first (operand.Direct a byte x)
     direct_reached a byte x =
