@@ -1,3 +1,4 @@
+mod Counting
 mod Moves
 mod Pushing
 mod StatusWord

@@ -2,7 +2,7 @@
 ghost use Rattle.std.specs.Prelude.{◌≡◌, ◌<◌, ◌^◌};
 ghost use Rattle.memory_areas.specs.Memory.{IsActivation, Writes};
 ghost use Rattle.s7_base.specs.SignedNumbers.{pattern};
-ghost use Rattle.stl_machine.specs.Machine.{values};
+ghost use Rattle.stl_machine.specs.inner.Views.{values};
 ghost use Rattle.stl_tree.specs.Accumulators.{accu_popped, accu_pushed, accus_exchanged, bits_wide, decreased, increased, loaded, part, read_number, signed_part, status_loaded, status_stored, with_number, with_part, write_number};
 
 use crate::state::Registers;

@@ -2,7 +2,7 @@
 ghost use Rattle.std.specs.Prelude.{◌≡◌, ◌≢◌, pos, ◌*ℤ◌, int_div, int_rem, neg_ℤ};
 ghost use Rattle.s7_base.specs.SignedNumbers.{is_over, wrapped};
 ghost use Rattle.status_word.specs.Results.{after_zero_divisor};
-ghost use Rattle.stl_machine.specs.Machine.{values};
+ghost use Rattle.stl_machine.specs.inner.Views.{values};
 ghost use Rattle.stl_tree.specs.Accumulators.{bits_wide};
 ghost use Rattle.stl_tree.specs.Arithmetic.{both_in_words, by_divisor, calculated, compared, holds, negated, product_in, quotient_in_dword, remainder_in_dword, result_in, row_of_numbers, width_of};
 

@@ -1,7 +1,7 @@
 //! What works on ACCU1 alone.
 ghost use Rattle.std.specs.Prelude.{◌≡◌, ◌+◌, ◌-◌, ◌*◌, ◌/◌, ◌%◌, ◌<◌, ◌^◌, IfSome, MatchResult, Ok, Err};
 ghost use Rattle.s7_base.specs.declared.word.Width.TheVariants.{Dword, Word};
-ghost use Rattle.stl_machine.specs.Machine.{values};
+ghost use Rattle.stl_machine.specs.inner.Views.{values};
 ghost use Rattle.stl_tree.specs.Accumulators.{bits_wide, part};
 ghost use Rattle.stl_tree.specs.Conversions.{converted, extended, from_digits, replaced, to_digits, with_digits, with_value_of_digits};
 

@@ -1,9 +1,10 @@
 //! What one instruction does.
 ghost use Rattle.std.specs.Prelude.{◌≡◌, if◌then◌else◌};
 ghost use Rattle.status_word.specs.Flags.{bits};
-ghost use Rattle.stl_machine.specs.Machine.{seen, values, Does};
+ghost use Rattle.stl_machine.specs.inner.Effects.{Does};
 ghost use Rattle.stl_machine.specs.inner.Operands.{IsTaken};
 ghost use Rattle.stl_machine.specs.inner.Rows.{IsOnRegisters};
+ghost use Rattle.stl_machine.specs.inner.Views.{seen, values};
 ghost use Rattle.stl_tree.specs.Instructions.{at_edge, block_opened, effect_of, on_accu1, on_registers, on_status};
 ghost use Rattle.stl_tree.specs.declared.program.Op.TheVariants as op;
 
@@ -148,8 +149,7 @@ fn store_pointer(register: Ar, to: &ArStore, state: &mut State) -> Result<Effect
 fn opened_number(argument: &OpenArg, state: &mut State) -> Result<u16, Fault>
     ensures number { IsTaken (λ row. block_opened row argument.now (seen state.old)) result state.new }
     ensures memory { state.new.memory ≡ state.old.memory }
-    ensures block { state.new.block ≡ state.old.block }
-    ensures position { state.new.position ≡ state.old.position }
+    ensures frames { state.new.frames ≡ state.old.frames }
 {
     match argument {
         OpenArg::Number(number) => Ok(*number),

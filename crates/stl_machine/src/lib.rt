@@ -12,6 +12,7 @@ mod accumulators;
 mod arithmetic;
 mod conversions;
 mod effect;
+mod frames;
 mod machine;
 mod pointers;
 mod shifts;

@@ -1,9 +1,13 @@
 //! The machine itself.
 ghost use Rattle.std.specs.Prelude.{◌≡◌, ◌+◌, ◌^◌, ◌<◌, IfSome, MatchOption, Some, None};
-ghost use Rattle.stl_machine.specs.Machine.{IsNew, is_still, memory_of, outcome_of, seen};
-ghost use Rattle.stl_tree.specs.StlRun.{block_called, block_named, instruction, is_same_name, step, steps_on};
+ghost use Rattle.stl_machine.specs.Machine.{IsNew, memory_of, outcome_of};
+ghost use Rattle.stl_machine.specs.inner.Effects.{next_of};
+ghost use Rattle.stl_machine.specs.inner.Views.{seen, standing};
+ghost use Rattle.stl_tree.specs.StlRun.{block_called, block_named, is_same_name, returned, step_by, steps_on};
+ghost use Rattle.stl_tree.specs.declared.program.Program.{Program};
 
 use crate::effect::{Effect, effect_of};
+use crate::frames::Frames;
 use crate::state::{Registers, State};
 use memory_areas::Memory;
 use nesting_stack::Nesting;
@@ -38,7 +42,7 @@ pub struct Machine<'p> {
 }
 
 impl<'p> Model for Machine<'p> {
-    ghost use Rattle.stl_machine.specs.Machine.{standing};
+    ghost use Rattle.stl_machine.specs.inner.Views.{standing};
     ghost use Rattle.stl_tree.specs.StlRun.{Standing};
 
     ghost Value = { Standing };
@@ -71,14 +75,49 @@ fn block_called(program: &Program, call: &Call) -> Option<usize>
     }
 }
 
-/// The instruction to come.
-fn instruction<'p>(program: &'p Program, state: &State) -> Option<&'p Instr>
-    ensures instruction { MatchOption result (instruction program.now (seen state.now).activations ≡ None)
-        (λ instr. instruction program.now (seen state.now).activations ≡ Some instr.now) }
-    ensures room { IfSome result (λ instr. state.now.position + 1 < 2 ^ 64) }
+/// The instruction to come; none where the run is over, or where no instruction stands next.
+fn next_of<'p>(program: &'p Program, progress: Progress, state: &State) -> Option<&'p Instr>
+    ensures instruction { MatchOption result (next_of (standing program.now progress state.now) ≡ None)
+        (λ instr. next_of (standing program.now progress state.now) ≡ Some instr.now) }
+    ensures room { IfSome result (λ instr. state.now.frames.current.at + 1 < 2 ^ 64) }
 {
-    let block = program.blocks.as_slice().get(state.block)?;
-    block.body.as_slice().get(state.position)
+    if let Progress::Over(_) = progress {
+        return None;
+    }
+    let block = program.blocks.as_slice().get(state.frames.current.block)?;
+    block.body.as_slice().get(state.frames.current.at)
+}
+
+/// The running block has ended: its caller goes on, with the data blocks that were open there, or the run is
+/// over.
+fn returned(state: &mut State) -> Progress
+    ensures { (program : Program) → standing program result state.new ≡ returned program (seen state.old).activations (seen state.old) }
+{
+    let done = state.frames.current;
+    match state.frames.callers.pop() {
+        Some(caller) => {
+            state.registers.db = done.db;
+            state.registers.di = done.di;
+            state.frames.current = caller;
+            Progress::Running
+        }
+        None => Progress::Over(None),
+    }
+}
+
+/// Does an instruction, the one to come, and says how the run goes on.
+fn step_by(instr: &Instr, state: &mut State) -> Progress
+    requires { state.old.frames.current.at + 1 < 2 ^ 64 }
+    ensures { (program : Program) → standing program result state.new ≡ step_by (Some instr.now) program (seen state.old) }
+{
+    match effect_of(&instr.op, state) {
+        Ok(Effect::Next) => {
+            state.frames.current.at += 1;
+            Progress::Running
+        }
+        Ok(Effect::Leave) => returned(state),
+        Err(fault) => Progress::Over(Some(fault)),
+    }
 }
 
 impl<'p> Machine<'p> {
@@ -101,8 +140,7 @@ impl<'p> Machine<'p> {
                 registers: Registers::start(),
                 brackets: Nesting::new(),
                 memory,
-                block,
-                position: 0,
+                frames: Frames::new(block),
             },
             progress: Progress::Running,
         })
@@ -114,10 +152,10 @@ impl<'p> Machine<'p> {
         ensures outcome { result ≡ outcome_of self.new }
     {
         for _ in 0..n {
-            if self.is_still() {
+            let Some(instr) = next_of(self.program, self.progress, &self.state) else {
                 break;
-            }
-            self.step();
+            };
+            self.progress = step_by(instr, &mut self.state);
         }
         self.outcome()
     }
@@ -129,39 +167,12 @@ impl<'p> Machine<'p> {
         &self.state.memory
     }
 
-    /// The run stays where it is: it is over, or no instruction stands next.
-    fn is_still(&self) -> bool
-        ensures { result ≡ is_still self.now }
-    {
-        match self.progress {
-            Progress::Running => instruction(self.program, &self.state).is_none(),
-            Progress::Over(_) => true,
-        }
-    }
-
     fn outcome(&self) -> Outcome
         ensures { result ≡ outcome_of self.now }
     {
         match self.progress {
             Progress::Running => Outcome::Going,
             Progress::Over(fault) => Outcome::Ended(fault),
-        }
-    }
-
-    /// Does the next instruction.
-    fn step(&mut self)
-        ensures { self.new ≡ step self.old }
-    {
-        if let Progress::Over(_) = self.progress {
-            return;
-        }
-        let Some(instr) = instruction(self.program, &self.state) else {
-            return;
-        };
-        match effect_of(&instr.op, &mut self.state) {
-            Ok(Effect::Next) => self.state.position += 1,
-            Ok(Effect::Leave) => self.progress = Progress::Over(None),
-            Err(fault) => self.progress = Progress::Over(Some(fault)),
         }
     }
 }

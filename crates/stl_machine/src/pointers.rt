@@ -1,7 +1,7 @@
 //! The address registers, and what loads, stores and moves them.
 ghost use Rattle.std.specs.Prelude.{◌≡◌};
 ghost use Rattle.memory_areas.specs.Pointers.{with_offset};
-ghost use Rattle.stl_machine.specs.Machine.{values};
+ghost use Rattle.stl_machine.specs.inner.Views.{values};
 ghost use Rattle.stl_tree.specs.AddressRegisters.{accu1_pointed, other_loaded, other_of, other_stored, pointer_in, pointer_loaded, pointer_moved, pointers_exchanged, with_pointer};
 
 use crate::accumulators::signed_part;

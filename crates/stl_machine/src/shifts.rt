@@ -1,6 +1,6 @@
 //! Shifts and rotations, by their closed forms.
 ghost use Rattle.std.specs.Prelude.{◌≡◌, ◌<◌, ◌≤◌, ◌^◌};
-ghost use Rattle.stl_machine.specs.Machine.{values};
+ghost use Rattle.stl_machine.specs.inner.Views.{values};
 ghost use Rattle.stl_tree.specs.Accumulators.{bits_wide};
 ghost use Rattle.stl_tree.specs.Shifts.{after_shift, around_left, around_left_through_cc1, around_right, around_right_through_cc1, count_of, leaving, left, right, right_signed, shifted, step, times, width_of};
 

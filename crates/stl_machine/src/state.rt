@@ -3,13 +3,14 @@ ghost use Rattle.std.specs.Prelude.{◌≡◌, Ok};
 ghost use Rattle.memory_areas.specs.Memory.{IsActivation};
 ghost use Rattle.status_word.specs.Flags.{bits};
 ghost use Rattle.status_word.specs.StatusBits.{entry_of};
-ghost use Rattle.stl_machine.specs.Machine.{seen, values};
 ghost use Rattle.stl_machine.specs.inner.Operands.{IsFound};
+ghost use Rattle.stl_machine.specs.inner.Views.{seen, values};
 ghost use Rattle.stl_tree.specs.Brackets.{closed, opened, pushed};
 ghost use Rattle.stl_tree.specs.DataBlocks.{db_number_loaded, db_opened, dbs_exchanged, di_number_loaded, di_opened};
 ghost use Rattle.stl_tree.specs.Operands.{aimed_by, aimed_in, found, found_at, place_in};
 ghost use Rattle.stl_tree.specs.Registers.{start};
 
+use crate::frames::Frames;
 use address_registers::{Pointer, resolve};
 use memory_areas::{AreaName, Memory, Place};
 use nesting_stack::Nesting;
@@ -108,18 +109,13 @@ fn push(brackets: &mut Nesting, e: Entry)
     }
 }
 
-/// The number of the running activation. There is no other, since no instruction that calls a block is built.
-const RUNNING: u8 = 0;
-
-/// The registers, the open brackets and the memory, with the position of the block that runs in its program
-/// and that of the instruction to come in its body.
+/// The registers, the open brackets and the memory, with the activations.
 #[derive(Drop)]
 pub struct State {
     pub registers: Registers,
     pub brackets: Nesting,
     pub memory: Memory,
-    pub block: usize,
-    pub position: usize,
+    pub frames: Frames,
 }
 
 impl State {
@@ -129,7 +125,7 @@ impl State {
         ensures activation { IsActivation result.area }
     {
         Place {
-            area: name.area(self.registers.db, self.registers.di, RUNNING),
+            area: name.area(self.registers.db, self.registers.di, self.frames.depth()),
             byte,
             bit,
         }
@@ -148,7 +144,7 @@ impl State {
     fn aimed_by(&self, p: Pointer) -> Result<Place, Fault>
         ensures { IsFound (found_at (aimed_by p.0 (seen self.now)) (seen self.now)) result self.now }
     {
-        resolve(p, self.registers.db, self.registers.di, RUNNING)
+        resolve(p, self.registers.db, self.registers.di, self.frames.depth())
     }
 
     /// The place that an operand names, or the first fault on the way to it. An operand with the number of
@@ -156,8 +152,7 @@ impl State {
     pub fn place_of(&mut self, operand: &Operand) -> Result<Place, Fault>
         ensures place { IsFound (found operand.now (seen self.old)) result self.new }
         ensures memory { self.new.memory ≡ self.old.memory }
-        ensures block { self.new.block ≡ self.old.block }
-        ensures position { self.new.position ≡ self.old.position }
+        ensures frames { self.new.frames ≡ self.old.frames }
     {
         match *operand {
             Operand::Direct(name, byte, bit) => Ok(self.place_in(name, byte, bit)),
@@ -184,8 +179,7 @@ impl State {
     /// Opens a bracket.
     pub fn open(&mut self, check: Check)
         ensures now { seen self.new ≡ opened check (seen self.old) }
-        ensures block { self.new.block ≡ self.old.block }
-        ensures position { self.new.position ≡ self.old.position }
+        ensures frames { self.new.frames ≡ self.old.frames }
     {
         let status = self.registers.status;
         push(&mut self.brackets, entry_of(check, status));
@@ -195,8 +189,7 @@ impl State {
     /// Closes the last bracket that is open.
     pub fn close(&mut self)
         ensures now { seen self.new ≡ closed (seen self.old) }
-        ensures block { self.new.block ≡ self.old.block }
-        ensures position { self.new.position ≡ self.old.position }
+        ensures frames { self.new.frames ≡ self.old.frames }
     {
         if let Some(e) = self.brackets.pop() {
             self.registers.status = self.registers.status.closed(e);

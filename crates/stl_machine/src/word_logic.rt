@@ -1,6 +1,6 @@
 //! Word logic.
 ghost use Rattle.std.specs.Prelude.{◌≡◌, ◌<◌, ◌^◌};
-ghost use Rattle.stl_machine.specs.Machine.{values};
+ghost use Rattle.stl_machine.specs.inner.Views.{values};
 ghost use Rattle.stl_tree.specs.Accumulators.{bits_wide};
 ghost use Rattle.stl_tree.specs.WordLogic.{after_logic_row, combined, logic_result, other_of, width_of};
 

@@ -3,8 +3,8 @@ use Rattle.std.specs.Prelude.{◌≡◌, ℕ, Result, Ok, Err}
 use Rattle.memory_areas.specs.Memory.{IsActivation}
 use Rattle.memory_areas.specs.declared.place.Place.{Place}
 use Rattle.s7_base.specs.declared.outcome.Fault.{Fault}
-use Rattle.stl_machine.specs.Machine.{seen}
 use Rattle.stl_machine.specs.declared.state.State.{State}
+use Rattle.stl_machine.specs.inner.Views.{seen}
 use Rattle.stl_tree.specs.Now.{Effect, fault}
 use Rattle.stl_tree.specs.Instructions.{on_registers}
 use Rattle.stl_tree.specs.Operands.{Found}

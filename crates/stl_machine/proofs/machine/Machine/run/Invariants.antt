@@ -1,6 +1,7 @@
 use Rattle.std.proofs.Common.{◌≡◌}
 use Rattle.stl_tree.specs.StlRun.{steps_on}
+use Rattle.stl_machine.specs.inner.Views.{standing}
 use Rattle.stl_machine.proofs.machine.Machine.run.Given as goal
 
 abbrev pub invariant-loop : goal.invariant-loop
-invariant-loop l = l.self ≡ steps_on l.counter l.initial.self
+invariant-loop l = standing l.self-inside.program.now l.self-inside.progress l.self-inside.state ≡ steps_on l.counter l.fn.self
