@@ -1,5 +1,5 @@
 //! Lists of bits, the lowest bit of a byte first.
-ghost use Rattle.std.specs.Prelude.{◌≡◌, ◌++◌, ◌≤◌, OnOk, IfOk};
+ghost use Rattle.std.specs.Prelude.{◌≡◌, ◌++◌, ◌≤◌, ◌<◌, length, OnOk, IfOk};
 ghost use Rattle.stl_rules.specs.Contents.{bit_of, byte_of, bytes_of, filled_to, first_bytes, low_bits, number_bits, times, value_bits, word_bits, zeros};
 ghost use Rattle.symbol_layout.specs.Kept.{IsAlignment};
 ghost use Rattle.stl_statements.specs.Constants.{value_in};
@@ -140,7 +140,34 @@ fn bit_of(bits: &[bool], at: usize) -> u8
     }
 }
 
+/// A bit that is there.
+fn bit_at(bits: &[bool], at: usize) -> u8
+    requires { at < length bits.now }
+    ensures same { result ≡ bit_of bits.now at }
+    ensures low { result ≤ 1 }
+{
+    u8::from(bits[at])
+}
+
+/// The number that the first eight bits stand for.
 fn byte_of(bits: &[bool]) -> u8
+    ensures { result ≡ byte_of bits.now }
+{
+    if bits.len() < 8 {
+        return short_byte(bits);
+    }
+    bit_at(bits, 0)
+        + 2 * bit_at(bits, 1)
+        + 4 * bit_at(bits, 2)
+        + 8 * bit_at(bits, 3)
+        + 16 * bit_at(bits, 4)
+        + 32 * bit_at(bits, 5)
+        + 64 * bit_at(bits, 6)
+        + 128 * bit_at(bits, 7)
+}
+
+/// The same of fewer bits.
+fn short_byte(bits: &[bool]) -> u8
     ensures { result ≡ byte_of bits.now }
 {
     bit_of(bits, 0)
@@ -157,7 +184,7 @@ fn byte_of(bits: &[bool]) -> u8
 fn first_bytes(alloc: Global, count: usize, bits: &[bool]) -> Result<Vec<u8>, NoMemory>
     ensures { IfOk result (λ bytes. bytes.items ≡ first_bytes count bits.now) }
 {
-    let mut bytes = Vec::new(alloc);
+    let mut bytes = Vec::with_capacity(alloc, count)?;
     let mut rest = bits;
     let mut left = count;
     while left > 0 {
