@@ -3,7 +3,7 @@ use Rattle.std.proofs.Common.{◌≡◌, ℕ, zero, suc, ◌≤◌, List, [], �
 use Rattle.s7_base.specs.declared.reason.Line.{Line}
 use Rattle.s7_base.specs.declared.reason.Rejection.{Rejection}
 use Rattle.s7_base.specs.declared.token.Token.{Token}
-use Rattle.stl_grammar.specs.Grammar.{IsForm, heading, table, symbol, table_end, skipped_line, begin, section, section_end, data_end, struct_end, declaration, begin_behind, value, values_end, skipped_word, end_word, statement, IsItem, form, no_instruction, none, at_start, in_a_table, behind_a_block, behind_a_heading, in_a_section, in_a_struct, behind_a_section, in_a_body, among_values, AreItems, none_more, one_more}
+use Rattle.stl_grammar.specs.Grammar.{IsForm, heading, table, symbol, table_end, skipped_line, begin, section, section_end, data_end, struct_end, declaration, begin_behind, value, values_end, skipped_word, end_word, statement, IsItem, form, left_out, no_instruction, none, at_start, in_a_table, behind_a_block, behind_a_heading, in_a_section, in_a_struct, behind_a_section, in_a_body, among_values, AreItems, none_more, one_more}
 use Rattle.stl_grammar.specs.Items.{item_at, prepend_item, with_found, items_from}
 use Rattle.stl_grammar.specs.declared.item.Found.{Found}
 use Rattle.stl_grammar.specs.declared.item.Found.TheVariants.{Fits, Misfit, Ended}
@@ -32,10 +32,10 @@ form_some (begin kind line first rest no_line no_data word) = tt
 form_some (section kind line first rest no_line no_begin word) = tt
 form_some (section_end kind first rest no_data word) = tt
 form_some (data_end first sign rest word ends) = tt
-form_some (struct_end kind level levels first rest items size word is) = tt
-form_some (declaration kind levels name rest type size no_end is) = tt
+form_some (struct_end kind level levels first front rest items word is) = tt
+form_some (declaration kind levels name front rest type no_end is) = tt
 form_some (begin_behind kind first rest word) = tt
-form_some (value first rest its size no_end is) = tt
+form_some (value first front rest its no_end is) = tt
 form_some (values_end first rest word) = tt
 form_some (skipped_word kind first rest is) = tt
 form_some (end_word kind first rest no_skip word) = tt
@@ -55,7 +55,8 @@ fits_at_end (first ∷ rest) item size next = tt
 ended : {end : Line} {place : Where} {tokens : List Token} {found : Found} → IsItem end place tokens found → AtEnd tokens found
 ended {tokens = tokens} (form {next = next} {item = item} {size = size} is) = fits_at_end tokens item size next
 ended (no_instruction kind first rest no_sign no_end whole is) = tt
-ended (none first rest no_form no_statement) = tt
+ended (left_out first rest kind no_form out) = tt
+ended (none first rest no_form no_left no_statement) = tt
 ended at_start = tt
 ended (in_a_table line) = tt
 ended behind_a_block = tt

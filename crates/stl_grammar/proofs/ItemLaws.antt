@@ -1,19 +1,26 @@
 -- What stands at a place of a text is what the forms of items say.
-use Rattle.std.proofs.Common.{◌≡◌, ℕ, ◌+◌, ◌-◌, ◌<◌, Bool, true, false, not, ◌&&◌, ◌||◌, if◌then◌else◌, List, [], ◌∷◌, ◌++◌, length, drop, Option, Some, None, option_map, Result, Ok, Err, refl, sym, ap, subst, ◌∙◌, arith, length-append}
+use Rattle.std.proofs.Common.{◌≡◌, ℕ, ◌+◌, ◌-◌, ◌<◌, ◌≤◌, Bool, true, false, not, ◌&&◌, ◌||◌, if◌then◌else◌, List, [], ◌∷◌, ◌++◌, length, drop, Option, Some, None, option_map, Result, Ok, Err, refl, sym, ap, subst, ◌∙◌, arith, length-append}
 use Rattle.std.proofs.lemmas.Bool.{ltb-true, lt-ltb}
 use Rattle.std.specs.Prelude.{codes}
+use Rattle.s7_base.specs.declared.reason.Kind.{Kind}
 use Rattle.s7_base.specs.declared.reason.Line.{Line}
 use Rattle.s7_base.specs.declared.reason.Reason.{Reason}
 use Rattle.s7_base.specs.declared.reason.Rejection.{Rejection}
 use Rattle.s7_base.specs.declared.reason.Rejection.TheVariants.{Refused, NoMemory}
 use Rattle.s7_base.specs.declared.token.Token.{Token}
 use Rattle.stl_grammar.proofs.StatementSizes.{Split, size_open, size_append, split_of, taken}
-use Rattle.stl_grammar.specs.Grammar.{IsName, quoted, apart, together, MayOpen, last_line, IsForm, heading, table, symbol, table_end, skipped_line, begin, section, section_end, data_end, struct_end, declaration, begin_behind, value, values_end, skipped_word, end_word, statement, has_statement, IsItem, form, no_instruction, none, at_start, in_a_table, behind_a_block, behind_a_heading, in_a_section, in_a_struct, behind_a_section, in_a_body, among_values, ItemsHaveForms}
-use Rattle.stl_grammar.specs.Declarations.{declaration_at, ends_level, left_of}
+use Rattle.stl_grammar.specs.Grammar.{IsName, quoted, apart, together, MayOpen, last_line, IsForm, heading, table, symbol, table_end, skipped_line, begin, section, section_end, data_end, struct_end, declaration, begin_behind, value, values_end, skipped_word, end_word, statement, has_statement, plain_reason, LeavesOutForm, HasNoForm, IsItem, form, left_out, no_instruction, none, at_start, in_a_table, behind_a_block, behind_a_heading, in_a_section, in_a_struct, behind_a_section, in_a_body, among_values, ItemsHaveForms}
+use Rattle.stl_grammar.proofs.DeclarationLaws.{declaration_front, declaration_read}
+use Rattle.stl_grammar.proofs.InitialLaws.{ending_front, ending_read, initial_front, initial_read, initial_some}
+use Rattle.stl_grammar.proofs.MisfitLaws.{Says, by_left, by_plain, left_says, no_left_body, says}
+use Rattle.stl_grammar.specs.DeclarationForms.{IsDeclaration}
+use Rattle.stl_grammar.specs.InitialForms.{IsEnding, IsInitial}
+use Rattle.stl_places.proofs.Fronts.{FrontOf}
+use Rattle.stl_grammar.specs.Declarations.{declaration_at, ends_level, left_of, levels_behind}
 use Rattle.stl_grammar.specs.Initials.{ending_at, path_value_at}
 use Rattle.stl_grammar.specs.declared.declaration.Level.{Level}
 use Rattle.stl_grammar.specs.declared.declaration.Written.{Written}
-use Rattle.s7_base.specs.declared.reason.Reason.TheVariants.{BadStatement}
+use Rattle.s7_base.specs.declared.reason.Reason.TheVariants.{BadStatement, Unsupported}
 use Rattle.stl_grammar.specs.Headings.{heading_kind, is_behind, is_skipped, kind_word, line_of, name_at, number_behind, opened, opened_by}
 use Rattle.stl_grammar.specs.Items.{begins_body, behind_at, closing_at, declaration_found, declaration_reason, declarations_end, is_data, read_reason, section_word, struct_found, value_found, values_at, inside_at, level_line, misfit_line, is_semicolon, is_skipped_alone, is_end, statement_size, statement_at, is_complete, misfit_reason, statement_reason, table_at, symbol_found, in_table, behind_heading, statement_found, statement_from, body_at, at_token, item_at}
 use Rattle.digit_texts.specs.Digits.{kept_number}
@@ -27,7 +34,7 @@ use Rattle.stl_statements.specs.declared.mnemonic.Read.TheVariants as read
 use Rattle.stl_grammar.specs.declared.item.Found.{Found}
 use Rattle.stl_grammar.specs.declared.item.Found.TheVariants.{Fits, Misfit}
 use Rattle.stl_grammar.specs.declared.item.Item.{Item}
-use Rattle.stl_grammar.specs.declared.item.Item.TheVariants.{Opens, Mark, Instr}
+use Rattle.stl_grammar.specs.declared.item.Item.TheVariants.{Opens, Mark, Declares, Closes, Instr, Initial}
 use Rattle.stl_grammar.specs.declared.item.Where.{Where}
 use Rattle.stl_grammar.specs.declared.item.Where.TheVariants.{Start, Table, Between, Heading, Inside, Behind, Body, Values}
 use Rattle.stl_tree.specs.declared.raw.BlockKind.{BlockKind}
@@ -147,15 +154,18 @@ form_found end place next tokens item size (section kind line first rest no_line
 form_found end place next tokens item size (section_end kind first rest no_data word) = section_ends kind first rest no_data word
 form_found end place next tokens item size (data_end first sign rest word ends) =
     if_true (is_word (codes "END_STRUCT") first) _ _ word ∙ if_true (is_semicolon sign) _ _ ends
-form_found end place next tokens item size (struct_end kind level levels first rest items its_size word is) =
+form_found end place next tokens item size (struct_end kind level levels first front rest items word is) =
     if_true (is_word (codes "END_STRUCT") first) _ _ word
-    ∙ ap (λ (found : Read (List InitialItem)). struct_found kind level.line levels (first ∷ rest) found) is
-form_found end place next tokens item size (declaration kind levels name rest type its_size no_end is) =
+    ∙ ap (λ (found : Read (List InitialItem)). struct_found kind level.line levels (first ∷ (front ++ rest)) found) (ending_read (is_data kind) level.in_array front items is rest)
+form_found end place next tokens item size (declaration kind levels name front rest type no_end is) =
     if_false (ends_level kind levels name) _ _ no_end
-    ∙ ap (λ (found : Read Written). declaration_found kind levels (name ∷ rest) name found) is
+    ∙ ap (λ (found : Read Written). declaration_found kind levels (name ∷ (front ++ rest)) name found) (declaration_read (is_data kind) (left_of levels) name front type is rest)
 form_found end place next tokens item size (begin_behind kind first rest word) = if_true (is_word (codes "BEGIN") first) _ _ word
-form_found end place next tokens item size (value first rest its its_size no_end is) =
-    if_false (is_end block.Db first) _ _ no_end ∙ ap (λ (found : Read RawInitial). value_found (first ∷ rest) first found) is
+form_found end place next tokens item size (value first front rest its no_end is) =
+    let size : length (first ∷ front) - 1 ≡ length front = omega arith in
+    if_false (is_end block.Db first) _ _ no_end
+    ∙ ap (λ (found : Read RawInitial). value_found (first ∷ (front ++ rest)) first found) (initial_read first.line (first ∷ front) its is rest)
+    ∙ ap (λ (n : ℕ). Fits (Initial its) n Values) size
 form_found end place next tokens item size (values_end first rest word) = if_true (is_end block.Db first) _ _ word
 form_found end place next tokens item size (skipped_word kind first rest is) = if_true (is_skipped_alone first) _ _ is
 form_found end place next tokens item size (end_word kind first rest no_skip word) =
@@ -287,10 +297,14 @@ unclosed kind level levels first rest found word is =
     subst (λ (l : Line). R l said) line (subst (λ (r : Reason). R (misfit_line place first) r) reason (misses place first rest refl))
 
 struct_reads : (kind : BlockKind) (level : Level) (levels : List Level) (first : Token) (rest : List Token) (found : Read (List InitialItem)) → is_word (codes "END_STRUCT") first ≡ true →
-    ending_at (is_data kind) level.in_array rest ≡ found → Reads (Inside kind (level ∷ levels)) first rest (struct_found kind level.line levels (first ∷ rest) found)
-struct_reads kind level levels first rest (read.Fits items size) word is = fits (struct_end kind level levels first rest items size word is)
-struct_reads kind level levels first rest (read.LeftOut left) word is = unclosed kind level levels first rest (read.LeftOut left) word is
-struct_reads kind level levels first rest read.No word is = unclosed kind level levels first rest read.No word is
+    ending_at (is_data kind) level.in_array rest ≡ found → FrontOf rest (IsEnding (is_data kind) level.in_array) found →
+    Reads (Inside kind (level ∷ levels)) first rest (struct_found kind level.line levels (first ∷ rest) found)
+struct_reads kind level levels first rest (read.Fits items size) word is f =
+    let R : List Token → ℕ → Type 0 = λ ts n. Reads (Inside kind (level ∷ levels)) first ts (Fits (Closes items) n (Inside kind levels)) in
+    subst (λ (ts : List Token). R ts size) f.is
+    (subst (λ (n : ℕ). R (f.front ++ f.rest) n) f.size_is (fits (struct_end kind level levels first f.front f.rest items word f.holds)))
+struct_reads kind level levels first rest (read.LeftOut its) word is f = unclosed kind level levels first rest (read.LeftOut its) word is
+struct_reads kind level levels first rest read.No word is f = unclosed kind level levels first rest read.No word is
 
 -- the end of a data block's declarations that does not fit has its own
 unended : (first : Token) (rest : List Token) → is_word (codes "END_STRUCT") first ≡ true → Reads (Inside block.Db []) first rest (Misfit first.line BadStatement)
@@ -311,7 +325,7 @@ end_reads block.Fb first rest word = fits (section_end block.Fb first rest refl 
 closing_reads : (kind : BlockKind) (levels : List Level) (first : Token) (rest : List Token) → ends_level kind levels first ≡ true →
     Reads (Inside kind levels) first rest (closing_at kind levels (first ∷ rest) first rest)
 closing_reads kind [] first rest word = end_reads kind first rest word
-closing_reads kind (level ∷ levels) first rest word = struct_reads kind level levels first rest (ending_at (is_data kind) level.in_array rest) word refl
+closing_reads kind (level ∷ levels) first rest word = struct_reads kind level levels first rest (ending_at (is_data kind) level.in_array rest) word refl (ending_front (is_data kind) level.in_array rest)
 
 -- a declaration that does not fit has the line of its name
 inside_line : (kind : BlockKind) (levels : List Level) (first : Token) → ends_level kind levels first ≡ false → level_line levels first ≡ first.line
@@ -329,16 +343,20 @@ undeclared kind levels first rest found no_end is =
     (subst (λ (r : Reason). R (misfit_line place first) r) reason (misses place first rest refl))
 
 declaration_reads : (kind : BlockKind) (levels : List Level) (first : Token) (rest : List Token) (found : Read Written) → ends_level kind levels first ≡ false → declaration_at (is_data kind) (left_of levels) first rest ≡ found →
-    Reads (Inside kind levels) first rest (declaration_found kind levels (first ∷ rest) first found)
-declaration_reads kind levels first rest (read.Fits type size) no_end is = fits (declaration kind levels first rest type size no_end is)
-declaration_reads kind levels first rest (read.LeftOut left) no_end is = undeclared kind levels first rest (read.LeftOut left) no_end is
-declaration_reads kind levels first rest read.No no_end is = undeclared kind levels first rest read.No no_end is
+    FrontOf rest (IsDeclaration (is_data kind) (left_of levels) first) found → Reads (Inside kind levels) first rest (declaration_found kind levels (first ∷ rest) first found)
+declaration_reads kind levels first rest (read.Fits type size) no_end is f =
+    let R : List Token → ℕ → Type 0 = λ ts n. Reads (Inside kind levels) first ts
+    (Fits (Declares first.text first.line type) n (Inside kind (levels_behind levels first.line type.innermost (length type.arrays)))) in
+    subst (λ (ts : List Token). R ts size) f.is
+    (subst (λ (n : ℕ). R (f.front ++ f.rest) n) f.size_is (fits (declaration kind levels first f.front f.rest type no_end f.holds)))
+declaration_reads kind levels first rest (read.LeftOut its) no_end is f = undeclared kind levels first rest (read.LeftOut its) no_end is
+declaration_reads kind levels first rest read.No no_end is f = undeclared kind levels first rest read.No no_end is
 
 inside_reads : (kind : BlockKind) (levels : List Level) (first : Token) (rest : List Token) → Reads (Inside kind levels) first rest (inside_at kind levels (first ∷ rest) first rest)
 inside_reads kind levels first rest =
     let R : Found → Type 0 = λ found. Reads (Inside kind levels) first rest found in
     choose R (ends_level kind levels first) _ _ (λ word. closing_reads kind levels first rest word)
-    (λ no_end. declaration_reads kind levels first rest (declaration_at (is_data kind) (left_of levels) first rest) no_end refl)
+    (λ no_end. declaration_reads kind levels first rest (declaration_at (is_data kind) (left_of levels) first rest) no_end refl (declaration_front (is_data kind) (left_of levels) first rest))
 
 -- among the initial values of a data block
 
@@ -348,17 +366,28 @@ unvalued first rest found is =
     let R : Reason → Type 0 = λ reason. Reads Values first rest (Misfit first.line reason) in
     subst R (ap (λ (r : Read RawInitial). read_reason (first ∷ rest) r) is) (misses Values first rest refl)
 
+value_fits : (first : Token) (rest front behind : List Token) (its : RawInitial) (size : ℕ) → is_end block.Db first ≡ false → front ++ behind ≡ first ∷ rest → length front ≡ size →
+    IsInitial first.line front its → Reads Values first rest (Fits (Initial its) (size - 1) Values)
+value_fits first rest [] behind its size no_end at sized is = let some : 1 ≤ length {A = Token} [] = initial_some first.line [] its is in absurd (omega (arith, some))
+value_fits first rest (head ∷ front) behind its size no_end at sized is =
+    let same : head ≡ first = cc in
+    let tail : front ++ behind ≡ rest = cc in
+    let less : length front ≡ size - 1 = omega (arith, sized) in
+    let its_form : IsInitial first.line (first ∷ front) its = subst (λ (t : Token). IsInitial first.line (t ∷ front) its) same is in
+    subst (λ (ts : List Token). Reads Values first ts (Fits (Initial its) (size - 1) Values)) tail
+    (subst (λ (n : ℕ). Reads Values first (front ++ behind) (Fits (Initial its) n Values)) less (fits (value first front behind its no_end its_form)))
+
 value_reads : (first : Token) (rest : List Token) (found : Read RawInitial) → is_end block.Db first ≡ false → path_value_at first.line (first ∷ rest) ≡ found →
-    Reads Values first rest (value_found (first ∷ rest) first found)
-value_reads first rest (read.Fits its size) no_end is = fits (value first rest its size no_end is)
-value_reads first rest (read.LeftOut left) no_end is = unvalued first rest (read.LeftOut left) is
-value_reads first rest read.No no_end is = unvalued first rest read.No is
+    FrontOf (first ∷ rest) (IsInitial first.line) found → Reads Values first rest (value_found (first ∷ rest) first found)
+value_reads first rest (read.Fits its size) no_end is f = value_fits first rest f.front f.rest its size no_end f.is f.size_is f.holds
+value_reads first rest (read.LeftOut its) no_end is f = unvalued first rest (read.LeftOut its) is
+value_reads first rest read.No no_end is f = unvalued first rest read.No is
 
 values_reads : (first : Token) (rest : List Token) → Reads Values first rest (values_at (first ∷ rest) first)
 values_reads first rest =
     let R : Found → Type 0 = λ found. Reads Values first rest found in
     choose R (is_end block.Db first) _ _ (λ word. fits (values_end first rest word))
-    (λ no_end. value_reads first rest (path_value_at first.line (first ∷ rest)) no_end refl)
+    (λ no_end. value_reads first rest (path_value_at first.line (first ∷ rest)) no_end refl (initial_front first.line (first ∷ rest)))
 
 behind_reads_begin : (kind : BlockKind) (first : Token) (rest : List Token) → Reads (Behind kind) first rest (behind_at kind (first ∷ rest) first)
 behind_reads_begin kind first rest =
@@ -421,10 +450,17 @@ formless end place tokens line reason misfit item size next is =
     let found : item_at end place tokens ≡ Fits item size next = form_found end place next tokens item size is in
     let apart : Fits item size next ≡ Misfit line reason = sym found ∙ misfit in absurd cc
 
+missed : (end : Line) (place : Where) (first : Token) (rest : List Token) (reason : Reason) → Says place first rest reason → HasNoForm place (first ∷ rest) → has_statement place (first ∷ rest) ≡ false →
+    IsItem end place (first ∷ rest) (Misfit (misfit_line place first) reason)
+missed end place first rest reason (by_left kind out) no_form no_statement = left_out first rest kind no_form out
+missed end place first rest reason (by_plain is no_left) no_form no_statement =
+    subst (λ (r : Reason). IsItem end place (first ∷ rest) (Misfit (misfit_line place first) r)) is (none first rest no_form no_left no_statement)
+
 settled : (end : Line) (place : Where) (first : Token) (rest : List Token) (found : Found) → Reads place first rest found → item_at end place (first ∷ rest) ≡ found →
     IsItem end place (first ∷ rest) found
 settled end place first rest found (fits is) e = form is
-settled end place first rest found (misses its_place its_first its_rest no_statement) e = none first rest (formless end place (first ∷ rest) _ _ e) no_statement
+settled end place first rest found (misses its_place its_first its_rest no_statement) e =
+    missed end place first rest (misfit_reason place (first ∷ rest)) (says place first rest) (formless end place (first ∷ rest) _ _ e) no_statement
 settled end place first rest found (refuses kind its_first its_rest its_line reason no_skip no_end complete is) e = no_instruction kind first rest no_skip no_end complete is
 
 end_is : (end : Line) (place : Where) → IsItem end place [] (item_at end place [])
@@ -450,12 +486,22 @@ sound end place (first ∷ rest) = token_is end place first rest
 -- From the relation to what is found
 
 -- two answers of the relation to one place are one
-one : (end : Line) (place : Where) (first : Token) (rest : List Token) (found : Found) → IsItem end place (first ∷ rest) found →
-    ((item : Item) (size : ℕ) (next : Where) → IsForm place (first ∷ rest) item size next → ⊥) → has_statement place (first ∷ rest) ≡ false
-    → found ≡ Misfit (misfit_line place first) (misfit_reason place (first ∷ rest))
-one end place first rest found (form is) no_form no_statement = absurd (no_form _ _ _ is)
-one end place first rest found (no_instruction kind its_first its_rest no_skip no_end complete is) no_form no_statement = absurd cc
-one end place first rest found (none its_first its_rest no_other no_more) no_form no_statement = refl
+
+one_left : (end : Line) (place : Where) (first : Token) (rest : List Token) (kind : Kind) (found : Found) → IsItem end place (first ∷ rest) found → HasNoForm place (first ∷ rest) →
+    LeavesOutForm place (first ∷ rest) kind → found ≡ Misfit (misfit_line place first) (Unsupported kind)
+one_left end place first rest kind found (form is) no_form out = absurd (no_form _ _ _ is)
+one_left end place first rest kind found (no_instruction its its_first its_rest no_skip no_end complete is) no_form out = absurd (no_left_body its first rest kind out)
+one_left end place first rest kind found (left_out its_first its_rest its no_other its_out) no_form out =
+    let same : Unsupported its ≡ Unsupported kind = sym (left_says place first rest its its_out) ∙ left_says place first rest kind out in
+    ap (λ (reason : Reason). Misfit (misfit_line place first) reason) same
+one_left end place first rest kind found (none its_first its_rest no_other no_left no_more) no_form out = absurd (no_left kind out)
+
+one : (end : Line) (place : Where) (first : Token) (rest : List Token) (found : Found) → IsItem end place (first ∷ rest) found → HasNoForm place (first ∷ rest) →
+    ((kind : Kind) → LeavesOutForm place (first ∷ rest) kind → ⊥) → has_statement place (first ∷ rest) ≡ false → found ≡ Misfit (misfit_line place first) (plain_reason place (first ∷ rest))
+one end place first rest found (form is) no_form no_left no_statement = absurd (no_form _ _ _ is)
+one end place first rest found (no_instruction kind its_first its_rest no_skip no_end complete is) no_form no_left no_statement = absurd cc
+one end place first rest found (left_out its_first its_rest kind no_other out) no_form no_left no_statement = absurd (no_left kind out)
+one end place first rest found (none its_first its_rest no_other none_left no_more) no_form no_left no_statement = refl
 
 pub complete : (end : Line) (place : Where) (tokens : List Token) (found : Found) → IsItem end place tokens found → item_at end place tokens ≡ found
 unfolding item_at
@@ -464,7 +510,9 @@ complete end place tokens found (no_instruction kind first rest no_skip no_end w
     if_false (is_skipped_alone first) _ _ no_skip ∙ if_false (is_end kind first) _ _ no_end
     ∙ if_true (is_complete (first ∷ rest)) _ _ whole
     ∙ ap (λ (r : Result RawInstr Rejection). statement_found (Body kind) (first ∷ rest) first.line r) is
-complete end place tokens found (none first rest no_form no_statement) = one end place first rest (item_at end place (first ∷ rest)) (sound end place (first ∷ rest)) no_form no_statement
+complete end place tokens found (left_out first rest kind no_form out) = one_left end place first rest kind (item_at end place (first ∷ rest)) (sound end place (first ∷ rest)) no_form out
+complete end place tokens found (none first rest no_form no_left no_statement) =
+    one end place first rest (item_at end place (first ∷ rest)) (sound end place (first ∷ rest)) no_form no_left no_statement
 complete end place tokens found at_start = refl
 complete end place tokens found (in_a_table line) = refl
 complete end place tokens found behind_a_block = refl

@@ -1,4 +1,10 @@
+pub mod ConstantFronts
+pub mod DeclarationLaws
 pub mod GrammarLaws
+pub mod InitialLaws
 pub mod ItemLaws
 pub mod ItemRows
+pub mod ListLaws
+pub mod MisfitLaws
+pub mod Outs
 pub mod StatementSizes

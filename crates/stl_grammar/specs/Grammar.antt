@@ -1,22 +1,24 @@
 -- The grammar of a source text: the forms of items, as a relation with a case each, and the texts that are
 -- items up to their end.
-use Rattle.std.specs.Prelude.{◌≡◌, ℕ, ◌-◌, Bool, true, false, List, [], ◌∷◌, ◌++◌, length, drop, codes, Some, None, Ok, Err}
+use Rattle.std.specs.Prelude.{◌≡◌, ℕ, Bool, true, false, ◌||◌, if◌then◌else◌, List, [], ◌∷◌, ◌++◌, length, drop, codes, Some, None, Ok, Err}
+use Rattle.s7_base.specs.declared.reason.Kind.{Kind}
+use Rattle.s7_base.specs.declared.reason.Kind.TheVariants.{NotBuilt, SystemCall, UserType}
 use Rattle.s7_base.specs.declared.reason.Line.{Line}
 use Rattle.s7_base.specs.declared.reason.Reason.{Reason}
-use Rattle.s7_base.specs.declared.reason.Reason.TheVariants.{BadStatement}
+use Rattle.s7_base.specs.declared.reason.Reason.TheVariants.{BadStatement, Unsupported}
 use Rattle.s7_base.specs.declared.reason.Rejection.TheVariants.{Refused}
 use Rattle.s7_base.specs.declared.token.Token.{Token}
-use Rattle.stl_grammar.specs.Items.{begins_body, body_of, is_complete, is_data, is_end, is_semicolon, is_skipped_alone, item_at, misfit_line, misfit_reason, section_word, statement_at, statement_reason, statement_size}
-use Rattle.stl_grammar.specs.Declarations.{declaration_at, ends_level, left_of, levels_behind}
-use Rattle.stl_grammar.specs.Initials.{ending_at, path_value_at}
+use Rattle.stl_grammar.specs.Items.{begins_body, begins_with_name, body_of, is_complete, is_data, is_end, is_instance, is_not_built, is_semicolon, is_skipped_alone, item_at, misfit_line, section_word, statement_at, statement_reason, statement_size}
+use Rattle.stl_grammar.specs.DeclarationForms.{IsDeclaration, LeavesOutDeclaration}
+use Rattle.stl_grammar.specs.Declarations.{ends_level, has_number, is_user_type, left_of, levels_behind}
+use Rattle.stl_grammar.specs.InitialForms.{IsEnding, IsInitial, LeavesOutEnding, LeavesOutInitial}
 use Rattle.stl_grammar.specs.declared.declaration.Level.{Level}
 use Rattle.stl_grammar.specs.declared.declaration.Written.{Written}
-use Rattle.stl_statements.specs.declared.mnemonic.Read.TheVariants as read
-use Rattle.stl_grammar.specs.Headings.{heading_kind, is_behind, is_skipped, kind_word, size_on}
+use Rattle.stl_grammar.specs.Headings.{heading_kind, is_behind, is_heading_cut_off, is_skipped, kind_word, size_on}
 use Rattle.digit_texts.specs.Digits.{kept_number}
 use Rattle.stl_statements.specs.Paths.{number_word}
 use Rattle.stl_grammar.specs.Symbols.{ends_table, is_next, symbol_line}
-use Rattle.stl_statements.specs.Statements.{instruction_of, is_numbered}
+use Rattle.stl_statements.specs.Statements.{begins_with_label, instruction_of, is_numbered}
 use Rattle.stl_statements.specs.Words.{is_word, is_quoted_kind}
 use Rattle.stl_grammar.specs.declared.item.Found.{Found}
 use Rattle.stl_grammar.specs.declared.item.Found.TheVariants.{Fits, Misfit, Ended}
@@ -86,19 +88,18 @@ pub data IsForm : Where → List Token → Item → ℕ → Where → Type 0 whe
   data_end : (first sign : Token) (rest : List Token) →
       is_word (codes "END_STRUCT") first ≡ true → is_semicolon sign ≡ true
       → IsForm (Inside block.Db []) (first ∷ sign ∷ rest) Mark 1 (Behind block.Db)
-  struct_end : (kind : BlockKind) (level : Level) (levels : List Level) (first : Token) (rest : List Token)
-      (items : List InitialItem) (size : ℕ) →
-      is_word (codes "END_STRUCT") first ≡ true → ending_at (is_data kind) level.in_array rest ≡ read.Fits items size
-      → IsForm (Inside kind (level ∷ levels)) (first ∷ rest) (Closes items) size (Inside kind levels)
-  declaration : (kind : BlockKind) (levels : List Level) (name : Token) (rest : List Token) (type : Written) (size : ℕ) →
-      ends_level kind levels name ≡ false → declaration_at (is_data kind) (left_of levels) name rest ≡ read.Fits type size
-      → IsForm (Inside kind levels) (name ∷ rest) (Declares name.text name.line type) size
+  struct_end : (kind : BlockKind) (level : Level) (levels : List Level) (first : Token) (front rest : List Token) (items : List InitialItem) →
+      is_word (codes "END_STRUCT") first ≡ true → IsEnding (is_data kind) level.in_array front items
+      → IsForm (Inside kind (level ∷ levels)) (first ∷ (front ++ rest)) (Closes items) (length front) (Inside kind levels)
+  declaration : (kind : BlockKind) (levels : List Level) (name : Token) (front rest : List Token) (type : Written) →
+      ends_level kind levels name ≡ false → IsDeclaration (is_data kind) (left_of levels) name front type
+      → IsForm (Inside kind levels) (name ∷ (front ++ rest)) (Declares name.text name.line type) (length front)
       (Inside kind (levels_behind levels name.line type.innermost (length type.arrays)))
   begin_behind : (kind : BlockKind) (first : Token) (rest : List Token) →
       is_word (codes "BEGIN") first ≡ true → IsForm (Behind kind) (first ∷ rest) Mark 0 (body_of kind)
-  value : (first : Token) (rest : List Token) (its : RawInitial) (size : ℕ) →
-      is_end block.Db first ≡ false → path_value_at first.line (first ∷ rest) ≡ read.Fits its size
-      → IsForm Values (first ∷ rest) (Initial its) (size - 1) Values
+  value : (first : Token) (front rest : List Token) (its : RawInitial) →
+      is_end block.Db first ≡ false → IsInitial first.line (first ∷ front) its
+      → IsForm Values (first ∷ (front ++ rest)) (Initial its) (length front) Values
   values_end : (first : Token) (rest : List Token) →
       is_end block.Db first ≡ true → IsForm Values (first ∷ rest) (Ends first.line) 0 Between
   skipped_word : (kind : BlockKind) (first : Token) (rest : List Token) →
@@ -110,24 +111,80 @@ pub data IsForm : Where → List Token → Item → ℕ → Where → Type 0 whe
       → instruction_of (first ∷ more) ≡ Ok instr → is_semicolon sign ≡ true
       → IsForm (Body kind) (first ∷ (more ++ (sign ∷ rest))) (Instr instr) (length (first ∷ more)) (Body kind)
 
+-- What is refused
+
+-- an item has a form of a kind that is left out: a type of the user's own where a block may open, a data block by
+-- such a type or by a block of the system, or a complete declaration, end of a STRUCT or initial value with
+-- something left out in it
+pub data LeavesOutForm : Where → List Token → Kind → Type 0 where
+  user_type : (place : Where) (first : Token) (rest : List Token) →
+      MayOpen place → is_word (codes "TYPE") first ≡ true → LeavesOutForm place (first ∷ rest) UserType
+  data_of_a_type : (line : Line) (first : Token) (rest : List Token) →
+      is_user_type first rest ≡ true → LeavesOutForm (Heading block.Db line) (first ∷ rest) UserType
+  data_of_the_system : (line : Line) (first : Token) (rest : List Token) →
+      has_number (codes "SFB") first rest ≡ true → LeavesOutForm (Heading block.Db line) (first ∷ rest) SystemCall
+  in_a_declaration : (kind : BlockKind) (levels : List Level) (name : Token) (rest : List Token) (k : Kind) →
+      ends_level kind levels name ≡ false → LeavesOutDeclaration (is_data kind) (left_of levels) name rest k
+      → is_complete (name ∷ rest) ≡ true → LeavesOutForm (Inside kind levels) (name ∷ rest) k
+  at_a_struct_end : (kind : BlockKind) (level : Level) (levels : List Level) (first : Token) (rest : List Token) (k : Kind) →
+      is_word (codes "END_STRUCT") first ≡ true → LeavesOutEnding (is_data kind) level.in_array rest k
+      → is_complete (first ∷ rest) ≡ true → LeavesOutForm (Inside kind (level ∷ levels)) (first ∷ rest) k
+  in_a_value : (first : Token) (rest : List Token) (k : Kind) →
+      LeavesOutInitial (first ∷ rest) k → is_complete (first ∷ rest) ≡ true → LeavesOutForm Values (first ∷ rest) k
+
+-- where the STRUCT of a data block may stand: a function block, whose instance it would be
+abbrev pub begins_with_instance : List Token → Bool
+begins_with_instance [] = false
+begins_with_instance (first ∷ rest) = is_instance first rest
+
+-- among declarations: the word that ends them, or a name and a colon
+abbrev pub begins_inside : BlockKind → List Level → List Token → Bool
+begins_inside kind levels [] = false
+begins_inside kind levels (first ∷ rest) = ends_level kind levels first || begins_with_name (first ∷ rest)
+
+-- the item has a form that is not built yet, where it has no other. A data block has all of its forms.
+abbrev pub is_unbuilt : Where → List Token → Bool
+is_unbuilt Start tokens = is_not_built false (is_heading_cut_off tokens) tokens
+is_unbuilt (Table line) tokens = is_not_built false false tokens
+is_unbuilt Between tokens = is_not_built false (is_heading_cut_off tokens) tokens
+is_unbuilt (Heading kind line) tokens = if is_data kind then begins_with_instance tokens else is_not_built false false tokens
+is_unbuilt (Inside kind levels) tokens = if begins_inside kind levels tokens then false else is_not_built false false tokens
+is_unbuilt (Behind kind) tokens = if is_data kind then false else is_not_built false false tokens
+is_unbuilt (Body kind) tokens = is_not_built (begins_with_label tokens) false tokens
+is_unbuilt Values tokens = false
+
+-- why an item is refused that has no form, nor one that is left out
+abbrev pub plain_reason : Where → List Token → Reason
+plain_reason place tokens = if is_unbuilt place tokens then Unsupported NotBuilt else BadStatement
+
 -- a complete statement stands in a body
 abbrev pub has_statement : Where → List Token → Bool
 has_statement (Body kind) tokens = is_complete tokens
 has_statement elsewhere tokens = false
 
--- what stands at a place of a text that ends on a line: an item that has a form; a complete statement that is
--- no instruction; nothing, where there is neither; or the end of the text, where each block must be complete
+-- What stands at a place
+
+-- no item stands at the front
+abbrev pub HasNoForm : Where → List Token → Type 0
+HasNoForm place tokens = (item : Item) (size : ℕ) (next : Where) → IsForm place tokens item size next → ⊥
+
+-- what stands at a place of a text that ends on a line: an item that has a form; one that has a form of a kind
+-- that is left out; a complete statement that is no instruction; nothing, where there is none of these; or the end
+-- of the text, where each block must be complete
 pub data IsItem : Line → Where → List Token → Found → Type 0 where
   form : {end : Line} {place next : Where} {tokens : List Token} {item : Item} {size : ℕ} →
       IsForm place tokens item size next → IsItem end place tokens (Fits item size next)
+  left_out : {end : Line} {place : Where} (first : Token) (rest : List Token) (kind : Kind) →
+      HasNoForm place (first ∷ rest) → LeavesOutForm place (first ∷ rest) kind
+      → IsItem end place (first ∷ rest) (Misfit (misfit_line place first) (Unsupported kind))
   no_instruction : {end its_line : Line} (kind : BlockKind) (first : Token) (rest : List Token) {reason : Reason} →
       is_skipped_alone first ≡ false → is_end kind first ≡ false → is_complete (first ∷ rest) ≡ true
       → instruction_of (statement_at (first ∷ rest)) ≡ Err (Refused its_line reason)
       → IsItem end (Body kind) (first ∷ rest) (Misfit first.line (statement_reason (first ∷ rest) reason))
   none : {end : Line} {place : Where} (first : Token) (rest : List Token) →
-      ((item : Item) (size : ℕ) (next : Where) → IsForm place (first ∷ rest) item size next → ⊥)
+      HasNoForm place (first ∷ rest) → ((kind : Kind) → LeavesOutForm place (first ∷ rest) kind → ⊥)
       → has_statement place (first ∷ rest) ≡ false
-      → IsItem end place (first ∷ rest) (Misfit (misfit_line place first) (misfit_reason place (first ∷ rest)))
+      → IsItem end place (first ∷ rest) (Misfit (misfit_line place first) (plain_reason place (first ∷ rest)))
   at_start : {end : Line} → IsItem end Start [] Ended
   in_a_table : {end : Line} (line : Line) → IsItem end (Table line) [] (Misfit end BadStatement)
   behind_a_block : {end : Line} → IsItem end Between [] Ended
