@@ -25,7 +25,7 @@ IsSome (first ∷ rest) = Unit {0}
 form_some : {place next : Where} {tokens : List Token} {item : Item} {size : ℕ} → IsForm place tokens item size next → IsSome tokens
 form_some (heading place kind first rest may is named) = tt
 form_some (table first rest no_heading word) = tt
-form_some (symbol line name a its b type c comment rest no_end behind quoted_name one two three) = tt
+form_some (symbol line name a its b type c comment rest address no_end behind quoted_name one two three is) = tt
 form_some (table_end line first rest ends) = tt
 form_some (skipped_line kind line first rest is) = tt
 form_some (begin kind line first rest no_line no_data word) = tt

@@ -10,6 +10,7 @@ use Rattle.s7_base.specs.declared.reason.Rejection.TheVariants.{Refused, NoMemor
 use Rattle.s7_base.specs.declared.token.Token.{Token}
 use Rattle.stl_grammar.proofs.StatementSizes.{Split, size_open, size_append, split_of, taken}
 use Rattle.stl_grammar.specs.Grammar.{IsName, quoted, apart, together, MayOpen, last_line, IsForm, heading, table, symbol, table_end, skipped_line, begin, section, section_end, data_end, struct_end, declaration, begin_behind, value, values_end, skipped_word, end_word, statement, has_statement, plain_reason, LeavesOutForm, HasNoForm, IsItem, form, left_out, no_instruction, none, at_start, in_a_table, behind_a_block, behind_a_heading, in_a_section, in_a_struct, behind_a_section, in_a_body, among_values, ItemsHaveForms}
+use Rattle.stl_grammar.proofs.AddressLaws.{address_is, address_read}
 use Rattle.stl_grammar.proofs.DeclarationLaws.{declaration_front, declaration_read}
 use Rattle.stl_grammar.proofs.InitialLaws.{ending_front, ending_read, initial_front, initial_read, initial_some}
 use Rattle.stl_grammar.proofs.MisfitLaws.{Says, by_left, by_plain, left_says, no_left_body, says}
@@ -25,7 +26,7 @@ use Rattle.stl_grammar.specs.Headings.{heading_kind, is_behind, is_skipped, kind
 use Rattle.stl_grammar.specs.Items.{begins_body, behind_at, closing_at, declaration_found, declaration_reason, declarations_end, is_data, read_reason, section_word, struct_found, value_found, values_at, inside_at, level_line, misfit_line, is_semicolon, is_skipped_alone, is_end, statement_size, statement_at, is_complete, misfit_reason, statement_reason, table_at, symbol_found, in_table, behind_heading, statement_found, statement_from, body_at, at_token, item_at}
 use Rattle.digit_texts.specs.Digits.{kept_number}
 use Rattle.stl_statements.specs.Paths.{number_word}
-use Rattle.stl_grammar.specs.Symbols.{ends_table, is_next, symbol_at}
+use Rattle.stl_grammar.specs.Symbols.{address_of, ends_table, is_next, symbol_at, symbol_with, trimmed}
 use Rattle.stl_statements.specs.Readers.{fitting}
 use Rattle.stl_statements.specs.Statements.{is_numbered, on_line, statement as statement_said, instruction_of}
 use Rattle.stl_statements.specs.Words.{is_word, is_quoted_kind}
@@ -34,7 +35,7 @@ use Rattle.stl_statements.specs.declared.mnemonic.Read.TheVariants as read
 use Rattle.stl_grammar.specs.declared.item.Found.{Found}
 use Rattle.stl_grammar.specs.declared.item.Found.TheVariants.{Fits, Misfit}
 use Rattle.stl_grammar.specs.declared.item.Item.{Item}
-use Rattle.stl_grammar.specs.declared.item.Item.TheVariants.{Opens, Mark, Declares, Closes, Instr, Initial}
+use Rattle.stl_grammar.specs.declared.item.Item.TheVariants.{Opens, Mark, Symbol, Declares, Closes, Instr, Initial}
 use Rattle.stl_grammar.specs.declared.item.Where.{Where}
 use Rattle.stl_grammar.specs.declared.item.Where.TheVariants.{Start, Table, Between, Heading, Inside, Behind, Body, Values}
 use Rattle.stl_tree.specs.declared.raw.BlockKind.{BlockKind}
@@ -45,6 +46,7 @@ use Rattle.stl_tree.specs.declared.raw.RawInstr.{RawInstr}
 use Rattle.stl_tree.specs.declared.raw.RawOp.{RawOp}
 use Rattle.stl_tree.specs.declared.raw.RawName.{RawName}
 use Rattle.stl_tree.specs.declared.raw.RawName.TheVariants.{Number}
+use Rattle.stl_tree.specs.declared.raw.SymbolAddress.{SymbolAddress}
 use Rattle.stl_tree.specs.declared.raw.SymbolLine.{SymbolLine}
 
 if_true : {A : Type 0} (b : Bool) (x y : A) → b ≡ true → (if b then x else y) ≡ x
@@ -137,12 +139,13 @@ form_found end place next tokens item size (heading its_place kind first rest ma
 form_found end place next tokens item size (table first rest no_heading word) =
     ap (λ (o : Option BlockKind). opened_by (misfit_reason Start (first ∷ rest)) o (table_at (first ∷ rest) first) first rest) no_heading
     ∙ if_true (is_word (codes "SYMBOL_TABLE") first) _ _ word
-form_found end place next tokens item size (symbol line name a its b type c comment rest no_end behind quoted_name one two three) =
+form_found end place next tokens item size (symbol line name a its b type c comment rest address no_end behind quoted_name one two three is) =
     let behind_name = a ∷ its ∷ b ∷ type ∷ c ∷ comment ∷ rest in
     if_false (ends_table line name behind_name) _ _ no_end
     ∙ ap (λ (o : Option SymbolLine). symbol_found line (name ∷ behind_name) name o)
     (if_true (is_behind line name) _ _ behind
     ∙ if_true _ _ _ (both _ _ (both _ _ (both (is_quoted_kind name.kind) (is_next name.line a its) quoted_name one) two) three))
+    ∙ ap (λ (found : SymbolAddress). Fits (Symbol (symbol_with name found)) 6 (Table name.line)) (address_read (trimmed its.text) address is)
 form_found end place next tokens item size (table_end line first rest ends) = if_true (ends_table line first rest) _ _ ends
 form_found end place next tokens item size (skipped_line kind line first rest is) = if_true (is_skipped line first rest) _ _ is
 form_found end place next tokens item size (begin kind line first rest no_line no_data word) =
@@ -255,10 +258,11 @@ symbol_reads line name (a ∷ its ∷ b ∷ type ∷ c ∷ comment ∷ rest) no_
     choose R (is_quoted_kind name.kind && is_next name.line a its && is_next name.line b type && is_next name.line c comment) _ _
     (λ all. let three = left_true (is_quoted_kind name.kind && is_next name.line a its && is_next name.line b type) (is_next name.line c comment) all in
     let two = left_true (is_quoted_kind name.kind && is_next name.line a its) (is_next name.line b type) three in
-    fits (symbol line name a its b type c comment rest no_end behind
+    fits (symbol line name a its b type c comment rest (address_of (trimmed its.text)) no_end behind
     (left_true (is_quoted_kind name.kind) (is_next name.line a its) two) (right_true (is_quoted_kind name.kind) (is_next name.line a its) two)
     (right_true (is_quoted_kind name.kind && is_next name.line a its) (is_next name.line b type) three)
-    (right_true (is_quoted_kind name.kind && is_next name.line a its && is_next name.line b type) (is_next name.line c comment) all)))
+    (right_true (is_quoted_kind name.kind && is_next name.line a its && is_next name.line b type) (is_next name.line c comment) all)
+    (address_is (trimmed its.text))))
     (λ other. misses (Table line) name (a ∷ its ∷ b ∷ type ∷ c ∷ comment ∷ rest) refl)
 
 in_table_reads : (line : Line) (first : Token) (rest : List Token) → Reads (Table line) first rest (in_table line (first ∷ rest) first rest)

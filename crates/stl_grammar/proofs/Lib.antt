@@ -1,3 +1,4 @@
+pub mod AddressLaws
 pub mod ConstantFronts
 pub mod DeclarationLaws
 pub mod GrammarLaws

@@ -9,6 +9,7 @@ use Rattle.s7_base.specs.declared.reason.Reason.TheVariants.{BadStatement, Unsup
 use Rattle.s7_base.specs.declared.reason.Rejection.TheVariants.{Refused}
 use Rattle.s7_base.specs.declared.token.Token.{Token}
 use Rattle.stl_grammar.specs.Items.{begins_body, begins_with_name, body_of, is_complete, is_data, is_end, is_instance, is_not_built, is_semicolon, is_skipped_alone, item_at, misfit_line, section_word, statement_at, statement_reason, statement_size}
+use Rattle.stl_grammar.specs.AddressForms.{IsAddress}
 use Rattle.stl_grammar.specs.DeclarationForms.{IsDeclaration, LeavesOutDeclaration}
 use Rattle.stl_grammar.specs.Declarations.{ends_level, has_number, is_user_type, left_of, levels_behind}
 use Rattle.stl_grammar.specs.InitialForms.{IsEnding, IsInitial, LeavesOutEnding, LeavesOutInitial}
@@ -17,7 +18,7 @@ use Rattle.stl_grammar.specs.declared.declaration.Written.{Written}
 use Rattle.stl_grammar.specs.Headings.{heading_kind, is_behind, is_heading_cut_off, is_skipped, kind_word, size_on}
 use Rattle.digit_texts.specs.Digits.{kept_number}
 use Rattle.stl_statements.specs.Paths.{number_word}
-use Rattle.stl_grammar.specs.Symbols.{ends_table, is_next, symbol_line}
+use Rattle.stl_grammar.specs.Symbols.{ends_table, is_next, symbol_with, trimmed}
 use Rattle.stl_statements.specs.Statements.{begins_with_label, instruction_of, is_numbered}
 use Rattle.stl_statements.specs.Words.{is_word, is_quoted_kind}
 use Rattle.stl_grammar.specs.declared.item.Found.{Found}
@@ -33,6 +34,7 @@ use Rattle.stl_tree.specs.declared.raw.RawInitial.{RawInitial}
 use Rattle.stl_tree.specs.declared.raw.RawInstr.{RawInstr}
 use Rattle.stl_tree.specs.declared.raw.RawName.{RawName}
 use Rattle.stl_tree.specs.declared.raw.RawName.TheVariants.{Number, Name}
+use Rattle.stl_tree.specs.declared.raw.SymbolAddress.{SymbolAddress}
 
 -- Items
 
@@ -66,11 +68,11 @@ pub data IsForm : Where → List Token → Item → ℕ → Where → Type 0 whe
       (Heading kind (last_line first.line names))
   table : (first : Token) (rest : List Token) →
       heading_kind first ≡ None → is_word (codes "SYMBOL_TABLE") first ≡ true → IsForm Start (first ∷ rest) Mark 0 (Table first.line)
-  symbol : (line : Line) (name a its b type c comment : Token) (rest : List Token) →
+  symbol : (line : Line) (name a its b type c comment : Token) (rest : List Token) (address : SymbolAddress) →
       ends_table line name (a ∷ its ∷ b ∷ type ∷ c ∷ comment ∷ rest) ≡ false → is_behind line name ≡ true
       → is_quoted_kind name.kind ≡ true → is_next name.line a its ≡ true → is_next name.line b type ≡ true
-      → is_next name.line c comment ≡ true
-      → IsForm (Table line) (name ∷ a ∷ its ∷ b ∷ type ∷ c ∷ comment ∷ rest) (Symbol (symbol_line name its)) 6 (Table name.line)
+      → is_next name.line c comment ≡ true → IsAddress (trimmed its.text) address
+      → IsForm (Table line) (name ∷ a ∷ its ∷ b ∷ type ∷ c ∷ comment ∷ rest) (Symbol (symbol_with name address)) 6 (Table name.line)
   table_end : (line : Line) (first : Token) (rest : List Token) →
       ends_table line first rest ≡ true → IsForm (Table line) (first ∷ rest) Mark 0 Between
   skipped_line : (kind : BlockKind) (line : Line) (first : Token) (rest : List Token) →

@@ -1,3 +1,4 @@
+pub mod AddressForms
 pub mod DeclarationForms
 pub mod Declarations
 pub mod Elements

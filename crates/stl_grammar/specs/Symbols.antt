@@ -106,9 +106,13 @@ address_of field =
 abbrev pub is_next : Line → Token → Token → Bool
 is_next line comma field = is_sign (codes ",") comma && is_on line comma && is_quoted_kind field.kind && is_on line field
 
--- a line of the table, by its fields
+-- a line of the table, by its name and its address
+abbrev pub symbol_with : Token → SymbolAddress → SymbolLine
+symbol_with name its = record { name = trimmed name.text; line = name.line; address = its }
+
+-- the same by its fields
 abbrev pub symbol_line : Token → Token → SymbolLine
-symbol_line name its = record { name = trimmed name.text; line = name.line; address = address_of (trimmed its.text) }
+symbol_line name its = symbol_with name (address_of (trimmed its.text))
 
 -- four fields with commas between them, on one line; the last two are not used
 abbrev pub symbol_at : Token → List Token → Option SymbolLine
