@@ -1,21 +1,22 @@
 //! Declarations.
 ghost use Rattle.std.specs.Prelude.{◌≡◌, ◌+◌, ◌++◌, length, IfOk, OnOk};
-ghost use Rattle.stl_grammar.specs.Declarations.{alone, array_at, array_with, before_of, begins_with_number, bounds_at, closed_behind, closed_by, declaration_at, depth_of, dims_at, end_of_declarations, ends_level, has_number, in_array, is_user_type, left_of, left_out_type, levels_behind, one_word, one_word_at, opening_type, pointer_types, small_or_other, small_type, time_types, type_at, type_kind, upper_at, wide_or_left_out, wide_type, with_array, with_initial};
+ghost use Rattle.stl_grammar.specs.Declarations.{alone, array_at, array_with, before_of, begins_with_number, bounds_at, closed_behind, closed_by, declaration_at, depth_of, dims_at, ends_level, has_number, in_array, is_user_type, left_of, left_out_type, levels_behind, one_word, one_word_at, opening_type, pointer_types, small_or_other, small_type, time_types, type_at, type_kind, upper_at, wide_or_left_out, wide_type, with_array, with_initial};
 ghost use Rattle.stl_grammar.specs.Initials.{ending_at};
 ghost use Rattle.stl_statements.specs.Readers.{further, read_as};
 
 use crate::elements::{Next, begins_with_word, further, next_of, one_more};
 use crate::initial::ending_at;
+use crate::section::{end_of_section, takes_dates};
 use crate::words::{is_pointer_type, is_time_type};
 use digit_texts::are_digits;
 use s7_base::{Kind, Line, List, NoMemory, Token, rest_after};
 use std::alloc::Global;
 use std::collections::LinkedList;
 use stl_constants::{is_numbered, is_sign, is_word, is_word_kind};
-use stl_grammar::{Innermost, Level, Written};
+use stl_grammar::{Innermost, Level, Section, Written};
 use stl_places::whole_at;
 use stl_statements::Read;
-use stl_tree::{BlockKind, ElemType, InitialItem};
+use stl_tree::{ElemType, InitialItem};
 
 fn with_lower(low: i64, high: Read<i64>) -> Read<(i64, i64)>
     ensures { result ≡ read_as (λ high. (low, high)) high }
@@ -292,69 +293,68 @@ fn with_initial(written: Written, read: Read<List<InitialItem>>) -> Read<Written
 /// A declaration by its type, and what ends it.
 fn ended(
     alloc: Global,
-    valued: bool,
+    section: Section,
     written: Written,
     size: usize,
     behind: &[Token],
 ) -> Result<Read<Written>, NoMemory>
-    ensures { IfOk result (λ found. found ≡ further size (read_as (with_initial written) (ending_at valued (in_array (length written.arrays)) behind.now))) }
+    ensures { IfOk result (λ found. found ≡ further size (read_as (with_initial written) (ending_at section (in_array (length written.arrays)) behind.now))) }
 {
     let in_array = written.arrays.len() > 0;
-    let items = ending_at(alloc, valued, in_array, behind)?;
+    let items = ending_at(alloc, section, in_array, behind)?;
     further(size, with_initial(written, items))
 }
 
 /// A declaration by its type: one of a STRUCT ends behind its members.
 fn closed_by(
     alloc: Global,
-    valued: bool,
+    section: Section,
     written: Written,
     size: usize,
     behind: &[Token],
 ) -> Result<Read<Written>, NoMemory>
-    ensures { IfOk result (λ found. found ≡ closed_by valued written.innermost written size behind.now) }
+    ensures { IfOk result (λ found. found ≡ closed_by section written.innermost written size behind.now) }
 {
     match written.innermost {
         Innermost::Struct => Ok(Read::Fits(written, size)),
-        Innermost::DateAndTime if valued => Ok(Read::LeftOut(Kind::DateTime)),
+        Innermost::DateAndTime if !takes_dates(section) => Ok(Read::LeftOut(Kind::DateTime)),
         Innermost::Elementary(_) | Innermost::DateAndTime => {
-            ended(alloc, valued, written, size, behind)
+            ended(alloc, section, written, size, behind)
         }
     }
 }
 
 fn closed_behind(
     alloc: Global,
-    valued: bool,
+    section: Section,
     tokens: &[Token],
     read: Read<Written>,
 ) -> Result<Read<Written>, NoMemory>
-    ensures { IfOk result (λ found. found ≡ closed_behind valued tokens.now read) }
+    ensures { IfOk result (λ found. found ≡ closed_behind section tokens.now read) }
 {
     match read {
         Read::Fits(written, size) => {
-            closed_by(alloc, valued, written, size, rest_after(tokens, size))
+            closed_by(alloc, section, written, size, rest_after(tokens, size))
         }
         Read::LeftOut(kind) => Ok(Read::LeftOut(kind)),
         Read::No => Ok(Read::No),
     }
 }
 
-/// What stands where a declaration may stand that opens so many levels at most, behind its name; it may have
-/// an initial value where it is `valued`.
+/// What stands where a declaration of a section may stand that opens so many levels at most, behind its name.
 pub fn declaration_at(
     alloc: Global,
-    valued: bool,
+    section: Section,
     left: usize,
     name: &Token,
     tokens: &[Token],
 ) -> Result<Read<Written>, NoMemory>
-    ensures { IfOk result (λ found. found ≡ declaration_at valued left name.now tokens.now) }
+    ensures { IfOk result (λ found. found ≡ declaration_at section left name.now tokens.now) }
 {
     match tokens {
         [colon, rest @ ..] if is_word_kind(name) && is_sign(colon, ":") => {
             let read = type_at(alloc, left, rest)?;
-            further(1, closed_behind(alloc, valued, rest, read)?)
+            further(1, closed_behind(alloc, section, rest, read)?)
         }
         _ => Ok(Read::No),
     }
@@ -402,22 +402,12 @@ pub fn open_level(
     }
 }
 
-/// The word that ends the declarations of a block.
-fn end_of_declarations(kind: BlockKind) -> &'static str
-    ensures { result.now ≡ end_of_declarations kind }
-{
-    match kind {
-        BlockKind::Db => "END_STRUCT",
-        BlockKind::Ob | BlockKind::Fc | BlockKind::Fb => "END_VAR",
-    }
-}
-
-/// The word that ends the innermost STRUCT, or the declarations.
-pub fn ends_level(kind: BlockKind, levels: &LinkedList<Level>, first: &Token) -> bool
-    ensures { result ≡ ends_level kind levels.now first.now }
+/// The word that ends the innermost STRUCT, or the section.
+pub fn ends_level(section: Section, levels: &LinkedList<Level>, first: &Token) -> bool
+    ensures { result ≡ ends_level section levels.now first.now }
 {
     match levels.front() {
         Some(_) => is_word(first, "END_STRUCT"),
-        None => is_word(first, end_of_declarations(kind)),
+        None => is_word(first, end_of_section(section)),
     }
 }

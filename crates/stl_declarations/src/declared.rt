@@ -1,11 +1,11 @@
 //! What declarations make of the program.
 ghost use Rattle.std.specs.Prelude.{◌≡◌, [], ◌∷◌, Some, option_map, IfOk, OnOk};
-ghost use Rattle.stl_grammar.specs.RawPrograms.{array_of, closed, declaration, with_declared, with_last, with_own, with_temp, with_type};
+ghost use Rattle.stl_grammar.specs.RawPrograms.{array_of, closed, declaration, with_declared, with_last, with_own, with_part, with_type};
 
 use s7_base::{Boxed, Line, List, NoMemory};
 use std::alloc::Global;
 use std::collections::LinkedList;
-use stl_grammar::{Innermost, OpenStruct, Reading, Written};
+use stl_grammar::{Innermost, OpenStruct, Reading, Section, Written};
 use stl_tree::{DeclType, Declaration, InitialItem, RawBlock, RawData, RawDataKind};
 
 /// A type with arrays round it, the outermost first; there are eight at most.
@@ -56,28 +56,59 @@ fn put_own(db: &mut RawData, one: Declaration) -> Result<(), NoMemory>
     }
 }
 
-/// One more temporary variable of the last block.
-fn put_temp(last: &mut Option<RawBlock>, one: Declaration) -> Result<(), NoMemory>
-    ensures { OnOk result (last.new ≡ option_map (with_temp one) last.old) }
+/// One more declaration in a section of a block.
+fn put_part(block: &mut RawBlock, section: Section, one: Declaration) -> Result<(), NoMemory>
+    ensures { OnOk result (block.new ≡ with_part section one block.old) }
 {
-    match last {
-        Some(block) => block.temps.push(one),
+    match section {
+        Section::Input => block.inputs.push(one),
+        Section::Output => block.outputs.push(one),
+        Section::InOut => block.in_outs.push(one),
+        Section::Static => block.statics.push(one),
+        Section::Temp => block.temps.push(one),
+        Section::Own => Ok(()),
+    }
+}
+
+/// One more declaration of the last data block.
+fn put_last_own(last_db: &mut Option<RawData>, one: Declaration) -> Result<(), NoMemory>
+    ensures { OnOk result (last_db.new ≡ option_map (with_own one) last_db.old) }
+{
+    match last_db {
+        Some(db) => put_own(db, one),
         None => Ok(()),
     }
 }
 
-/// One more declaration of the data block that is open, or of the last block.
-fn put_last(reading: &mut Reading, one: Declaration) -> Result<(), NoMemory>
-    requires { reading.now.structs ≡ [] }
-    ensures { OnOk result (reading.new ≡ with_last one reading.old.last_db reading.old) }
+/// One more declaration in a section of the last block.
+fn put_last_part(
+    last: &mut Option<RawBlock>,
+    section: Section,
+    one: Declaration,
+) -> Result<(), NoMemory>
+    ensures { OnOk result (last.new ≡ option_map (with_part section one) last.old) }
 {
-    match &mut reading.last_db {
-        Some(db) => put_own(db, one),
-        None => put_temp(&mut reading.last, one),
+    match last {
+        Some(block) => put_part(block, section, one),
+        None => Ok(()),
     }
 }
 
-/// One more declaration of the innermost STRUCT that is open, or of the last block.
+/// One more declaration in the section that opened last.
+fn put_last(reading: &mut Reading, one: Declaration) -> Result<(), NoMemory>
+    requires { reading.now.structs ≡ [] }
+    ensures { OnOk result (reading.new ≡ with_last one reading.old.section reading.old) }
+{
+    let section = reading.section;
+    match section {
+        Section::Own => put_last_own(&mut reading.last_db, one),
+        Section::Input | Section::Output | Section::InOut | Section::Static | Section::Temp => {
+            put_last_part(&mut reading.last, section, one)
+        }
+    }
+}
+
+/// One more declaration of the innermost STRUCT that is open, or in the section that opened last.
 fn put_declared(reading: &mut Reading, one: Declaration) -> Result<(), NoMemory>
     ensures { OnOk result (reading.new ≡ with_declared one reading.old.structs reading.old) }
 {

@@ -7,10 +7,12 @@ ghost use Rattle.stl_statements.specs.Pointers.{pointer_at};
 ghost use Rattle.stl_statements.specs.Readers.{further, or_else, read_as};
 
 use crate::elements::{Next, begins_with_sign, further, next_of, one_more};
+use crate::section::takes_values;
 use digit_texts::number_up_to;
 use s7_base::{Line, List, NoMemory, Token, Width, rest_after};
 use std::alloc::Global;
 use stl_constants::{constant_at, fitting, is_sign, is_word, is_word_kind};
+use stl_grammar::Section;
 use stl_places::{path_at, pointer_at, pointer_value};
 use stl_statements::Read;
 use stl_tree::{Constant, InitialItem, PathStep, RawInitial, RawPointer};
@@ -262,18 +264,18 @@ fn initial_at(
     }
 }
 
-/// What ends a declaration: `;`, and where it is `valued`, `:=` and an initial value before it.
+/// What ends a declaration of a section: `;`, and where it may have one, `:=` and an initial value before it.
 pub fn ending_at(
     alloc: Global,
-    valued: bool,
+    section: Section,
     in_array: bool,
     tokens: &[Token],
 ) -> Result<Read<List<InitialItem>>, NoMemory>
-    ensures { IfOk result (λ read. read ≡ ending_at valued in_array tokens.now) }
+    ensures { IfOk result (λ read. read ≡ ending_at section in_array tokens.now) }
 {
     match tokens {
         [sign, ..] if is_sign(sign, ";") => Ok(Read::Fits(List::new(alloc), 1)),
-        [sign, rest @ ..] if valued && is_sign(sign, ":=") => {
+        [sign, rest @ ..] if takes_values(section) && is_sign(sign, ":=") => {
             further(1, initial_at(alloc, in_array, rest)?)
         }
         _ => Ok(Read::No),

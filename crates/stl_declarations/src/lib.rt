@@ -2,7 +2,8 @@
 //!
 //! Stands on `stl_grammar`, which says what they are, and on `digit_texts`, `stl_constants` and `stl_places` for
 //! words, numbers, constants, pointers and paths. `declaration` reads a declaration behind its name, and knows which levels of STRUCT are
-//! open; `initial` reads initial values, of a declaration and by a path in the body of a data block; `declared`
+//! open; `section` knows which section a word opens, and what may stand in it; `initial` reads initial values, of a
+//! declaration and by a path in the body of a data block; `declared`
 //! says what a declaration and the end of a STRUCT make of what was read before. Each call gives what the
 //! definition of its name gives, and refuses where that refuses. Where an item stands, and why one is refused
 //! that fits no form, is not known here.
@@ -12,10 +13,12 @@ pub use declaration::{declaration_at, ends_level, has_number, is_user_type, left
 pub use declared::{put_closed, put_type};
 pub use elements::{begins_with_sign, begins_with_word};
 pub use initial::{ending_at, path_value_at};
+pub use section::section_at;
 pub use words::is_listed;
 
 mod declaration;
 mod declared;
 mod elements;
 mod initial;
+mod section;
 mod words;

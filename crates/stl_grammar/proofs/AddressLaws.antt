@@ -414,10 +414,10 @@ address_is field = by (given field) refl (given_is field)
   where
     by : (o : Option SymbolAddress) → given field ≡ o → IsGiven field o → IsAddress field (or_other o)
     by None e is = form.other field (λ its written. let found : Some its ≡ None = sym (given_read field its written) ∙ e in absurd cc)
-    by (Some its) e is = form.written field its is
+    by (Some its) e is = form.as_form field its is
 
 pub address_read : (field : List ℕ) (its : SymbolAddress) → IsAddress field its → address_of field ≡ its
-address_read field its (form.written its_field its_address is) = ap or_other (given_read its_field its_address is)
+address_read field its (form.as_form its_field its_address is) = ap or_other (given_read its_field its_address is)
 address_read field its (form.other its_field none) = by (given its_field) (given_is its_field)
   where
     by : (o : Option SymbolAddress) → IsGiven its_field o → or_other o ≡ address.Other

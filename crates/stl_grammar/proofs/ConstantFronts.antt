@@ -18,7 +18,7 @@ use Rattle.stl_constants.proofs.Reading.{AllOf, alike, if_false, if_true, joined
 use Rattle.stl_constants.proofs.Tables.{found_among, found_apart, found_passes, none_at, none_found}
 use Rattle.stl_grammar.proofs.Outs.{OutOf, as_out, fitting_out, or_left, or_out, weaker_out}
 use Rattle.stl_grammar.specs.Elements.{begins_with_sign}
-use Rattle.stl_grammar.specs.InitialForms.{LeavesOutBehind, LeavesOutValue, always, name, prefixed, real}
+use Rattle.stl_grammar.specs.InitialForms.{LeavesOutBehind, LeavesOutValue, always, name, with_prefix, real}
 use Rattle.stl_places.proofs.Fronts.{FrontOf, as_front, fitting_front, or_front}
 use Rattle.stl_statements.specs.ConstantForms.{IsAmong, IsConstant, IsNumberIn, IsPrefixed, IsSigned}
 use Rattle.stl_statements.specs.ConstantForms as form
@@ -489,7 +489,7 @@ prefixed_out (first ∷ hash ∷ rest) = by (find (has_prefix (first ∷ hash �
     by (Some row) found =
         let p = and_parts (is_word row.word first) (is_joined (codes "#") hash) (found_passes (has_prefix (first ∷ hash ∷ rest)) prefixes row found) in
         let among = found_among (has_prefix (first ∷ hash ∷ rest)) prefixes row found in
-        weaker_out (λ k. LeavesOutBehind row.what rest k) (λ k. LeavesOutValue (first ∷ hash ∷ rest) k) (λ k is. prefixed row first hash rest k among p.0 p.1 is)
+        weaker_out (λ k. LeavesOutBehind row.what rest k) (λ k. LeavesOutValue (first ∷ hash ∷ rest) k) (λ k is. with_prefix row first hash rest k among p.0 p.1 is)
         (behind_prefix row.what rest) (behind_out row.what rest)
 
 real_out : (tokens : List Token) → OutOf (λ k. LeavesOutValue tokens k) (real_at tokens)
@@ -594,7 +594,7 @@ begins_no_word first rest word (after_minus sign is) late = and_left _ _ (no_wor
 begins_no_word first rest word (at_digits sign is) late = digits_no_word first word is.digits late
 
 pub left_no_word : (tokens : List Token) (k : Kind) (word : List ℕ) → LeavesOutValue tokens k → IsNoConstant word → word_is word tokens ≡ false
-left_no_word tokens k word (prefixed row first hash rest its among is joined behind) none =
+left_no_word tokens k word (with_prefix row first hash rest its among is joined behind) none =
     other_word row.word word first is (none_at (λ (r : Prefixed). is_same_word word r.word) prefixes row among none.other)
 left_no_word tokens k word (real [] is) none = absurd cc
 left_no_word tokens k word (real (first ∷ rest) is) none = begins_no_word first rest word (real_begins first rest is) none.letter
@@ -608,7 +608,7 @@ begins_no_bracket first (next ∷ rest) (at_digits sign is) = by is.behind
     by e = let same : next ≡ is.point = cc in subst (λ (t : Token). is_sign (codes "(") t ≡ false) (sym same) (other_sign (codes ".") (codes "(") is.point (joined_sign (codes ".") is.point is.joined) refl)
 
 pub left_no_bracket : (first : Token) (rest : List Token) (k : Kind) → LeavesOutValue (first ∷ rest) k → begins_with_sign (codes "(") rest ≡ false
-left_no_bracket first rest k (prefixed row its hash more kind among is joined behind) = other_sign (codes "#") (codes "(") hash (joined_sign (codes "#") hash joined) refl
+left_no_bracket first rest k (with_prefix row its hash more kind among is joined behind) = other_sign (codes "#") (codes "(") hash (joined_sign (codes "#") hash joined) refl
 left_no_bracket first rest k (real tokens is) = begins_no_bracket first rest (real_begins first rest is)
 
 -- From what is left out to what is read of it
@@ -638,7 +638,7 @@ real_left first rest is =
     ∙ if_true (begins_real all) _ No is)
 
 pub constant_left : (tokens : List Token) (k : Kind) → LeavesOutValue tokens k → constant_at tokens ≡ LeftOut k
-constant_left tokens k (prefixed row first hash rest its among is joined behind) =
+constant_left tokens k (with_prefix row first hash rest its among is joined behind) =
     let all = first ∷ hash ∷ rest in
     or_no (text_at all) _ (no_text first (hash ∷ rest) (word_no_text first (word_kind row.word first is)))
     ∙ or_left (marked_at prefixes all) (plain_at all) k

@@ -16,7 +16,7 @@ use Rattle.stl_grammar.proofs.ConstantFronts.{Stops, stop_by}
 use Rattle.stl_grammar.proofs.InitialLaws.{ending_front, ending_left, ending_out, ending_read}
 use Rattle.stl_grammar.proofs.ListLaws.{Agrees, Closes, elements_front, elements_read}
 use Rattle.stl_grammar.proofs.Outs.{OutOf, as_out, dropped, fitting_out, further_out, weaker_out}
-use Rattle.stl_grammar.specs.DeclarationForms.{AreDims, HasEnd, IsBounds, IsDeclaration, IsNamed, IsType, LeavesOutDeclaration, LeavesOutType, elem_word}
+use Rattle.stl_grammar.specs.DeclarationForms.{AreDims, HasEnd, IsBounds, IsDeclaration, BeginsDeclaration, IsType, LeavesOutDeclaration, LeavesOutType, elem_word}
 use Rattle.stl_grammar.specs.DeclarationForms as form
 use Rattle.stl_grammar.specs.Declarations.{alone, array_at, array_with, before_of, begins_with_number, bounds_at, closed_behind, closed_by, declaration_at, dims_at, has_number, in_array, is_user_type, left_out_type, one_word_at, pointer_types, small_or_other, small_type, time_types, type_at, type_kind, upper_at, upper_behind, wide_or_left_out, wide_type, with_array, with_initial}
 use Rattle.stl_grammar.specs.Elements.{begins_with_word}
@@ -25,6 +25,8 @@ use Rattle.stl_grammar.specs.Initials.{ending_at}
 use Rattle.stl_grammar.specs.ListForms.{AreElements}
 use Rattle.stl_grammar.specs.declared.declaration.Innermost.{Innermost}
 use Rattle.stl_grammar.specs.declared.declaration.Innermost.TheVariants as inner
+use Rattle.stl_grammar.specs.Sections.{takes_dates}
+use Rattle.stl_grammar.specs.declared.declaration.Section.{Section}
 use Rattle.stl_grammar.specs.declared.declaration.Written.{Written}
 use Rattle.stl_places.proofs.Fronts.{Front, FrontOf, as_front, fitting_front, further_front}
 use Rattle.stl_statements.specs.ConstantForms.{IsAmong}
@@ -555,120 +557,127 @@ type_left left tokens k (form.array_of l word front rest dims its is are out) =
 
 -- Declarations
 
-named_by : (name colon : Token) → (is_word_kind name.kind && is_sign (codes ":") colon) ≡ true → IsNamed name colon
+named_by : (name colon : Token) → (is_word_kind name.kind && is_sign (codes ":") colon) ≡ true → BeginsDeclaration name colon
 named_by name colon h = let p = and_parts (is_word_kind name.kind) (is_sign (codes ":") colon) h in record { name_is = p.0; colon_is = p.1 }
 
 -- what ends a declaration that has its own end
-end_at : (valued : Bool) (what : Innermost) (type : Written) (size : ℕ) (behind : List Token) → HasEnd valued what →
-    closed_by valued what type size behind ≡ further size (read_as (with_initial type) (ending_at valued (in_array (length type.arrays)) behind))
-end_at valued (inner.Elementary its) type size behind has = refl
-end_at valued inner.DateAndTime type size behind has = if_false valued _ _ has
-end_at valued inner.Struct type size behind has = absurd has
+end_at : (section : Section) (what : Innermost) (type : Written) (size : ℕ) (behind : List Token) → HasEnd section what →
+    closed_by section what type size behind ≡ further size (read_as (with_initial type) (ending_at section (in_array (length type.arrays)) behind))
+end_at section (inner.Elementary its) type size behind has = refl
+end_at section inner.DateAndTime type size behind has = if_true (takes_dates section) _ _ has
+end_at section inner.Struct type size behind has = absurd has
 
-closed_front : (valued : Bool) (left : ℕ) (name colon : Token) → IsNamed name colon → (rest : List Token) (r : Read Written) → FrontOf rest (IsType left) r →
-    FrontOf rest (λ more type. IsDeclaration valued left name (colon ∷ more) type) (closed_behind valued rest r)
-closed_front valued left name colon named rest No f = tt
-closed_front valued left name colon named rest (LeftOut k) f = tt
-closed_front valued left name colon named rest (Fits type size) f = by type.innermost refl valued refl
+closed_front : (section : Section) (left : ℕ) (name colon : Token) → BeginsDeclaration name colon → (rest : List Token) (r : Read Written) → FrontOf rest (IsType left) r →
+    FrontOf rest (λ more type. IsDeclaration section left name (colon ∷ more) type) (closed_behind section rest r)
+closed_front section left name colon named rest No f = tt
+closed_front section left name colon named rest (LeftOut k) f = tt
+closed_front section left name colon named rest (Fits type size) f = by type.innermost refl (takes_dates section) refl
   where
-    ended : (v : Bool) → HasEnd v type.innermost →
-        FrontOf rest (λ more w. IsDeclaration v left name (colon ∷ more) w) (further size (read_as (with_initial type) (ending_at v (in_array (length type.arrays)) (drop size rest))))
-    ended v has =
+    with_end : HasEnd section type.innermost →
+        FrontOf rest (λ more w. IsDeclaration section left name (colon ∷ more) w) (further size (read_as (with_initial type) (ending_at section (in_array (length type.arrays)) (drop size rest))))
+    with_end has =
         let a : Bool = in_array (length type.arrays) in
-        behind_at rest size (λ front. IsType left front type) f (λ more w. IsDeclaration v left name (colon ∷ more) w) (λ ts. read_as (with_initial type) (ending_at v a ts))
-        (as_front f.rest (with_initial type) (IsEnding v a) (λ more w. IsDeclaration v left name (colon ∷ (f.front ++ more)) w)
-        (λ more end items at is. form.variable colon f.front more type items named f.holds has is) (ending_at v a f.rest) (ending_front v a f.rest))
+        behind_at rest size (λ front. IsType left front type) f (λ more w. IsDeclaration section left name (colon ∷ more) w) (λ ts. read_as (with_initial type) (ending_at section a ts))
+        (as_front f.rest (with_initial type) (IsEnding section a) (λ more w. IsDeclaration section left name (colon ∷ (f.front ++ more)) w)
+        (λ more end items at is. form.variable colon f.front more type items named f.holds has is) (ending_at section a f.rest) (ending_front section a f.rest))
 
-    by : (what : Innermost) → type.innermost ≡ what → (v : Bool) → valued ≡ v → FrontOf rest (λ more w. IsDeclaration v left name (colon ∷ more) w) (closed_by v what type size (drop size rest))
-    by inner.Struct what v is = record { front = f.front; rest = f.rest; is = f.is; size_is = f.size_is; holds = form.struct_head colon f.front type named f.holds what }
-    by inner.DateAndTime what true is = tt
-    by inner.DateAndTime what false is = ended false (subst (λ (i : Innermost). HasEnd false i) (sym what) refl)
-    by (inner.Elementary its) what v is = ended v (subst (λ (i : Innermost). HasEnd v i) (sym what) tt)
+    by : (what : Innermost) → type.innermost ≡ what → (d : Bool) → takes_dates section ≡ d →
+        FrontOf rest (λ more w. IsDeclaration section left name (colon ∷ more) w) (closed_by section what type size (drop size rest))
+    by inner.Struct what d takes = record { front = f.front; rest = f.rest; is = f.is; size_is = f.size_is; holds = form.struct_head colon f.front type named f.holds what }
+    by inner.DateAndTime what true takes =
+        subst (λ (r : Read Written). FrontOf rest (λ more w. IsDeclaration section left name (colon ∷ more) w) r) (sym (if_true (takes_dates section) _ _ takes))
+        (with_end (subst (λ (i : Innermost). HasEnd section i) (sym what) takes))
+    by inner.DateAndTime what false takes =
+        subst (λ (r : Read Written). FrontOf rest (λ more w. IsDeclaration section left name (colon ∷ more) w) r) (sym (if_false (takes_dates section) _ _ takes)) tt
+    by (inner.Elementary its) what d takes = with_end (subst (λ (i : Innermost). HasEnd section i) (sym what) tt)
 
-pub declaration_front : (valued : Bool) (left : ℕ) (name : Token) (tokens : List Token) → FrontOf tokens (IsDeclaration valued left name) (declaration_at valued left name tokens)
-declaration_front valued left name [] = tt
-declaration_front valued left name (colon ∷ rest) = by (is_word_kind name.kind && is_sign (codes ":") colon) refl
+pub declaration_front : (section : Section) (left : ℕ) (name : Token) (tokens : List Token) → FrontOf tokens (IsDeclaration section left name) (declaration_at section left name tokens)
+declaration_front section left name [] = tt
+declaration_front section left name (colon ∷ rest) = by (is_word_kind name.kind && is_sign (codes ":") colon) refl
   where
     by : (b : Bool) → (is_word_kind name.kind && is_sign (codes ":") colon) ≡ b →
-        FrontOf (colon ∷ rest) (IsDeclaration valued left name) (if b then further 1 (closed_behind valued rest (type_at left rest)) else No)
+        FrontOf (colon ∷ rest) (IsDeclaration section left name) (if b then further 1 (closed_behind section rest (type_at left rest)) else No)
     by false h = tt
     by true h =
-        further_front (colon ∷ []) rest (IsDeclaration valued left name) (closed_behind valued rest (type_at left rest))
-        (closed_front valued left name colon (named_by name colon h) rest (type_at left rest) (type_front left rest))
+        further_front (colon ∷ []) rest (IsDeclaration section left name) (closed_behind section rest (type_at left rest))
+        (closed_front section left name colon (named_by name colon h) rest (type_at left rest) (type_front left rest))
 
-closed_out : (valued : Bool) (left : ℕ) (name colon : Token) → IsNamed name colon → (rest : List Token) (r : Read Written) → FrontOf rest (IsType left) r → OutOf (λ k. LeavesOutType left rest k) r →
-    OutOf (λ k. LeavesOutDeclaration valued left name (colon ∷ rest) k) (closed_behind valued rest r)
-closed_out valued left name colon named rest No f out = tt
-closed_out valued left name colon named rest (LeftOut k) f out = form.in_type colon rest k named out
-closed_out valued left name colon named rest (Fits type size) f out = by type.innermost refl valued
+closed_out : (section : Section) (left : ℕ) (name colon : Token) → BeginsDeclaration name colon → (rest : List Token) (r : Read Written) → FrontOf rest (IsType left) r → OutOf (λ k. LeavesOutType left rest k) r →
+    OutOf (λ k. LeavesOutDeclaration section left name (colon ∷ rest) k) (closed_behind section rest r)
+closed_out section left name colon named rest No f out = tt
+closed_out section left name colon named rest (LeftOut k) f out = form.in_type colon rest k named out
+closed_out section left name colon named rest (Fits type size) f out = by type.innermost refl (takes_dates section) refl
   where
-    ended : (v : Bool) → HasEnd v type.innermost →
-        OutOf (λ k. LeavesOutDeclaration v left name (colon ∷ rest) k) (further size (read_as (with_initial type) (ending_at v (in_array (length type.arrays)) (drop size rest))))
-    ended v has =
+    with_end : HasEnd section type.innermost →
+        OutOf (λ k. LeavesOutDeclaration section left name (colon ∷ rest) k) (further size (read_as (with_initial type) (ending_at section (in_array (length type.arrays)) (drop size rest))))
+    with_end has =
         let a : Bool = in_array (length type.arrays) in
-        let Q : Kind → Type 0 = λ k. LeavesOutDeclaration v left name (colon ∷ rest) k in
-        let there : OutOf (λ k. LeavesOutEnding v a f.rest k) (ending_at v a (drop size rest)) =
-        subst (λ (ts : List Token). OutOf (λ k. LeavesOutEnding v a f.rest k) (ending_at v a ts)) (sym (dropped rest size (λ front. IsType left front type) f)) (ending_out v a f.rest) in
-        further_out Q size (read_as (with_initial type) (ending_at v a (drop size rest)))
-        (as_out Q (with_initial type) (ending_at v a (drop size rest))
-        (weaker_out (λ k. LeavesOutEnding v a f.rest k) Q
-        (λ k end. subst (λ (ts : List Token). LeavesOutDeclaration v left name (colon ∷ ts) k) f.is (form.in_ending colon f.front f.rest type k named f.holds has end))
-        (ending_at v a (drop size rest)) there))
+        let Q : Kind → Type 0 = λ k. LeavesOutDeclaration section left name (colon ∷ rest) k in
+        let there : OutOf (λ k. LeavesOutEnding section a f.rest k) (ending_at section a (drop size rest)) =
+        subst (λ (ts : List Token). OutOf (λ k. LeavesOutEnding section a f.rest k) (ending_at section a ts)) (sym (dropped rest size (λ front. IsType left front type) f)) (ending_out section a f.rest) in
+        further_out Q size (read_as (with_initial type) (ending_at section a (drop size rest)))
+        (as_out Q (with_initial type) (ending_at section a (drop size rest))
+        (weaker_out (λ k. LeavesOutEnding section a f.rest k) Q
+        (λ k end. subst (λ (ts : List Token). LeavesOutDeclaration section left name (colon ∷ ts) k) f.is (form.in_ending colon f.front f.rest type k named f.holds has end))
+        (ending_at section a (drop size rest)) there))
 
-    by : (what : Innermost) → type.innermost ≡ what → (v : Bool) → OutOf (λ k. LeavesOutDeclaration v left name (colon ∷ rest) k) (closed_by v what type size (drop size rest))
-    by inner.Struct what v = tt
-    by inner.DateAndTime what true =
-        subst (λ (ts : List Token). LeavesOutDeclaration true left name (colon ∷ ts) kind.DateTime) f.is (form.with_date colon f.front f.rest type named f.holds what refl)
-    by inner.DateAndTime what false = ended false (subst (λ (i : Innermost). HasEnd false i) (sym what) refl)
-    by (inner.Elementary its) what v = ended v (subst (λ (i : Innermost). HasEnd v i) (sym what) tt)
+    by : (what : Innermost) → type.innermost ≡ what → (d : Bool) → takes_dates section ≡ d → OutOf (λ k. LeavesOutDeclaration section left name (colon ∷ rest) k) (closed_by section what type size (drop size rest))
+    by inner.Struct what d takes = tt
+    by inner.DateAndTime what true takes =
+        subst (λ (r : Read Written). OutOf (λ k. LeavesOutDeclaration section left name (colon ∷ rest) k) r) (sym (if_true (takes_dates section) _ _ takes))
+        (with_end (subst (λ (i : Innermost). HasEnd section i) (sym what) takes))
+    by inner.DateAndTime what false takes =
+        subst (λ (r : Read Written). OutOf (λ k. LeavesOutDeclaration section left name (colon ∷ rest) k) r) (sym (if_false (takes_dates section) _ _ takes))
+        (subst (λ (ts : List Token). LeavesOutDeclaration section left name (colon ∷ ts) kind.DateTime) f.is (form.with_date colon f.front f.rest type named f.holds what takes))
+    by (inner.Elementary its) what d takes = with_end (subst (λ (i : Innermost). HasEnd section i) (sym what) tt)
 
-pub declaration_out : (valued : Bool) (left : ℕ) (name : Token) (tokens : List Token) → OutOf (λ k. LeavesOutDeclaration valued left name tokens k) (declaration_at valued left name tokens)
-declaration_out valued left name [] = tt
-declaration_out valued left name (colon ∷ rest) = by (is_word_kind name.kind && is_sign (codes ":") colon) refl
+pub declaration_out : (section : Section) (left : ℕ) (name : Token) (tokens : List Token) → OutOf (λ k. LeavesOutDeclaration section left name tokens k) (declaration_at section left name tokens)
+declaration_out section left name [] = tt
+declaration_out section left name (colon ∷ rest) = by (is_word_kind name.kind && is_sign (codes ":") colon) refl
   where
     by : (b : Bool) → (is_word_kind name.kind && is_sign (codes ":") colon) ≡ b →
-        OutOf (λ k. LeavesOutDeclaration valued left name (colon ∷ rest) k) (if b then further 1 (closed_behind valued rest (type_at left rest)) else No)
+        OutOf (λ k. LeavesOutDeclaration section left name (colon ∷ rest) k) (if b then further 1 (closed_behind section rest (type_at left rest)) else No)
     by false h = tt
     by true h =
-        further_out (λ k. LeavesOutDeclaration valued left name (colon ∷ rest) k) 1 (closed_behind valued rest (type_at left rest))
-        (closed_out valued left name colon (named_by name colon h) rest (type_at left rest) (type_front left rest) (type_out left rest))
+        further_out (λ k. LeavesOutDeclaration section left name (colon ∷ rest) k) 1 (closed_behind section rest (type_at left rest))
+        (closed_out section left name colon (named_by name colon h) rest (type_at left rest) (type_front left rest) (type_out left rest))
 
-named_reads : (valued : Bool) (left : ℕ) (name colon : Token) (rest : List Token) → IsNamed name colon → declaration_at valued left name (colon ∷ rest) ≡ further 1 (closed_behind valued rest (type_at left rest))
-named_reads valued left name colon rest named = if_true (is_word_kind name.kind && is_sign (codes ":") colon) _ No (and_from _ _ named.name_is named.colon_is)
+named_reads : (section : Section) (left : ℕ) (name colon : Token) (rest : List Token) → BeginsDeclaration name colon → declaration_at section left name (colon ∷ rest) ≡ further 1 (closed_behind section rest (type_at left rest))
+named_reads section left name colon rest named = if_true (is_word_kind name.kind && is_sign (codes ":") colon) _ No (and_from _ _ named.name_is named.colon_is)
 
 -- a declaration by its type, with what stands behind that
-typed_reads : (valued : Bool) (left : ℕ) (name colon : Token) (front rest : List Token) (type : Written) → IsNamed name colon → IsType left front type →
-    declaration_at valued left name (colon ∷ (front ++ rest)) ≡ further 1 (closed_by valued type.innermost type (length front) rest)
-typed_reads valued left name colon front rest type named is =
-    named_reads valued left name colon (front ++ rest) named
-    ∙ ap (λ (r : Read Written). further 1 (closed_behind valued (front ++ rest) r)) (type_read left front type is rest)
-    ∙ ap (λ (ts : List Token). further 1 (closed_by valued type.innermost type (length front) ts)) (drop-append_seam front rest)
+typed_reads : (section : Section) (left : ℕ) (name colon : Token) (front rest : List Token) (type : Written) → BeginsDeclaration name colon → IsType left front type →
+    declaration_at section left name (colon ∷ (front ++ rest)) ≡ further 1 (closed_by section type.innermost type (length front) rest)
+typed_reads section left name colon front rest type named is =
+    named_reads section left name colon (front ++ rest) named
+    ∙ ap (λ (r : Read Written). further 1 (closed_behind section (front ++ rest) r)) (type_read left front type is rest)
+    ∙ ap (λ (ts : List Token). further 1 (closed_by section type.innermost type (length front) ts)) (drop-append_seam front rest)
 
-pub declaration_read : (valued : Bool) (left : ℕ) (name : Token) (tokens : List Token) (type : Written) → IsDeclaration valued left name tokens type → (rest : List Token) →
-    declaration_at valued left name (tokens ++ rest) ≡ Fits type (length tokens)
-declaration_read valued left name tokens type (form.variable colon front more its items named is has ends) rest =
+pub declaration_read : (section : Section) (left : ℕ) (name : Token) (tokens : List Token) (type : Written) → IsDeclaration section left name tokens type → (rest : List Token) →
+    declaration_at section left name (tokens ++ rest) ≡ Fits type (length tokens)
+declaration_read section left name tokens type (form.variable colon front more its items named is has ends) rest =
     let a : Bool = in_array (length its.arrays) in
     let size : 1 + (length front + length more) ≡ length (colon ∷ (front ++ more)) = omega (arith, length-append front more) in
-    ap (λ (ts : List Token). declaration_at valued left name (colon ∷ ts)) (append_assoc front more rest)
-    ∙ typed_reads valued left name colon front (more ++ rest) its named is
-    ∙ ap (further 1) (end_at valued its.innermost its (length front) (more ++ rest) has)
-    ∙ ap (λ (r : Read (List InitialItem)). further 1 (further (length front) (read_as (with_initial its) r))) (ending_read valued a more items ends rest)
+    ap (λ (ts : List Token). declaration_at section left name (colon ∷ ts)) (append_assoc front more rest)
+    ∙ typed_reads section left name colon front (more ++ rest) its named is
+    ∙ ap (further 1) (end_at section its.innermost its (length front) (more ++ rest) has)
+    ∙ ap (λ (r : Read (List InitialItem)). further 1 (further (length front) (read_as (with_initial its) r))) (ending_read section a more items ends rest)
     ∙ ap (λ (n : ℕ). Fits (with_initial its items) n) size
-declaration_read valued left name tokens type (form.struct_head colon front its named is struct) rest =
+declaration_read section left name tokens type (form.struct_head colon front its named is struct) rest =
     let size : 1 + length front ≡ length (colon ∷ front) = omega arith in
-    typed_reads valued left name colon front rest its named is
-    ∙ ap (λ (what : Innermost). further 1 (closed_by valued what its (length front) rest)) struct
+    typed_reads section left name colon front rest its named is
+    ∙ ap (λ (what : Innermost). further 1 (closed_by section what its (length front) rest)) struct
     ∙ ap (λ (n : ℕ). Fits its n) size
 
-pub declaration_left : (valued : Bool) (left : ℕ) (name : Token) (tokens : List Token) (k : Kind) → LeavesOutDeclaration valued left name tokens k → declaration_at valued left name tokens ≡ LeftOut k
-declaration_left valued left name tokens k (form.in_type colon rest its named out) =
-    named_reads valued left name colon rest named ∙ ap (λ (r : Read Written). further 1 (closed_behind valued rest r)) (type_left left rest its out)
-declaration_left valued left name tokens k (form.with_date colon front rest type named is date has) =
-    typed_reads valued left name colon front rest type named is
-    ∙ ap (λ (what : Innermost). further 1 (closed_by valued what type (length front) rest)) date
-    ∙ ap (further 1) (if_true valued _ _ has)
-declaration_left valued left name tokens k (form.in_ending colon front rest type its named is has out) =
+pub declaration_left : (section : Section) (left : ℕ) (name : Token) (tokens : List Token) (k : Kind) → LeavesOutDeclaration section left name tokens k → declaration_at section left name tokens ≡ LeftOut k
+declaration_left section left name tokens k (form.in_type colon rest its named out) =
+    named_reads section left name colon rest named ∙ ap (λ (r : Read Written). further 1 (closed_behind section rest r)) (type_left left rest its out)
+declaration_left section left name tokens k (form.with_date colon front rest type named is date has) =
+    typed_reads section left name colon front rest type named is
+    ∙ ap (λ (what : Innermost). further 1 (closed_by section what type (length front) rest)) date
+    ∙ ap (further 1) (if_false (takes_dates section) _ _ has)
+declaration_left section left name tokens k (form.in_ending colon front rest type its named is has out) =
     let a : Bool = in_array (length type.arrays) in
-    typed_reads valued left name colon front rest type named is
-    ∙ ap (further 1) (end_at valued type.innermost type (length front) rest has)
-    ∙ ap (λ (r : Read (List InitialItem)). further 1 (further (length front) (read_as (with_initial type) r))) (ending_left valued a rest its out)
+    typed_reads section left name colon front rest type named is
+    ∙ ap (further 1) (end_at section type.innermost type (length front) rest has)
+    ∙ ap (λ (r : Read (List InitialItem)). further 1 (further (length front) (read_as (with_initial type) r))) (ending_left section a rest its out)

@@ -3,7 +3,7 @@ use Rattle.std.proofs.Common.{◌≡◌, ℕ, zero, suc, ◌≤◌, List, [], �
 use Rattle.s7_base.specs.declared.reason.Line.{Line}
 use Rattle.s7_base.specs.declared.reason.Rejection.{Rejection}
 use Rattle.s7_base.specs.declared.token.Token.{Token}
-use Rattle.stl_grammar.specs.Grammar.{IsForm, heading, table, symbol, table_end, skipped_line, begin, section, section_end, data_end, struct_end, declaration, begin_behind, value, values_end, skipped_word, end_word, statement, IsItem, form, left_out, no_instruction, none, at_start, in_a_table, behind_a_block, behind_a_heading, in_a_section, in_a_struct, behind_a_section, in_a_body, among_values, AreItems, none_more, one_more}
+use Rattle.stl_grammar.specs.Grammar.{IsForm, heading, table, symbol, table_end, skipped_line, begin, first_section, section_end, data_end, struct_end, declaration, begin_behind, later_section, value, values_end, skipped_word, end_word, statement, IsItem, form, left_out, no_instruction, none, at_start, in_a_table, behind_a_block, behind_a_heading, in_a_section, in_a_struct, behind_a_section, in_a_body, among_values, AreItems, none_more, one_more}
 use Rattle.stl_grammar.specs.Items.{item_at, prepend_item, with_found, items_from}
 use Rattle.stl_grammar.specs.declared.item.Found.{Found}
 use Rattle.stl_grammar.specs.declared.item.Found.TheVariants.{Fits, Misfit, Ended}
@@ -29,12 +29,13 @@ form_some (symbol line name a its b type c comment rest address no_end behind qu
 form_some (table_end line first rest ends) = tt
 form_some (skipped_line kind line first rest is) = tt
 form_some (begin kind line first rest no_line no_data word) = tt
-form_some (section kind line first rest no_line no_begin word) = tt
-form_some (section_end kind first rest no_data word) = tt
-form_some (data_end first sign rest word ends) = tt
-form_some (struct_end kind level levels first front rest items word is) = tt
-form_some (declaration kind levels name front rest type no_end is) = tt
-form_some (begin_behind kind first rest word) = tt
+form_some (first_section kind line its first rest no_line no_begin word may) = tt
+form_some (section_end kind its first rest no_own word) = tt
+form_some (data_end kind first sign rest word ends) = tt
+form_some (struct_end kind its level levels first front rest items word is) = tt
+form_some (declaration kind its levels name front rest type no_end is) = tt
+form_some (begin_behind kind before first rest word) = tt
+form_some (later_section kind before its first rest word may) = tt
 form_some (value first front rest its no_end is) = tt
 form_some (values_end first rest word) = tt
 form_some (skipped_word kind first rest is) = tt
@@ -61,9 +62,9 @@ ended at_start = tt
 ended (in_a_table line) = tt
 ended behind_a_block = tt
 ended (behind_a_heading kind line) = tt
-ended (in_a_section kind) = tt
-ended (in_a_struct kind level levels) = tt
-ended (behind_a_section kind) = tt
+ended (in_a_section kind its) = tt
+ended (in_a_struct kind its level levels) = tt
+ended (behind_a_section kind its) = tt
 ended (in_a_body kind) = tt
 ended among_values = tt
 

@@ -20,6 +20,8 @@ use Rattle.stl_grammar.specs.InitialForms.{IsEnding, IsInitial, IsLast, IsListIt
 use Rattle.stl_grammar.specs.InitialForms as form
 use Rattle.stl_grammar.specs.Initials.{alone, closed_value, count_of, ending_at, group_behind, initial, initial_at, initial_behind, item_of_list, last_value, list_at, once, path_value_at, pointer_of, times, truth_at, value_at, values_at}
 use Rattle.stl_grammar.specs.ListForms.{AreElements, LeavesOutElement}
+use Rattle.stl_grammar.specs.Sections.{takes_values}
+use Rattle.stl_grammar.specs.declared.declaration.Section.{Section}
 use Rattle.stl_places.proofs.Fronts.{FrontOf, and_then_front, and_then_read, as_front, further_front, further_read, or_front, refined}
 use Rattle.stl_places.proofs.NoPlaces.{no_place_begins}
 use Rattle.stl_places.proofs.PathLaws.{path_front, path_read_before}
@@ -356,64 +358,65 @@ last_left tokens k out = and_then_left tokens (value_at tokens) closed_value k (
 list_front : (tokens : List Token) → FrontOf tokens (AreElements IsListItem (codes ";")) (list_at tokens)
 list_front tokens = elements_front item_of_list IsListItem LeavesOutItem items_agree (codes ";") tokens
 
-pub ending_front : (valued in_array : Bool) (tokens : List Token) → FrontOf tokens (IsEnding valued in_array) (ending_at valued in_array tokens)
-ending_front valued in_array [] = tt
-ending_front valued in_array (sign ∷ rest) = by valued in_array (is_sign (codes ";") sign) refl (is_sign (codes ":=") sign) refl
+pub ending_front : (section : Section) (in_array : Bool) (tokens : List Token) → FrontOf tokens (IsEnding section in_array) (ending_at section in_array tokens)
+ending_front section in_array [] = tt
+ending_front section in_array (sign ∷ rest) = by in_array (takes_values section) refl (is_sign (codes ";") sign) refl (is_sign (codes ":=") sign) refl
   where
-    by : (valued in_array : Bool) (b : Bool) → is_sign (codes ";") sign ≡ b → (c : Bool) → is_sign (codes ":=") sign ≡ c →
-        FrontOf (sign ∷ rest) (IsEnding valued in_array) (if b then Fits [] 1 else if valued && c then further 1 (initial_at in_array rest) else No)
-    by valued in_array true ends c assign =
-        record { front = sign ∷ []; rest = rest; is = refl; size_is = refl; holds = form.nothing valued in_array sign ends }
-    by false in_array false ends c assign = tt
-    by true in_array false ends false assign = tt
-    by true true false ends true assign =
-        further_front (sign ∷ []) rest (IsEnding true true) (list_at rest)
-        (refined rest (AreElements IsListItem (codes ";")) (λ more items. IsEnding true true (sign ∷ more) items) (λ more end items at are. form.with_list sign more items assign are)
-        (list_at rest) (list_front rest))
-    by true false false ends true assign =
-        further_front (sign ∷ []) rest (IsEnding true false) (read_as alone (last_value rest))
-        (as_front rest alone IsLast (λ more items. IsEnding true false (sign ∷ more) items) (λ more end c at is. form.with_value sign more c assign is)
+    by : (in_array : Bool) (v : Bool) → takes_values section ≡ v → (b : Bool) → is_sign (codes ";") sign ≡ b → (c : Bool) → is_sign (codes ":=") sign ≡ c →
+        FrontOf (sign ∷ rest) (IsEnding section in_array) (if b then Fits [] 1 else if v && c then further 1 (initial_at in_array rest) else No)
+    by in_array v takes true ends c assign = record { front = sign ∷ []; rest = rest; is = refl; size_is = refl; holds = form.nothing in_array sign ends }
+    by in_array false takes false ends c assign = tt
+    by in_array true takes false ends false assign = tt
+    by true true takes false ends true assign =
+        further_front (sign ∷ []) rest (IsEnding section true) (list_at rest)
+        (refined rest (AreElements IsListItem (codes ";")) (λ more items. IsEnding section true (sign ∷ more) items)
+        (λ more end items at are. form.with_list sign more items takes assign are) (list_at rest) (list_front rest))
+    by false true takes false ends true assign =
+        further_front (sign ∷ []) rest (IsEnding section false) (read_as alone (last_value rest))
+        (as_front rest alone IsLast (λ more items. IsEnding section false (sign ∷ more) items) (λ more end c at is. form.with_value sign more c takes assign is)
         (last_value rest) (last_front rest))
 
-pub ending_out : (valued in_array : Bool) (tokens : List Token) → OutOf (λ k. LeavesOutEnding valued in_array tokens k) (ending_at valued in_array tokens)
-ending_out valued in_array [] = tt
-ending_out valued in_array (sign ∷ rest) = by valued in_array (is_sign (codes ";") sign) (is_sign (codes ":=") sign) refl
+pub ending_out : (section : Section) (in_array : Bool) (tokens : List Token) → OutOf (λ k. LeavesOutEnding section in_array tokens k) (ending_at section in_array tokens)
+ending_out section in_array [] = tt
+ending_out section in_array (sign ∷ rest) = by in_array (takes_values section) refl (is_sign (codes ";") sign) (is_sign (codes ":=") sign) refl
   where
-    by : (valued in_array : Bool) (b : Bool) → (c : Bool) → is_sign (codes ":=") sign ≡ c →
-        OutOf {A = List InitialItem} (λ k. LeavesOutEnding valued in_array (sign ∷ rest) k) (if b then Fits [] 1 else if valued && c then further 1 (initial_at in_array rest) else No)
-    by valued in_array true c assign = tt
-    by false in_array false c assign = tt
-    by true in_array false false assign = tt
-    by true true false true assign =
-        let Q : Kind → Type 0 = λ k. LeavesOutEnding true true (sign ∷ rest) k in
+    by : (in_array : Bool) (v : Bool) → takes_values section ≡ v → (b : Bool) → (c : Bool) → is_sign (codes ":=") sign ≡ c →
+        OutOf {A = List InitialItem} (λ k. LeavesOutEnding section in_array (sign ∷ rest) k) (if b then Fits [] 1 else if v && c then further 1 (initial_at in_array rest) else No)
+    by in_array v takes true c assign = tt
+    by in_array false takes false c assign = tt
+    by in_array true takes false false assign = tt
+    by true true takes false true assign =
+        let Q : Kind → Type 0 = λ k. LeavesOutEnding section true (sign ∷ rest) k in
         further_out Q 1 (list_at rest)
-        (weaker_out (λ k. LeavesOutElement IsListItem LeavesOutItem rest k) Q (λ k out. form.in_list sign rest k assign out) (list_at rest)
+        (weaker_out (λ k. LeavesOutElement IsListItem LeavesOutItem rest k) Q (λ k out. form.in_list sign rest k takes assign out) (list_at rest)
         (elements_out item_of_list IsListItem LeavesOutItem items_agree (codes ";") rest))
-    by true false false true assign =
-        let Q : Kind → Type 0 = λ k. LeavesOutEnding true false (sign ∷ rest) k in
+    by false true takes false true assign =
+        let Q : Kind → Type 0 = λ k. LeavesOutEnding section false (sign ∷ rest) k in
         further_out Q 1 (read_as alone (last_value rest))
         (as_out Q alone (last_value rest)
-        (weaker_out (λ k. LeavesOutValue rest k) Q (λ k out. form.in_value sign rest k assign out) (last_value rest) (last_out rest)))
+        (weaker_out (λ k. LeavesOutValue rest k) Q (λ k out. form.in_value sign rest k takes assign out) (last_value rest) (last_out rest)))
 
-assigns : (sign : Token) (in_array : Bool) (rest : List Token) → is_sign (codes ":=") sign ≡ true → ending_at true in_array (sign ∷ rest) ≡ further 1 (initial_at in_array rest)
-assigns sign in_array rest assign =
-    if_false (is_sign (codes ";") sign) _ _ (other_sign (codes ":=") (codes ";") sign assign refl) ∙ if_true (true && is_sign (codes ":=") sign) _ No (and_from true _ refl assign)
+assigns : (section : Section) (sign : Token) (in_array : Bool) (rest : List Token) → takes_values section ≡ true → is_sign (codes ":=") sign ≡ true →
+    ending_at section in_array (sign ∷ rest) ≡ further 1 (initial_at in_array rest)
+assigns section sign in_array rest takes assign =
+    if_false (is_sign (codes ";") sign) _ _ (other_sign (codes ":=") (codes ";") sign assign refl)
+    ∙ if_true (takes_values section && is_sign (codes ":=") sign) _ No (and_from (takes_values section) _ takes assign)
 
-pub ending_read : (valued in_array : Bool) (tokens : List Token) (items : List InitialItem) → IsEnding valued in_array tokens items → (rest : List Token) →
-    ending_at valued in_array (tokens ++ rest) ≡ Fits items (length tokens)
-ending_read valued in_array tokens items (form.nothing v a sign ends) rest = if_true (is_sign (codes ";") sign) _ _ ends
-ending_read valued in_array tokens items (form.with_value sign more c assign is) rest =
-    assigns sign false (more ++ rest) assign
+pub ending_read : (section : Section) (in_array : Bool) (tokens : List Token) (items : List InitialItem) → IsEnding section in_array tokens items → (rest : List Token) →
+    ending_at section in_array (tokens ++ rest) ≡ Fits items (length tokens)
+ending_read section in_array tokens items (form.nothing a sign ends) rest = if_true (is_sign (codes ";") sign) _ _ ends
+ending_read section in_array tokens items (form.with_value sign more c takes assign is) rest =
+    assigns section sign false (more ++ rest) takes assign
     ∙ further_read (sign ∷ []) more (read_as alone (last_value (more ++ rest))) (once c ∷ []) (ap (read_as alone) (last_read more c is rest))
-ending_read valued in_array tokens items (form.with_list sign more its assign are) rest =
-    assigns sign true (more ++ rest) assign
+ending_read section in_array tokens items (form.with_list sign more its takes assign are) rest =
+    assigns section sign true (more ++ rest) takes assign
     ∙ further_read (sign ∷ []) more (list_at (more ++ rest)) its (elements_read item_of_list IsListItem LeavesOutItem items_agree (codes ";") closes_semicolon more its are rest)
 
-pub ending_left : (valued in_array : Bool) (tokens : List Token) (k : Kind) → LeavesOutEnding valued in_array tokens k → ending_at valued in_array tokens ≡ LeftOut k
-ending_left valued in_array tokens k (form.in_value sign rest its assign out) =
-    assigns sign false rest assign ∙ ap (λ (r : Read Constant). further 1 (read_as alone r)) (last_left rest its out)
-ending_left valued in_array tokens k (form.in_list sign rest its assign out) =
-    assigns sign true rest assign
+pub ending_left : (section : Section) (in_array : Bool) (tokens : List Token) (k : Kind) → LeavesOutEnding section in_array tokens k → ending_at section in_array tokens ≡ LeftOut k
+ending_left section in_array tokens k (form.in_value sign rest its takes assign out) =
+    assigns section sign false rest takes assign ∙ ap (λ (r : Read Constant). further 1 (read_as alone r)) (last_left rest its out)
+ending_left section in_array tokens k (form.in_list sign rest its takes assign out) =
+    assigns section sign true rest takes assign
     ∙ ap (λ (r : Read (List InitialItem)). further 1 r) (elements_left item_of_list IsListItem LeavesOutItem items_agree (codes ";") closes_semicolon rest its out)
 
 -- Initial values of a data block

@@ -9,10 +9,14 @@ use Rattle.s7_base.specs.declared.reason.Rejection.{Rejection}
 use Rattle.s7_base.specs.declared.reason.Rejection.TheVariants.{Refused, NoMemory}
 use Rattle.s7_base.specs.declared.token.Token.{Token}
 use Rattle.stl_grammar.proofs.StatementSizes.{Split, size_open, size_append, split_of, taken}
-use Rattle.stl_grammar.specs.Grammar.{IsName, quoted, apart, together, MayOpen, last_line, IsForm, heading, table, symbol, table_end, skipped_line, begin, section, section_end, data_end, struct_end, declaration, begin_behind, value, values_end, skipped_word, end_word, statement, has_statement, plain_reason, LeavesOutForm, HasNoForm, IsItem, form, left_out, no_instruction, none, at_start, in_a_table, behind_a_block, behind_a_heading, in_a_section, in_a_struct, behind_a_section, in_a_body, among_values, ItemsHaveForms}
+use Rattle.stl_grammar.specs.Grammar.{IsName, quoted, apart, together, MayOpen, last_line, IsForm, heading, table, symbol, table_end, skipped_line, begin, first_section, section_end, data_end, struct_end, declaration, begin_behind, later_section, value, values_end, skipped_word, end_word, statement, has_statement, plain_reason, LeavesOutForm, HasNoForm, IsItem, form, left_out, no_instruction, none, at_start, in_a_table, behind_a_block, behind_a_heading, in_a_section, in_a_struct, behind_a_section, in_a_body, among_values, ItemsHaveForms}
 use Rattle.stl_grammar.proofs.AddressLaws.{address_is, address_read}
 use Rattle.stl_grammar.proofs.DeclarationLaws.{declaration_front, declaration_read}
 use Rattle.stl_grammar.proofs.InitialLaws.{ending_front, ending_read, initial_front, initial_read, initial_some}
+use Rattle.stl_grammar.proofs.SectionLaws.{OpensHere, no_begin_word, section_is, section_read}
+use Rattle.stl_grammar.specs.Sections.{is_own, may_open, section_at, section_word}
+use Rattle.stl_grammar.specs.declared.declaration.Section.{Section}
+use Rattle.stl_grammar.specs.declared.declaration.Section.TheVariants as part
 use Rattle.stl_grammar.proofs.MisfitLaws.{Says, by_left, by_plain, left_says, no_left_body, says}
 use Rattle.stl_grammar.specs.DeclarationForms.{IsDeclaration}
 use Rattle.stl_grammar.specs.InitialForms.{IsEnding, IsInitial}
@@ -23,7 +27,7 @@ use Rattle.stl_grammar.specs.declared.declaration.Level.{Level}
 use Rattle.stl_grammar.specs.declared.declaration.Written.{Written}
 use Rattle.s7_base.specs.declared.reason.Reason.TheVariants.{BadStatement, Unsupported}
 use Rattle.stl_grammar.specs.Headings.{heading_kind, is_behind, is_skipped, kind_word, line_of, name_at, number_behind, opened, opened_by}
-use Rattle.stl_grammar.specs.Items.{begins_body, behind_at, closing_at, declaration_found, declaration_reason, declarations_end, is_data, read_reason, section_word, struct_found, value_found, values_at, inside_at, level_line, misfit_line, is_semicolon, is_skipped_alone, is_end, statement_size, statement_at, is_complete, misfit_reason, statement_reason, table_at, symbol_found, in_table, behind_heading, statement_found, statement_from, body_at, at_token, item_at}
+use Rattle.stl_grammar.specs.Items.{begins_body, behind_at, closing_at, declaration_found, declaration_reason, is_data, read_reason, section_end_found, section_found, struct_found, value_found, values_at, inside_at, level_line, misfit_line, is_semicolon, is_skipped_alone, is_end, statement_size, statement_at, is_complete, misfit_reason, statement_reason, table_at, symbol_found, in_table, behind_heading, statement_found, statement_from, body_at, at_token, item_at}
 use Rattle.digit_texts.specs.Digits.{kept_number}
 use Rattle.stl_statements.specs.Paths.{number_word}
 use Rattle.stl_grammar.specs.Symbols.{address_of, ends_table, is_next, symbol_at, symbol_with, trimmed}
@@ -35,7 +39,7 @@ use Rattle.stl_statements.specs.declared.mnemonic.Read.TheVariants as read
 use Rattle.stl_grammar.specs.declared.item.Found.{Found}
 use Rattle.stl_grammar.specs.declared.item.Found.TheVariants.{Fits, Misfit}
 use Rattle.stl_grammar.specs.declared.item.Item.{Item}
-use Rattle.stl_grammar.specs.declared.item.Item.TheVariants.{Opens, Mark, Symbol, Declares, Closes, Instr, Initial}
+use Rattle.stl_grammar.specs.declared.item.Item.TheVariants.{Opens, Mark, Starts, Symbol, Declares, Closes, Instr, Initial}
 use Rattle.stl_grammar.specs.declared.item.Where.{Where}
 use Rattle.stl_grammar.specs.declared.item.Where.TheVariants.{Start, Table, Between, Heading, Inside, Behind, Body, Values}
 use Rattle.stl_tree.specs.declared.raw.BlockKind.{BlockKind}
@@ -96,28 +100,28 @@ name_line line rest (apart kind word number n no_quotes is found) = refl
 name_line line rest (together kind word n no_quotes no_word numbered found) = refl
 
 opened_found : (reason : Reason) (kind : BlockKind) (other : Found) (first : Token) {names : List Token} {name : RawName} (rest : List Token) → heading_kind first ≡ Some kind → IsName (kind_word kind) names name →
-    opened_by reason (heading_kind first) other first (names ++ rest) ≡ Fits (Opens first.line kind name) (length names) (Heading kind (last_line first.line names))
+    opened_by reason (heading_kind first) other first (names ++ rest) ≡ Fits (Opens first.line kind name None) (length names) (Heading kind (last_line first.line names))
 opened_found reason kind other first {names = names} {name = name} rest is named =
     ap (λ (o : Option BlockKind). opened_by reason o other first (names ++ rest)) is
     ∙ ap (λ (r : Read RawName). opened reason kind first (names ++ rest) r) (name_found rest named)
-    ∙ ap (λ (line : Line). Fits (Opens first.line kind name) (length names) (Heading kind line)) (name_line first.line rest named)
+    ∙ ap (λ (line : Line). Fits (Opens first.line kind name None) (length names) (Heading kind line)) (name_line first.line rest named)
 
 heading_found : (end : Line) (place : Where) (kind : BlockKind) (first : Token) {names : List Token} {name : RawName} (rest : List Token) → MayOpen place → heading_kind first ≡ Some kind → IsName (kind_word kind) names name →
-    item_at end place (first ∷ (names ++ rest)) ≡ Fits (Opens first.line kind name) (length names) (Heading kind (last_line first.line names))
+    item_at end place (first ∷ (names ++ rest)) ≡ Fits (Opens first.line kind name None) (length names) (Heading kind (last_line first.line names))
 unfolding item_at
 heading_found end Start kind first rest may is named = opened_found _ kind _ first rest is named
 heading_found end (Table line) kind first rest may is named = absurd may
 heading_found end Between kind first rest may is named = opened_found _ kind _ first rest is named
 heading_found end (Heading other line) kind first rest may is named = absurd may
-heading_found end (Inside other levels) kind first rest may is named = absurd may
-heading_found end (Behind other) kind first rest may is named = absurd may
+heading_found end (Inside other section levels) kind first rest may is named = absurd may
+heading_found end (Behind other section) kind first rest may is named = absurd may
 heading_found end (Body other) kind first rest may is named = absurd may
 heading_found end Values kind first rest may is named = absurd may
 
-section_ends : (kind : BlockKind) (first : Token) (rest : List Token) → is_data kind ≡ false → is_word (codes "END_VAR") first ≡ true →
-    inside_at kind [] (first ∷ rest) first rest ≡ Fits Mark 0 (Behind kind)
-section_ends block.Db first rest no_data word = absurd cc
-section_ends kind first rest no_data word = if_true (is_word (codes "END_VAR") first) _ _ word
+section_ends : (kind : BlockKind) (its : Section) (first : Token) (rest : List Token) → is_own its ≡ false → is_word (codes "END_VAR") first ≡ true →
+    inside_at kind its [] (first ∷ rest) first rest ≡ Fits Mark 0 (Behind kind its)
+section_ends kind part.Own first rest no_own word = absurd cc
+section_ends kind its first rest no_own word = if_true (is_word (codes "END_VAR") first) _ _ word
 
 statement_read : (place : Where) (first : Token) (more : List Token) (sign : Token) (rest : List Token) (instr : RawInstr) →
     statement_size (first ∷ more) ≡ length (first ∷ more) → instruction_of (first ∷ more) ≡ Ok instr → is_semicolon sign ≡ true
@@ -151,19 +155,22 @@ form_found end place next tokens item size (skipped_line kind line first rest is
 form_found end place next tokens item size (begin kind line first rest no_line no_data word) =
     if_false (is_skipped line first rest) _ _ no_line
     ∙ if_true (begins_body kind first) _ _ (both (not (is_data kind)) (is_word (codes "BEGIN") first) (ap not no_data) word)
-form_found end place next tokens item size (section kind line first rest no_line no_begin word) =
+form_found end place next tokens item size (first_section kind line its first rest no_line no_begin word may) =
     if_false (is_skipped line first rest) _ _ no_line ∙ if_false (begins_body kind first) _ _ no_begin
-    ∙ if_true (is_word (section_word kind) first) _ _ word
-form_found end place next tokens item size (section_end kind first rest no_data word) = section_ends kind first rest no_data word
-form_found end place next tokens item size (data_end first sign rest word ends) =
+    ∙ ap (λ (o : Option Section). section_found kind (misfit_reason (Heading kind line) (first ∷ rest)) first o) (section_read kind None its first word may)
+form_found end place next tokens item size (section_end kind its first rest no_own word) = section_ends kind its first rest no_own word
+form_found end place next tokens item size (data_end kind first sign rest word ends) =
     if_true (is_word (codes "END_STRUCT") first) _ _ word ∙ if_true (is_semicolon sign) _ _ ends
-form_found end place next tokens item size (struct_end kind level levels first front rest items word is) =
+form_found end place next tokens item size (struct_end kind its level levels first front rest items word is) =
     if_true (is_word (codes "END_STRUCT") first) _ _ word
-    ∙ ap (λ (found : Read (List InitialItem)). struct_found kind level.line levels (first ∷ (front ++ rest)) found) (ending_read (is_data kind) level.in_array front items is rest)
-form_found end place next tokens item size (declaration kind levels name front rest type no_end is) =
-    if_false (ends_level kind levels name) _ _ no_end
-    ∙ ap (λ (found : Read Written). declaration_found kind levels (name ∷ (front ++ rest)) name found) (declaration_read (is_data kind) (left_of levels) name front type is rest)
-form_found end place next tokens item size (begin_behind kind first rest word) = if_true (is_word (codes "BEGIN") first) _ _ word
+    ∙ ap (λ (found : Read (List InitialItem)). struct_found kind its level.line levels (first ∷ (front ++ rest)) found) (ending_read its level.in_array front items is rest)
+form_found end place next tokens item size (declaration kind its levels name front rest type no_end is) =
+    if_false (ends_level its levels name) _ _ no_end
+    ∙ ap (λ (found : Read Written). declaration_found kind its levels (name ∷ (front ++ rest)) name found) (declaration_read its (left_of levels) name front type is rest)
+form_found end place next tokens item size (begin_behind kind before first rest word) = if_true (is_word (codes "BEGIN") first) _ _ word
+form_found end place next tokens item size (later_section kind before its first rest word may) =
+    if_false (is_word (codes "BEGIN") first) _ _ (no_begin_word its first word)
+    ∙ ap (λ (o : Option Section). section_found kind (misfit_reason (Behind kind before) (first ∷ rest)) first o) (section_read kind (Some before) its first word may)
 form_found end place next tokens item size (value first front rest its no_end is) =
     let size : length (first ∷ front) - 1 ≡ length front = omega arith in
     if_false (is_end block.Db first) _ _ no_end
@@ -228,7 +235,7 @@ opened_reads : (place : Where) (kind : BlockKind) (first : Token) (tokens : List
     ReadsName (kind_word kind) tokens found → Reads place first tokens (opened (misfit_reason place (first ∷ tokens)) kind first tokens found)
 opened_reads place kind first tokens found may missed is unnamed = missed
 opened_reads place kind first tokens found may missed is (named {names = names} {name = name} rest of_name) =
-    let R : Line → Type 0 = λ line. Reads place first (names ++ rest) (Fits (Opens first.line kind name) (length names) (Heading kind line)) in
+    let R : Line → Type 0 = λ line. Reads place first (names ++ rest) (Fits (Opens first.line kind name None) (length names) (Heading kind line)) in
     subst R (sym (name_line first.line rest of_name)) (fits (heading place kind first rest may is of_name))
 
 kind_reads : (place : Where) (other : Found) (first : Token) (rest : List Token) (o : Option BlockKind) → MayOpen place → Reads place first rest (Misfit first.line (misfit_reason place (first ∷ rest))) → heading_kind first ≡ o →
@@ -273,6 +280,17 @@ in_table_reads line first rest =
     (λ no_end. choose S (is_behind line first) _ _ (λ behind. symbol_reads line first rest no_end behind)
     (λ same_line. misses (Table line) first rest refl))
 
+-- a section that opens
+
+opens_reads : (place : Where) (kind : BlockKind) (before : Option Section) (first : Token) (rest : List Token) → Reads place first rest (Misfit first.line (misfit_reason place (first ∷ rest))) →
+    ((its : Section) → is_word (section_word its) first ≡ true → may_open kind before its ≡ true → Reads place first rest (Fits (Starts its) 0 (Inside kind its []))) →
+    Reads place first rest (section_found kind (misfit_reason place (first ∷ rest)) first (section_at kind before first))
+opens_reads place kind before first rest missed opens = by (section_at kind before first) (section_is kind before first)
+  where
+    by : (o : Option Section) → OpensHere kind before first o → Reads place first rest (section_found kind (misfit_reason place (first ∷ rest)) first o)
+    by None is = missed
+    by (Some its) is = opens its is.0 is.1
+
 -- behind a heading
 
 behind_heading_reads : (kind : BlockKind) (line : Line) (first : Token) (rest : List Token) → Reads (Heading kind line) first rest (behind_heading kind line (first ∷ rest) first rest)
@@ -282,85 +300,85 @@ behind_heading_reads kind line first rest =
     (λ no_line. choose R (begins_body kind first) _ _
     (λ all. fits (begin kind line first rest no_line (not_true (is_data kind) (left_true (not (is_data kind)) (is_word (codes "BEGIN") first) all))
     (right_true (not (is_data kind)) (is_word (codes "BEGIN") first) all)))
-    (λ no_begin. choose R (is_word (section_word kind) first) _ _
-    (λ word. fits (section kind line first rest no_line no_begin word))
-    (λ no_section. misses (Heading kind line) first rest refl)))
+    (λ no_begin. opens_reads (Heading kind line) kind None first rest (misses (Heading kind line) first rest refl) (λ its word may. fits (first_section kind line its first rest no_line no_begin word may))))
 
 -- among declarations
 
 -- the end of a STRUCT that does not fit has the line of its declaration
-unclosed : (kind : BlockKind) (level : Level) (levels : List Level) (first : Token) (rest : List Token) (found : Read (List InitialItem)) → is_word (codes "END_STRUCT") first ≡ true →
-    ending_at (is_data kind) level.in_array rest ≡ found → Reads (Inside kind (level ∷ levels)) first rest (Misfit level.line (read_reason (first ∷ rest) found))
-unclosed kind level levels first rest found word is =
-    let R : Line → Reason → Type 0 = λ line reason. Reads (Inside kind (level ∷ levels)) first rest (Misfit line reason) in
-    let place = Inside kind (level ∷ levels) in
+unclosed : (kind : BlockKind) (section : Section) (level : Level) (levels : List Level) (first : Token) (rest : List Token) (found : Read (List InitialItem)) → is_word (codes "END_STRUCT") first ≡ true →
+    ending_at section level.in_array rest ≡ found → Reads (Inside kind section (level ∷ levels)) first rest (Misfit level.line (read_reason (first ∷ rest) found))
+unclosed kind section level levels first rest found word is =
+    let R : Line → Reason → Type 0 = λ line reason. Reads (Inside kind section (level ∷ levels)) first rest (Misfit line reason) in
+    let place = Inside kind section (level ∷ levels) in
     let said = read_reason (first ∷ rest) found in
     let line : misfit_line place first ≡ level.line = if_true (is_word (codes "END_STRUCT") first) _ _ word in
     let reason : misfit_reason place (first ∷ rest) ≡ said =
     if_true (is_word (codes "END_STRUCT") first) _ _ word ∙ ap (λ (r : Read (List InitialItem)). read_reason (first ∷ rest) r) is in
     subst (λ (l : Line). R l said) line (subst (λ (r : Reason). R (misfit_line place first) r) reason (misses place first rest refl))
 
-struct_reads : (kind : BlockKind) (level : Level) (levels : List Level) (first : Token) (rest : List Token) (found : Read (List InitialItem)) → is_word (codes "END_STRUCT") first ≡ true →
-    ending_at (is_data kind) level.in_array rest ≡ found → FrontOf rest (IsEnding (is_data kind) level.in_array) found →
-    Reads (Inside kind (level ∷ levels)) first rest (struct_found kind level.line levels (first ∷ rest) found)
-struct_reads kind level levels first rest (read.Fits items size) word is f =
-    let R : List Token → ℕ → Type 0 = λ ts n. Reads (Inside kind (level ∷ levels)) first ts (Fits (Closes items) n (Inside kind levels)) in
+struct_reads : (kind : BlockKind) (section : Section) (level : Level) (levels : List Level) (first : Token) (rest : List Token) (found : Read (List InitialItem)) → is_word (codes "END_STRUCT") first ≡ true →
+    ending_at section level.in_array rest ≡ found → FrontOf rest (IsEnding section level.in_array) found →
+    Reads (Inside kind section (level ∷ levels)) first rest (struct_found kind section level.line levels (first ∷ rest) found)
+struct_reads kind section level levels first rest (read.Fits items size) word is f =
+    let R : List Token → ℕ → Type 0 = λ ts n. Reads (Inside kind section (level ∷ levels)) first ts (Fits (Closes items) n (Inside kind section levels)) in
     subst (λ (ts : List Token). R ts size) f.is
-    (subst (λ (n : ℕ). R (f.front ++ f.rest) n) f.size_is (fits (struct_end kind level levels first f.front f.rest items word f.holds)))
-struct_reads kind level levels first rest (read.LeftOut its) word is f = unclosed kind level levels first rest (read.LeftOut its) word is
-struct_reads kind level levels first rest read.No word is f = unclosed kind level levels first rest read.No word is
+    (subst (λ (n : ℕ). R (f.front ++ f.rest) n) f.size_is (fits (struct_end kind section level levels first f.front f.rest items word f.holds)))
+struct_reads kind section level levels first rest (read.LeftOut its) word is f = unclosed kind section level levels first rest (read.LeftOut its) word is
+struct_reads kind section level levels first rest read.No word is f = unclosed kind section level levels first rest read.No word is
 
--- the end of a data block's declarations that does not fit has its own
-unended : (first : Token) (rest : List Token) → is_word (codes "END_STRUCT") first ≡ true → Reads (Inside block.Db []) first rest (Misfit first.line BadStatement)
-unended first rest word =
-    let R : Reason → Type 0 = λ reason. Reads (Inside block.Db []) first rest (Misfit first.line reason) in
-    let reason : misfit_reason (Inside block.Db []) (first ∷ rest) ≡ BadStatement = if_true (is_word (codes "END_STRUCT") first) _ _ word in
-    subst R reason (misses (Inside block.Db []) first rest refl)
+-- the end of a data block's STRUCT that does not fit has its own
+unended : (kind : BlockKind) (first : Token) (rest : List Token) → is_word (codes "END_STRUCT") first ≡ true → Reads (Inside kind part.Own []) first rest (Misfit first.line BadStatement)
+unended kind first rest word =
+    let R : Reason → Type 0 = λ reason. Reads (Inside kind part.Own []) first rest (Misfit first.line reason) in
+    let reason : misfit_reason (Inside kind part.Own []) (first ∷ rest) ≡ BadStatement = if_true (is_word (codes "END_STRUCT") first) _ _ word in
+    subst R reason (misses (Inside kind part.Own []) first rest refl)
 
-end_reads : (kind : BlockKind) (first : Token) (rest : List Token) → ends_level kind [] first ≡ true → Reads (Inside kind []) first rest (declarations_end kind first rest)
-end_reads block.Db first [] word = unended first [] word
-end_reads block.Db first (sign ∷ rest) word =
-    let R : Found → Type 0 = λ found. Reads (Inside block.Db []) first (sign ∷ rest) found in
-    choose R (is_semicolon sign) _ _ (λ ends. fits (data_end first sign rest word ends)) (λ no_end. unended first (sign ∷ rest) word)
-end_reads block.Ob first rest word = fits (section_end block.Ob first rest refl word)
-end_reads block.Fc first rest word = fits (section_end block.Fc first rest refl word)
-end_reads block.Fb first rest word = fits (section_end block.Fb first rest refl word)
+end_reads : (kind : BlockKind) (section : Section) (first : Token) (rest : List Token) → ends_level section [] first ≡ true → Reads (Inside kind section []) first rest (section_end_found kind section first rest)
+end_reads kind part.Own first [] word = unended kind first [] word
+end_reads kind part.Own first (sign ∷ rest) word =
+    let R : Found → Type 0 = λ found. Reads (Inside kind part.Own []) first (sign ∷ rest) found in
+    choose R (is_semicolon sign) _ _ (λ ends. fits (data_end kind first sign rest word ends)) (λ no_end. unended kind first (sign ∷ rest) word)
+end_reads kind part.Input first rest word = fits (section_end kind part.Input first rest refl word)
+end_reads kind part.Output first rest word = fits (section_end kind part.Output first rest refl word)
+end_reads kind part.InOut first rest word = fits (section_end kind part.InOut first rest refl word)
+end_reads kind part.Static first rest word = fits (section_end kind part.Static first rest refl word)
+end_reads kind part.Temp first rest word = fits (section_end kind part.Temp first rest refl word)
 
-closing_reads : (kind : BlockKind) (levels : List Level) (first : Token) (rest : List Token) → ends_level kind levels first ≡ true →
-    Reads (Inside kind levels) first rest (closing_at kind levels (first ∷ rest) first rest)
-closing_reads kind [] first rest word = end_reads kind first rest word
-closing_reads kind (level ∷ levels) first rest word = struct_reads kind level levels first rest (ending_at (is_data kind) level.in_array rest) word refl (ending_front (is_data kind) level.in_array rest)
+closing_reads : (kind : BlockKind) (section : Section) (levels : List Level) (first : Token) (rest : List Token) → ends_level section levels first ≡ true →
+    Reads (Inside kind section levels) first rest (closing_at kind section levels (first ∷ rest) first rest)
+closing_reads kind section [] first rest word = end_reads kind section first rest word
+closing_reads kind section (level ∷ levels) first rest word = struct_reads kind section level levels first rest (ending_at section level.in_array rest) word refl (ending_front section level.in_array rest)
 
 -- a declaration that does not fit has the line of its name
-inside_line : (kind : BlockKind) (levels : List Level) (first : Token) → ends_level kind levels first ≡ false → level_line levels first ≡ first.line
-inside_line kind [] first no_end = refl
-inside_line kind (level ∷ levels) first no_end = if_false (is_word (codes "END_STRUCT") first) _ _ no_end
+inside_line : (kind : BlockKind) (section : Section) (levels : List Level) (first : Token) → ends_level section levels first ≡ false → level_line levels first ≡ first.line
+inside_line kind section [] first no_end = refl
+inside_line kind section (level ∷ levels) first no_end = if_false (is_word (codes "END_STRUCT") first) _ _ no_end
 
-undeclared : (kind : BlockKind) (levels : List Level) (first : Token) (rest : List Token) (found : Read Written) → ends_level kind levels first ≡ false → declaration_at (is_data kind) (left_of levels) first rest ≡ found →
-    Reads (Inside kind levels) first rest (Misfit first.line (declaration_reason (first ∷ rest) found))
-undeclared kind levels first rest found no_end is =
-    let R : Line → Reason → Type 0 = λ line reason. Reads (Inside kind levels) first rest (Misfit line reason) in
-    let place = Inside kind levels in
+undeclared : (kind : BlockKind) (section : Section) (levels : List Level) (first : Token) (rest : List Token) (found : Read Written) → ends_level section levels first ≡ false → declaration_at section (left_of levels) first rest ≡ found →
+    Reads (Inside kind section levels) first rest (Misfit first.line (declaration_reason (first ∷ rest) found))
+undeclared kind section levels first rest found no_end is =
+    let R : Line → Reason → Type 0 = λ line reason. Reads (Inside kind section levels) first rest (Misfit line reason) in
+    let place = Inside kind section levels in
     let reason : misfit_reason place (first ∷ rest) ≡ declaration_reason (first ∷ rest) found =
-    if_false (ends_level kind levels first) _ _ no_end ∙ ap (λ (r : Read Written). declaration_reason (first ∷ rest) r) is in
-    subst (λ (l : Line). R l (declaration_reason (first ∷ rest) found)) (inside_line kind levels first no_end)
+    if_false (ends_level section levels first) _ _ no_end ∙ ap (λ (r : Read Written). declaration_reason (first ∷ rest) r) is in
+    subst (λ (l : Line). R l (declaration_reason (first ∷ rest) found)) (inside_line kind section levels first no_end)
     (subst (λ (r : Reason). R (misfit_line place first) r) reason (misses place first rest refl))
 
-declaration_reads : (kind : BlockKind) (levels : List Level) (first : Token) (rest : List Token) (found : Read Written) → ends_level kind levels first ≡ false → declaration_at (is_data kind) (left_of levels) first rest ≡ found →
-    FrontOf rest (IsDeclaration (is_data kind) (left_of levels) first) found → Reads (Inside kind levels) first rest (declaration_found kind levels (first ∷ rest) first found)
-declaration_reads kind levels first rest (read.Fits type size) no_end is f =
-    let R : List Token → ℕ → Type 0 = λ ts n. Reads (Inside kind levels) first ts
-    (Fits (Declares first.text first.line type) n (Inside kind (levels_behind levels first.line type.innermost (length type.arrays)))) in
+declaration_reads : (kind : BlockKind) (section : Section) (levels : List Level) (first : Token) (rest : List Token) (found : Read Written) → ends_level section levels first ≡ false → declaration_at section (left_of levels) first rest ≡ found →
+    FrontOf rest (IsDeclaration section (left_of levels) first) found → Reads (Inside kind section levels) first rest (declaration_found kind section levels (first ∷ rest) first found)
+declaration_reads kind section levels first rest (read.Fits type size) no_end is f =
+    let R : List Token → ℕ → Type 0 = λ ts n. Reads (Inside kind section levels) first ts
+    (Fits (Declares first.text first.line type) n (Inside kind section (levels_behind levels first.line type.innermost (length type.arrays)))) in
     subst (λ (ts : List Token). R ts size) f.is
-    (subst (λ (n : ℕ). R (f.front ++ f.rest) n) f.size_is (fits (declaration kind levels first f.front f.rest type no_end f.holds)))
-declaration_reads kind levels first rest (read.LeftOut its) no_end is f = undeclared kind levels first rest (read.LeftOut its) no_end is
-declaration_reads kind levels first rest read.No no_end is f = undeclared kind levels first rest read.No no_end is
+    (subst (λ (n : ℕ). R (f.front ++ f.rest) n) f.size_is (fits (declaration kind section levels first f.front f.rest type no_end f.holds)))
+declaration_reads kind section levels first rest (read.LeftOut its) no_end is f = undeclared kind section levels first rest (read.LeftOut its) no_end is
+declaration_reads kind section levels first rest read.No no_end is f = undeclared kind section levels first rest read.No no_end is
 
-inside_reads : (kind : BlockKind) (levels : List Level) (first : Token) (rest : List Token) → Reads (Inside kind levels) first rest (inside_at kind levels (first ∷ rest) first rest)
-inside_reads kind levels first rest =
-    let R : Found → Type 0 = λ found. Reads (Inside kind levels) first rest found in
-    choose R (ends_level kind levels first) _ _ (λ word. closing_reads kind levels first rest word)
-    (λ no_end. declaration_reads kind levels first rest (declaration_at (is_data kind) (left_of levels) first rest) no_end refl (declaration_front (is_data kind) (left_of levels) first rest))
+inside_reads : (kind : BlockKind) (section : Section) (levels : List Level) (first : Token) (rest : List Token) → Reads (Inside kind section levels) first rest (inside_at kind section levels (first ∷ rest) first rest)
+inside_reads kind section levels first rest =
+    let R : Found → Type 0 = λ found. Reads (Inside kind section levels) first rest found in
+    choose R (ends_level section levels first) _ _ (λ word. closing_reads kind section levels first rest word)
+    (λ no_end. declaration_reads kind section levels first rest (declaration_at section (left_of levels) first rest) no_end refl (declaration_front section (left_of levels) first rest))
 
 -- among the initial values of a data block
 
@@ -393,10 +411,11 @@ values_reads first rest =
     choose R (is_end block.Db first) _ _ (λ word. fits (values_end first rest word))
     (λ no_end. value_reads first rest (path_value_at first.line (first ∷ rest)) no_end refl (initial_front first.line (first ∷ rest)))
 
-behind_reads_begin : (kind : BlockKind) (first : Token) (rest : List Token) → Reads (Behind kind) first rest (behind_at kind (first ∷ rest) first)
-behind_reads_begin kind first rest =
-    let R : Found → Type 0 = λ found. Reads (Behind kind) first rest found in
-    choose R (is_word (codes "BEGIN") first) _ _ (λ word. fits (begin_behind kind first rest word)) (λ no_word. misses (Behind kind) first rest refl)
+behind_reads_begin : (kind : BlockKind) (before : Section) (first : Token) (rest : List Token) → Reads (Behind kind before) first rest (behind_at kind before (first ∷ rest) first)
+behind_reads_begin kind before first rest =
+    let R : Found → Type 0 = λ found. Reads (Behind kind before) first rest found in
+    choose R (is_word (codes "BEGIN") first) _ _ (λ word. fits (begin_behind kind before first rest word))
+    (λ no_word. opens_reads (Behind kind before) kind (Some before) first rest (misses (Behind kind before) first rest refl) (λ its word may. fits (later_section kind before its first rest word may)))
 
 -- in a body
 
@@ -442,8 +461,8 @@ token_reads Start first rest = kind_reads Start _ first rest (heading_kind first
 token_reads (Table line) first rest = in_table_reads line first rest
 token_reads Between first rest = kind_reads Between _ first rest (heading_kind first) tt (misses Between first rest refl) refl (λ no_heading. misses Between first rest refl)
 token_reads (Heading kind line) first rest = behind_heading_reads kind line first rest
-token_reads (Inside kind levels) first rest = inside_reads kind levels first rest
-token_reads (Behind kind) first rest = behind_reads_begin kind first rest
+token_reads (Inside kind its levels) first rest = inside_reads kind its levels first rest
+token_reads (Behind kind before) first rest = behind_reads_begin kind before first rest
 token_reads (Body kind) first rest = body_reads kind first rest
 token_reads Values first rest = values_reads first rest
 
@@ -473,9 +492,9 @@ end_is end Start = at_start
 end_is end (Table line) = in_a_table line
 end_is end Between = behind_a_block
 end_is end (Heading kind line) = behind_a_heading kind line
-end_is end (Inside kind []) = in_a_section kind
-end_is end (Inside kind (level ∷ levels)) = in_a_struct kind level levels
-end_is end (Behind kind) = behind_a_section kind
+end_is end (Inside kind its []) = in_a_section kind its
+end_is end (Inside kind its (level ∷ levels)) = in_a_struct kind its level levels
+end_is end (Behind kind its) = behind_a_section kind its
 end_is end (Body kind) = in_a_body kind
 end_is end Values = among_values
 
@@ -521,9 +540,9 @@ complete end place tokens found at_start = refl
 complete end place tokens found (in_a_table line) = refl
 complete end place tokens found behind_a_block = refl
 complete end place tokens found (behind_a_heading kind line) = refl
-complete end place tokens found (in_a_section kind) = refl
-complete end place tokens found (in_a_struct kind level levels) = refl
-complete end place tokens found (behind_a_section kind) = refl
+complete end place tokens found (in_a_section kind its) = refl
+complete end place tokens found (in_a_struct kind its level levels) = refl
+complete end place tokens found (behind_a_section kind its) = refl
 complete end place tokens found (in_a_body kind) = refl
 complete end place tokens found among_values = refl
 

@@ -46,7 +46,7 @@ raw_with symbols blocks = record { symbols = symbols; dbs = []; blocks = blocks 
 
 -- an organization block without instructions, from a line to a line
 abbrev pub empty_block : RawName → ℕ → ℕ → RawBlock
-empty_block name first last = with_end (record { 0 = last }) (headed (record { 0 = first }) block.Ob name)
+empty_block name first last = with_end (record { 0 = last }) (headed (record { 0 = first }) block.Ob name None)
 
 pub two_blocks :
     raw_text (codes "ORGANIZATION_BLOCK OB 1\nBEGIN\nEND_ORGANIZATION_BLOCK\nORGANIZATION_BLOCK OB2 BEGIN\nEND_ORGANIZATION_BLOCK")

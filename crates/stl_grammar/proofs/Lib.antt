@@ -8,4 +8,5 @@ pub mod ItemRows
 pub mod ListLaws
 pub mod MisfitLaws
 pub mod Outs
+pub mod SectionLaws
 pub mod StatementSizes

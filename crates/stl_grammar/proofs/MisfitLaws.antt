@@ -12,15 +12,16 @@ use Rattle.stl_constants.proofs.Reading.{if_false, if_true, word_no_quoted}
 use Rattle.stl_grammar.proofs.DeclarationLaws.{Starts, declaration_left, declaration_out, number_starts}
 use Rattle.stl_grammar.proofs.InitialLaws.{ending_left, ending_out, initial_left, initial_out}
 use Rattle.stl_grammar.proofs.Outs.{OutOf}
-use Rattle.stl_grammar.specs.DeclarationForms.{IsNamed, LeavesOutDeclaration}
+use Rattle.stl_grammar.specs.DeclarationForms.{LeavesOutDeclaration}
 use Rattle.stl_grammar.specs.DeclarationForms as declared
 use Rattle.stl_grammar.specs.Declarations.{declaration_at, ends_level, has_number, is_user_type, left_of}
 use Rattle.stl_grammar.specs.Grammar.{MayOpen, LeavesOutForm, plain_reason}
 use Rattle.stl_grammar.specs.Grammar as form
 use Rattle.stl_grammar.specs.InitialForms.{LeavesOutEnding, LeavesOutInitial}
 use Rattle.stl_grammar.specs.Initials.{ending_at, path_value_at}
-use Rattle.stl_grammar.specs.Items.{begins_with_name, closing_reason, declaration_reason, is_complete, is_data, is_instance, is_not_built, misfit_reason, read_reason, reason_with}
+use Rattle.stl_grammar.specs.Items.{begins_with_name, closing_reason, declaration_reason, is_complete, is_instance, is_not_built, misfit_reason, read_reason, reason_with}
 use Rattle.stl_grammar.specs.declared.declaration.Level.{Level}
+use Rattle.stl_grammar.specs.declared.declaration.Section.{Section}
 use Rattle.stl_grammar.specs.declared.declaration.Written.{Written}
 use Rattle.stl_grammar.specs.declared.item.Where.{Where}
 use Rattle.stl_grammar.specs.declared.item.Where.TheVariants.{Start, Table, Between, Heading, Inside, Behind, Body, Values}
@@ -74,8 +75,8 @@ type_says Start first rest may word = if_true (is_word (codes "TYPE") first) _ _
 type_says (Table line) first rest may word = absurd may
 type_says Between first rest may word = if_true (is_word (codes "TYPE") first) _ _ word
 type_says (Heading kind line) first rest may word = absurd may
-type_says (Inside kind levels) first rest may word = absurd may
-type_says (Behind kind) first rest may word = absurd may
+type_says (Inside kind section levels) first rest may word = absurd may
+type_says (Behind kind section) first rest may word = absurd may
 type_says (Body kind) first rest may word = absurd may
 type_says Values first rest may word = absurd may
 
@@ -87,13 +88,13 @@ tokens_say place tokens k (form.data_of_the_system line first rest is) =
     if_false (is_instance first rest) _ _ (system_no_instance first rest is)
     ∙ if_false (is_user_type first rest) _ _ (no_user_type first rest (sfb_starts first rest is))
     ∙ if_true (has_number (codes "SFB") first rest) _ _ is
-tokens_say place tokens k (form.in_a_declaration kind levels name rest its no_end out complete) =
-    if_false (ends_level kind levels name) _ _ no_end
-    ∙ ap (λ (r : Read Written). declaration_reason (name ∷ rest) r) (declaration_left (is_data kind) (left_of levels) name rest its out)
+tokens_say place tokens k (form.in_a_declaration kind part levels name rest its no_end out complete) =
+    if_false (ends_level part levels name) _ _ no_end
+    ∙ ap (λ (r : Read Written). declaration_reason (name ∷ rest) r) (declaration_left part (left_of levels) name rest its out)
     ∙ if_true (is_complete (name ∷ rest)) _ _ complete
-tokens_say place tokens k (form.at_a_struct_end kind level levels first rest its word out complete) =
+tokens_say place tokens k (form.at_a_struct_end kind part level levels first rest its word out complete) =
     if_true (is_word (codes "END_STRUCT") first) _ _ word
-    ∙ ap (λ (r : Read (List InitialItem)). read_reason (first ∷ rest) r) (ending_left (is_data kind) level.in_array rest its out)
+    ∙ ap (λ (r : Read (List InitialItem)). read_reason (first ∷ rest) r) (ending_left part level.in_array rest its out)
     ∙ if_true (is_complete (first ∷ rest)) _ _ complete
 tokens_say place tokens k (form.in_a_value first rest its out complete) =
     ap (λ (r : Read RawInitial). read_reason (first ∷ rest) r) (initial_left first.line (first ∷ rest) its out) ∙ if_true (is_complete (first ∷ rest)) _ _ complete
@@ -120,8 +121,8 @@ only_type place tokens k (form.user_type its head more may word) first rest e it
     let same : head ≡ first = cc in subst (λ (t : Token). is_word (codes "TYPE") t ≡ true) same word
 only_type place tokens k (form.data_of_a_type line head more is) first rest e may = absurd may
 only_type place tokens k (form.data_of_the_system line head more is) first rest e may = absurd may
-only_type place tokens k (form.in_a_declaration kind levels name more its no_end out complete) first rest e may = absurd may
-only_type place tokens k (form.at_a_struct_end kind level levels head more its word out complete) first rest e may = absurd may
+only_type place tokens k (form.in_a_declaration kind part levels name more its no_end out complete) first rest e may = absurd may
+only_type place tokens k (form.at_a_struct_end kind part level levels head more its word out complete) first rest e may = absurd may
 only_type place tokens k (form.in_a_value head more its out complete) first rest e may = absurd may
 
 choose : {A : Type 0} (R : A → Type 0) (b : Bool) (x y : A) → (b ≡ true → R x) → (b ≡ false → R y) → R (if b then x else y)
@@ -133,7 +134,7 @@ abbrev IsPlain : Where → Type 0
 IsPlain (Table line) = Unit {0}
 IsPlain (Heading block.Db line) = ⊥
 IsPlain (Heading kind line) = Unit {0}
-IsPlain (Behind kind) = Unit {0}
+IsPlain (Behind kind section) = Unit {0}
 IsPlain (Body kind) = Unit {0}
 IsPlain elsewhere = ⊥
 
@@ -142,8 +143,8 @@ not_open Start is may = is
 not_open (Table line) is may = may
 not_open Between is may = is
 not_open (Heading kind line) is may = may
-not_open (Inside kind levels) is may = is
-not_open (Behind kind) is may = may
+not_open (Inside kind section levels) is may = is
+not_open (Behind kind section) is may = may
 not_open (Body kind) is may = may
 not_open Values is may = is
 
@@ -151,8 +152,8 @@ none_plain : (place : Where) (tokens : List Token) (k : Kind) → LeavesOutForm 
 none_plain place tokens k (form.user_type its first rest may word) is = not_open its is may
 none_plain place tokens k (form.data_of_a_type line first rest user) is = is
 none_plain place tokens k (form.data_of_the_system line first rest system) is = is
-none_plain place tokens k (form.in_a_declaration kind levels name rest its no_end out complete) is = is
-none_plain place tokens k (form.at_a_struct_end kind level levels first rest its word out complete) is = is
+none_plain place tokens k (form.in_a_declaration kind part levels name rest its no_end out complete) is = is
+none_plain place tokens k (form.at_a_struct_end kind part level levels first rest its word out complete) is = is
 none_plain place tokens k (form.in_a_value first rest its out complete) is = is
 
 pub no_left_body : (kind : BlockKind) (first : Token) (rest : List Token) (k : Kind) → LeavesOutForm (Body kind) (first ∷ rest) k → ⊥
@@ -195,39 +196,39 @@ data_says line first rest =
 
 -- among declarations
 
-record CutDeclaration (kind : BlockKind) (levels : List Level) (first : Token) (rest : List Token) (k : Kind) : Type 0 where
-  out : LeavesOutDeclaration (is_data kind) (left_of levels) first rest k
+record CutDeclaration (kind : BlockKind) (section : Section) (levels : List Level) (first : Token) (rest : List Token) (k : Kind) : Type 0 where
+  out : LeavesOutDeclaration section (left_of levels) first rest k
   whole : is_complete (first ∷ rest) ≡ true
 
-inside_left : (kind : BlockKind) (levels : List Level) (first : Token) (rest : List Token) (k : Kind) → LeavesOutForm (Inside kind levels) (first ∷ rest) k → ends_level kind levels first ≡ false →
-    CutDeclaration kind levels first rest k
-inside_left kind levels first rest k (form.user_type place head more may word) no_end = absurd may
-inside_left kind levels first rest k (form.in_a_declaration its its_levels head more its_kind other out complete) no_end = record { out = out; whole = complete }
-inside_left kind levels first rest k (form.at_a_struct_end its level its_levels head more its_kind word out complete) no_end = clash (is_word (codes "END_STRUCT") first) word no_end
+inside_left : (kind : BlockKind) (section : Section) (levels : List Level) (first : Token) (rest : List Token) (k : Kind) → LeavesOutForm (Inside kind section levels) (first ∷ rest) k → ends_level section levels first ≡ false →
+    CutDeclaration kind section levels first rest k
+inside_left kind section levels first rest k (form.user_type place head more may word) no_end = absurd may
+inside_left kind section levels first rest k (form.in_a_declaration its its_section its_levels head more its_kind other out complete) no_end = record { out = out; whole = complete }
+inside_left kind section levels first rest k (form.at_a_struct_end its its_section level its_levels head more its_kind word out complete) no_end = clash (is_word (codes "END_STRUCT") first) word no_end
 
-record CutEnding (kind : BlockKind) (level : Level) (first : Token) (rest : List Token) (k : Kind) : Type 0 where
-  out : LeavesOutEnding (is_data kind) level.in_array rest k
+record CutEnding (kind : BlockKind) (section : Section) (level : Level) (first : Token) (rest : List Token) (k : Kind) : Type 0 where
+  out : LeavesOutEnding section level.in_array rest k
   whole : is_complete (first ∷ rest) ≡ true
 
-struct_left : (kind : BlockKind) (level : Level) (levels : List Level) (first : Token) (rest : List Token) (k : Kind) → LeavesOutForm (Inside kind (level ∷ levels)) (first ∷ rest) k →
-    is_word (codes "END_STRUCT") first ≡ true → CutEnding kind level first rest k
-struct_left kind level levels first rest k (form.user_type place head more may word) is = absurd may
-struct_left kind level levels first rest k (form.in_a_declaration its its_levels head more its_kind no_end out complete) is = clash (is_word (codes "END_STRUCT") first) is no_end
-struct_left kind level levels first rest k (form.at_a_struct_end its its_level its_levels head more its_kind word out complete) is = record { out = out; whole = complete }
+struct_left : (kind : BlockKind) (section : Section) (level : Level) (levels : List Level) (first : Token) (rest : List Token) (k : Kind) → LeavesOutForm (Inside kind section (level ∷ levels)) (first ∷ rest) k →
+    is_word (codes "END_STRUCT") first ≡ true → CutEnding kind section level first rest k
+struct_left kind section level levels first rest k (form.user_type place head more may word) is = absurd may
+struct_left kind section level levels first rest k (form.in_a_declaration its its_section its_levels head more its_kind no_end out complete) is = clash (is_word (codes "END_STRUCT") first) is no_end
+struct_left kind section level levels first rest k (form.at_a_struct_end its its_section its_level its_levels head more its_kind word out complete) is = record { out = out; whole = complete }
 
-top_left : (kind : BlockKind) (first : Token) (rest : List Token) (k : Kind) → LeavesOutForm (Inside kind []) (first ∷ rest) k → ends_level kind [] first ≡ true → ⊥
-top_left kind first rest k (form.user_type place head more may word) is = may
-top_left kind first rest k (form.in_a_declaration its its_levels head more its_kind no_end out complete) is = clash (ends_level kind [] first) is no_end
+top_left : (kind : BlockKind) (section : Section) (first : Token) (rest : List Token) (k : Kind) → LeavesOutForm (Inside kind section []) (first ∷ rest) k → ends_level section [] first ≡ true → ⊥
+top_left kind section first rest k (form.user_type place head more may word) is = may
+top_left kind section first rest k (form.in_a_declaration its its_section its_levels head more its_kind no_end out complete) is = clash (ends_level section [] first) is no_end
 
 -- plain reasons among declarations
 
-plain_at_end : (kind : BlockKind) (levels : List Level) (first : Token) (rest : List Token) → ends_level kind levels first ≡ true → plain_reason (Inside kind levels) (first ∷ rest) ≡ BadStatement
-plain_at_end kind levels first rest ends =
+plain_at_end : (kind : BlockKind) (section : Section) (levels : List Level) (first : Token) (rest : List Token) → ends_level section levels first ≡ true → plain_reason (Inside kind section levels) (first ∷ rest) ≡ BadStatement
+plain_at_end kind section levels first rest ends =
     ap (λ (b : Bool). if (if b || begins_with_name (first ∷ rest) then false else is_not_built false false (first ∷ rest)) then Unsupported NotBuilt else BadStatement) ends
 
-plain_behind : (kind : BlockKind) (levels : List Level) (first : Token) (rest : List Token) → ends_level kind levels first ≡ false →
-    plain_reason (Inside kind levels) (first ∷ rest) ≡ (if begins_with_name (first ∷ rest) then BadStatement else reason_with false false (first ∷ rest))
-plain_behind kind levels first rest no_end =
+plain_behind : (kind : BlockKind) (section : Section) (levels : List Level) (first : Token) (rest : List Token) → ends_level section levels first ≡ false →
+    plain_reason (Inside kind section levels) (first ∷ rest) ≡ (if begins_with_name (first ∷ rest) then BadStatement else reason_with false false (first ∷ rest))
+plain_behind kind section levels first rest no_end =
     ap (λ (b : Bool). if (if b || begins_with_name (first ∷ rest) then false else is_not_built false false (first ∷ rest)) then Unsupported NotBuilt else BadStatement) no_end
     ∙ by (begins_with_name (first ∷ rest)) (is_not_built false false (first ∷ rest))
   where
@@ -241,56 +242,56 @@ lost kind r one two = let apart : read.LeftOut kind ≡ read.No = sym one ∙ tw
 lost_fits : {A : Type 0} (kind : Kind) (r : Read A) (a : A) (size : ℕ) → r ≡ read.LeftOut kind → r ≡ read.Fits a size → ⊥
 lost_fits kind r a size one two = let apart : read.LeftOut kind ≡ read.Fits a size = sym one ∙ two in absurd cc
 
-struct_says : (kind : BlockKind) (level : Level) (levels : List Level) (first : Token) (rest : List Token) → is_word (codes "END_STRUCT") first ≡ true →
-    Says (Inside kind (level ∷ levels)) first rest (read_reason (first ∷ rest) (ending_at (is_data kind) level.in_array rest))
-struct_says kind level levels first rest word = by (ending_at (is_data kind) level.in_array rest) refl (ending_out (is_data kind) level.in_array rest)
+struct_says : (kind : BlockKind) (section : Section) (level : Level) (levels : List Level) (first : Token) (rest : List Token) → is_word (codes "END_STRUCT") first ≡ true →
+    Says (Inside kind section (level ∷ levels)) first rest (read_reason (first ∷ rest) (ending_at section level.in_array rest))
+struct_says kind section level levels first rest word = by (ending_at section level.in_array rest) refl (ending_out section level.in_array rest)
   where
-    none : ((k : Kind) → ending_at (is_data kind) level.in_array rest ≡ read.LeftOut k → ⊥) → NoneLeft (Inside kind (level ∷ levels)) first rest
-    none never k out = never k (ending_left (is_data kind) level.in_array rest k (struct_left kind level levels first rest k out word).out)
+    none : ((k : Kind) → ending_at section level.in_array rest ≡ read.LeftOut k → ⊥) → NoneLeft (Inside kind section (level ∷ levels)) first rest
+    none never k out = never k (ending_left section level.in_array rest k (struct_left kind section level levels first rest k out word).out)
 
-    by : (r : Read (List InitialItem)) → ending_at (is_data kind) level.in_array rest ≡ r → OutOf (λ k. LeavesOutEnding (is_data kind) level.in_array rest k) r →
-        Says (Inside kind (level ∷ levels)) first rest (read_reason (first ∷ rest) r)
-    by read.No e out = by_plain (plain_at_end kind (level ∷ levels) first rest word) (none (λ k is. lost k _ is e))
-    by (read.Fits items size) e out = by_plain (plain_at_end kind (level ∷ levels) first rest word) (none (λ k is. lost_fits k _ items size is e))
+    by : (r : Read (List InitialItem)) → ending_at section level.in_array rest ≡ r → OutOf (λ k. LeavesOutEnding section level.in_array rest k) r →
+        Says (Inside kind section (level ∷ levels)) first rest (read_reason (first ∷ rest) r)
+    by read.No e out = by_plain (plain_at_end kind section (level ∷ levels) first rest word) (none (λ k is. lost k _ is e))
+    by (read.Fits items size) e out = by_plain (plain_at_end kind section (level ∷ levels) first rest word) (none (λ k is. lost_fits k _ items size is e))
     by (read.LeftOut k) e out =
-        choose (Says (Inside kind (level ∷ levels)) first rest) (is_complete (first ∷ rest)) (Unsupported k) BadStatement
-        (λ complete. by_left k (form.at_a_struct_end kind level levels first rest k word out complete))
-        (λ cut. by_plain (plain_at_end kind (level ∷ levels) first rest word)
-        (λ its left. clash (is_complete (first ∷ rest)) (struct_left kind level levels first rest its left word).whole cut))
+        choose (Says (Inside kind section (level ∷ levels)) first rest) (is_complete (first ∷ rest)) (Unsupported k) BadStatement
+        (λ complete. by_left k (form.at_a_struct_end kind section level levels first rest k word out complete))
+        (λ cut. by_plain (plain_at_end kind section (level ∷ levels) first rest word)
+        (λ its left. clash (is_complete (first ∷ rest)) (struct_left kind section level levels first rest its left word).whole cut))
 
-closing_says : (kind : BlockKind) (levels : List Level) (first : Token) (rest : List Token) → ends_level kind levels first ≡ true →
-    Says (Inside kind levels) first rest (closing_reason kind levels (first ∷ rest) rest)
-closing_says kind [] first rest ends = by_plain (plain_at_end kind [] first rest ends) (λ k out. top_left kind first rest k out ends)
-closing_says kind (level ∷ levels) first rest ends = struct_says kind level levels first rest ends
+closing_says : (kind : BlockKind) (section : Section) (levels : List Level) (first : Token) (rest : List Token) → ends_level section levels first ≡ true →
+    Says (Inside kind section levels) first rest (closing_reason section levels (first ∷ rest) rest)
+closing_says kind section [] first rest ends = by_plain (plain_at_end kind section [] first rest ends) (λ k out. top_left kind section first rest k out ends)
+closing_says kind section (level ∷ levels) first rest ends = struct_says kind section level levels first rest ends
 
 -- a declaration in which something is left out begins with a name and a colon
-left_begins : (valued : Bool) (left : ℕ) (name : Token) (rest : List Token) (k : Kind) → LeavesOutDeclaration valued left name rest k → begins_with_name (name ∷ rest) ≡ true
-left_begins valued left name rest k (declared.in_type colon more its named out) = and_from _ _ named.name_is named.colon_is
-left_begins valued left name rest k (declared.with_date colon front more type named is date has) = and_from _ _ named.name_is named.colon_is
-left_begins valued left name rest k (declared.in_ending colon front more type its named is has out) = and_from _ _ named.name_is named.colon_is
+left_begins : (section : Section) (left : ℕ) (name : Token) (rest : List Token) (k : Kind) → LeavesOutDeclaration section left name rest k → begins_with_name (name ∷ rest) ≡ true
+left_begins section left name rest k (declared.in_type colon more its named out) = and_from _ _ named.name_is named.colon_is
+left_begins section left name rest k (declared.with_date colon front more type named is date has) = and_from _ _ named.name_is named.colon_is
+left_begins section left name rest k (declared.in_ending colon front more type its named is has out) = and_from _ _ named.name_is named.colon_is
 
-declaration_says : (kind : BlockKind) (levels : List Level) (first : Token) (rest : List Token) → ends_level kind levels first ≡ false →
-    Says (Inside kind levels) first rest (declaration_reason (first ∷ rest) (declaration_at (is_data kind) (left_of levels) first rest))
-declaration_says kind levels first rest no_end =
-    by (declaration_at (is_data kind) (left_of levels) first rest) refl (declaration_out (is_data kind) (left_of levels) first rest)
+declaration_says : (kind : BlockKind) (section : Section) (levels : List Level) (first : Token) (rest : List Token) → ends_level section levels first ≡ false →
+    Says (Inside kind section levels) first rest (declaration_reason (first ∷ rest) (declaration_at section (left_of levels) first rest))
+declaration_says kind section levels first rest no_end =
+    by (declaration_at section (left_of levels) first rest) refl (declaration_out section (left_of levels) first rest)
   where
-    none : ((k : Kind) → declaration_at (is_data kind) (left_of levels) first rest ≡ read.LeftOut k → ⊥) → NoneLeft (Inside kind levels) first rest
-    none never k out = never k (declaration_left (is_data kind) (left_of levels) first rest k (inside_left kind levels first rest k out no_end).out)
+    none : ((k : Kind) → declaration_at section (left_of levels) first rest ≡ read.LeftOut k → ⊥) → NoneLeft (Inside kind section levels) first rest
+    none never k out = never k (declaration_left section (left_of levels) first rest k (inside_left kind section levels first rest k out no_end).out)
 
-    by : (r : Read Written) → declaration_at (is_data kind) (left_of levels) first rest ≡ r → OutOf (λ k. LeavesOutDeclaration (is_data kind) (left_of levels) first rest k) r →
-        Says (Inside kind levels) first rest (declaration_reason (first ∷ rest) r)
-    by read.No e out = by_plain (plain_behind kind levels first rest no_end) (none (λ k is. lost k _ is e))
-    by (read.Fits type size) e out = by_plain (plain_behind kind levels first rest no_end) (none (λ k is. lost_fits k _ type size is e))
+    by : (r : Read Written) → declaration_at section (left_of levels) first rest ≡ r → OutOf (λ k. LeavesOutDeclaration section (left_of levels) first rest k) r →
+        Says (Inside kind section levels) first rest (declaration_reason (first ∷ rest) r)
+    by read.No e out = by_plain (plain_behind kind section levels first rest no_end) (none (λ k is. lost k _ is e))
+    by (read.Fits type size) e out = by_plain (plain_behind kind section levels first rest no_end) (none (λ k is. lost_fits k _ type size is e))
     by (read.LeftOut k) e out =
-        choose (Says (Inside kind levels) first rest) (is_complete (first ∷ rest)) (Unsupported k) BadStatement
-        (λ complete. by_left k (form.in_a_declaration kind levels first rest k no_end out complete))
+        choose (Says (Inside kind section levels) first rest) (is_complete (first ∷ rest)) (Unsupported k) BadStatement
+        (λ complete. by_left k (form.in_a_declaration kind section levels first rest k no_end out complete))
         (λ cut. by_plain
-        (plain_behind kind levels first rest no_end ∙ if_true (begins_with_name (first ∷ rest)) _ _ (left_begins (is_data kind) (left_of levels) first rest k out))
-        (λ its left. clash (is_complete (first ∷ rest)) (inside_left kind levels first rest its left no_end).whole cut))
+        (plain_behind kind section levels first rest no_end ∙ if_true (begins_with_name (first ∷ rest)) _ _ (left_begins section (left_of levels) first rest k out))
+        (λ its left. clash (is_complete (first ∷ rest)) (inside_left kind section levels first rest its left no_end).whole cut))
 
-inside_says : (kind : BlockKind) (levels : List Level) (first : Token) (rest : List Token) → Says (Inside kind levels) first rest (misfit_reason (Inside kind levels) (first ∷ rest))
-inside_says kind levels first rest =
-    choose (Says (Inside kind levels) first rest) (ends_level kind levels first) _ _ (λ ends. closing_says kind levels first rest ends) (λ no_end. declaration_says kind levels first rest no_end)
+inside_says : (kind : BlockKind) (section : Section) (levels : List Level) (first : Token) (rest : List Token) → Says (Inside kind section levels) first rest (misfit_reason (Inside kind section levels) (first ∷ rest))
+inside_says kind section levels first rest =
+    choose (Says (Inside kind section levels) first rest) (ends_level section levels first) _ _ (λ ends. closing_says kind section levels first rest ends) (λ no_end. declaration_says kind section levels first rest no_end)
 
 -- among the initial values of a data block
 
@@ -323,18 +324,18 @@ heading_says block.Fc line first rest = by_plain refl (λ k out. none_plain (Hea
 heading_says block.Fb line first rest = by_plain refl (λ k out. none_plain (Heading block.Fb line) (first ∷ rest) k out tt)
 heading_says block.Db line first rest = data_says line first rest
 
-behind_says : (kind : BlockKind) (first : Token) (rest : List Token) → Says (Behind kind) first rest (misfit_reason (Behind kind) (first ∷ rest))
-behind_says block.Ob first rest = by_plain refl (λ k out. none_plain (Behind block.Ob) (first ∷ rest) k out tt)
-behind_says block.Fc first rest = by_plain refl (λ k out. none_plain (Behind block.Fc) (first ∷ rest) k out tt)
-behind_says block.Fb first rest = by_plain refl (λ k out. none_plain (Behind block.Fb) (first ∷ rest) k out tt)
-behind_says block.Db first rest = by_plain refl (λ k out. none_plain (Behind block.Db) (first ∷ rest) k out tt)
+behind_says : (kind : BlockKind) (section : Section) (first : Token) (rest : List Token) → Says (Behind kind section) first rest (misfit_reason (Behind kind section) (first ∷ rest))
+behind_says block.Ob section first rest = by_plain refl (λ k out. none_plain (Behind block.Ob section) (first ∷ rest) k out tt)
+behind_says block.Fc section first rest = by_plain refl (λ k out. none_plain (Behind block.Fc section) (first ∷ rest) k out tt)
+behind_says block.Fb section first rest = by_plain refl (λ k out. none_plain (Behind block.Fb section) (first ∷ rest) k out tt)
+behind_says block.Db section first rest = by_plain refl (λ k out. none_plain (Behind block.Db section) (first ∷ rest) k out tt)
 
 pub says : (place : Where) (first : Token) (rest : List Token) → Says place first rest (misfit_reason place (first ∷ rest))
 says Start first rest = opening_says Start first rest tt _ refl
 says (Table line) first rest = by_plain refl (λ k out. none_plain (Table line) (first ∷ rest) k out tt)
 says Between first rest = opening_says Between first rest tt _ refl
 says (Heading kind line) first rest = heading_says kind line first rest
-says (Inside kind levels) first rest = inside_says kind levels first rest
-says (Behind kind) first rest = behind_says kind first rest
+says (Inside kind section levels) first rest = inside_says kind section levels first rest
+says (Behind kind section) first rest = behind_says kind section first rest
 says (Body kind) first rest = by_plain refl (λ k out. none_plain (Body kind) (first ∷ rest) k out tt)
 says Values first rest = value_says first rest

@@ -29,5 +29,5 @@ pub data IsWrittenAddress : List ℕ → SymbolAddress → Type 0 where
 
 -- the address that a field gives; a field with another text gives none of these
 pub data IsAddress : List ℕ → SymbolAddress → Type 0 where
-  written : (field : List ℕ) (its : SymbolAddress) → IsWrittenAddress field its → IsAddress field its
+  as_form : (field : List ℕ) (its : SymbolAddress) → IsWrittenAddress field its → IsAddress field its
   other : (field : List ℕ) → ((its : SymbolAddress) → IsWrittenAddress field its → ⊥) → IsAddress field address.Other

@@ -1,5 +1,5 @@
 -- Declarations, form by form: what each is, and which begin with something that is left out.
-use Rattle.std.specs.Prelude.{◌≡◌, ℕ, suc, ℤ, Bool, true, false, List, [], ◌∷◌, ◌++◌, length, codes}
+use Rattle.std.specs.Prelude.{◌≡◌, ℕ, suc, ℤ, true, false, List, [], ◌∷◌, ◌++◌, length, codes}
 use Rattle.s7_base.specs.declared.reason.Kind.{Kind}
 use Rattle.s7_base.specs.declared.reason.Kind.TheVariants as kind
 use Rattle.s7_base.specs.declared.token.Token.{Token}
@@ -8,6 +8,8 @@ use Rattle.stl_grammar.specs.InitialForms.{IsEnding, LeavesOutEnding}
 use Rattle.stl_grammar.specs.ListForms.{AreElements}
 use Rattle.stl_grammar.specs.declared.declaration.Innermost.{Innermost}
 use Rattle.stl_grammar.specs.declared.declaration.Innermost.TheVariants as inner
+use Rattle.stl_grammar.specs.Sections.{takes_dates}
+use Rattle.stl_grammar.specs.declared.declaration.Section.{Section}
 use Rattle.stl_grammar.specs.declared.declaration.Written.{Written}
 use Rattle.stl_statements.specs.PathForms.{IsWhole}
 use Rattle.stl_statements.specs.Words.{is_sign, is_word, is_word_among, is_word_kind}
@@ -66,36 +68,37 @@ pub data LeavesOutType : ℕ → List Token → Kind → Type 0 where
 -- Declarations
 
 -- what a declaration may hold that has its own end: no STRUCT, whose members follow, and DATE_AND_TIME only where
--- no initial values may be
-abbrev pub HasEnd : Bool → Innermost → Type 0
-HasEnd valued (inner.Elementary type) = Unit {0}
-HasEnd valued inner.DateAndTime = valued ≡ false
-HasEnd valued inner.Struct = ⊥
+-- the section takes it
+abbrev pub HasEnd : Section → Innermost → Type 0
+HasEnd section (inner.Elementary type) = Unit {0}
+HasEnd section inner.DateAndTime = takes_dates section ≡ true
+HasEnd section inner.Struct = ⊥
 
--- a name and a colon
-pub record IsNamed (name colon : Token) : Type 0 where
+-- a name and a colon stand at the front of a declaration
+pub record BeginsDeclaration (name colon : Token) : Type 0 where
   pub name_is : is_word_kind name.kind ≡ true
   pub colon_is : is_sign (codes ":") colon ≡ true
 
--- a declaration that opens so many levels at most, behind its name, given whether it may have initial values: a type
--- and what ends it, or the type alone where the members of a STRUCT follow
-pub data IsDeclaration (valued : Bool) (left : ℕ) (name : Token) : List Token → Written → Type 0 where
+-- a declaration of a section that opens so many levels at most, behind its name: a type and what ends it, or the
+-- type alone where the members of a STRUCT follow
+pub data IsDeclaration (section : Section) (left : ℕ) (name : Token) : List Token → Written → Type 0 where
   variable : (colon : Token) (front rest : List Token) (type : Written) (items : List InitialItem) →
-      IsNamed name colon → IsType left front type → HasEnd valued type.innermost
-      → IsEnding valued (in_array (length type.arrays)) rest items
-      → IsDeclaration valued left name (colon ∷ (front ++ rest)) (with_initial type items)
+      BeginsDeclaration name colon → IsType left front type → HasEnd section type.innermost
+      → IsEnding section (in_array (length type.arrays)) rest items
+      → IsDeclaration section left name (colon ∷ (front ++ rest)) (with_initial type items)
   struct_head : (colon : Token) (front : List Token) (type : Written) →
-      IsNamed name colon → IsType left front type → type.innermost ≡ inner.Struct
-      → IsDeclaration valued left name (colon ∷ front) type
+      BeginsDeclaration name colon → IsType left front type → type.innermost ≡ inner.Struct
+      → IsDeclaration section left name (colon ∷ front) type
 
--- such a declaration has a type or a value of a kind that is left out; DATE_AND_TIME is where initial values may be
-pub data LeavesOutDeclaration (valued : Bool) (left : ℕ) (name : Token) : List Token → Kind → Type 0 where
+-- such a declaration has a type or a value of a kind that is left out; DATE_AND_TIME is where the section does not
+-- take it
+pub data LeavesOutDeclaration (section : Section) (left : ℕ) (name : Token) : List Token → Kind → Type 0 where
   in_type : (colon : Token) (rest : List Token) (k : Kind) →
-      IsNamed name colon → LeavesOutType left rest k → LeavesOutDeclaration valued left name (colon ∷ rest) k
+      BeginsDeclaration name colon → LeavesOutType left rest k → LeavesOutDeclaration section left name (colon ∷ rest) k
   with_date : (colon : Token) (front rest : List Token) (type : Written) →
-      IsNamed name colon → IsType left front type → type.innermost ≡ inner.DateAndTime → valued ≡ true
-      → LeavesOutDeclaration valued left name (colon ∷ (front ++ rest)) kind.DateTime
+      BeginsDeclaration name colon → IsType left front type → type.innermost ≡ inner.DateAndTime → takes_dates section ≡ false
+      → LeavesOutDeclaration section left name (colon ∷ (front ++ rest)) kind.DateTime
   in_ending : (colon : Token) (front rest : List Token) (type : Written) (k : Kind) →
-      IsNamed name colon → IsType left front type → HasEnd valued type.innermost
-      → LeavesOutEnding valued (in_array (length type.arrays)) rest k
-      → LeavesOutDeclaration valued left name (colon ∷ (front ++ rest)) k
+      BeginsDeclaration name colon → IsType left front type → HasEnd section type.innermost
+      → LeavesOutEnding section (in_array (length type.arrays)) rest k
+      → LeavesOutDeclaration section left name (colon ∷ (front ++ rest)) k

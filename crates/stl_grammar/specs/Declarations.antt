@@ -9,6 +9,8 @@ use Rattle.stl_grammar.specs.Initials.{ending_at}
 use Rattle.stl_grammar.specs.declared.declaration.Innermost.{Innermost}
 use Rattle.stl_grammar.specs.declared.declaration.Innermost.TheVariants as inner
 use Rattle.stl_grammar.specs.declared.declaration.Level.{Level}
+use Rattle.stl_grammar.specs.Sections.{end_of_section, takes_dates}
+use Rattle.stl_grammar.specs.declared.declaration.Section.{Section}
 use Rattle.stl_grammar.specs.declared.declaration.Written.{Written}
 use Rattle.digit_texts.specs.Digits.{are_digits}
 use Rattle.stl_statements.specs.Paths.{whole_at}
@@ -17,8 +19,6 @@ use Rattle.stl_statements.specs.Statements.{is_numbered}
 use Rattle.stl_statements.specs.Words.{is_word, is_sign, is_word_kind, is_word_among}
 use Rattle.stl_statements.specs.declared.mnemonic.Read.{Read}
 use Rattle.stl_statements.specs.declared.mnemonic.Read.TheVariants.{Fits, LeftOut, No}
-use Rattle.stl_tree.specs.declared.raw.BlockKind.{BlockKind}
-use Rattle.stl_tree.specs.declared.raw.BlockKind.TheVariants as block
 use Rattle.stl_tree.specs.declared.raw.ElemType.{ElemType}
 use Rattle.stl_tree.specs.declared.raw.ElemType.TheVariants as elem
 use Rattle.stl_tree.specs.declared.raw.InitialItem.{InitialItem}
@@ -164,26 +164,26 @@ with_initial type items = record type { initial = items }
 abbrev pub in_array : ℕ → Bool
 in_array arrays = nat_lt 0 arrays
 
--- a declaration by its type, and whether it may have an initial value: a declaration of a STRUCT ends behind its
--- members, and DATE_AND_TIME is left out where there are initial values
-abbrev pub closed_by : Bool → Innermost → Written → ℕ → List Token → Read Written
-closed_by valued inner.Struct type size behind = Fits type size
-closed_by valued inner.DateAndTime type size behind =
-    if valued then LeftOut kind.DateTime else further size (read_as (with_initial type) (ending_at valued (in_array (length type.arrays)) behind))
-closed_by valued (inner.Elementary its) type size behind =
-    further size (read_as (with_initial type) (ending_at valued (in_array (length type.arrays)) behind))
+-- a declaration of a section by its type: one of a STRUCT ends behind its members, and DATE_AND_TIME is left out
+-- where the section does not take it
+abbrev pub closed_by : Section → Innermost → Written → ℕ → List Token → Read Written
+closed_by section inner.Struct type size behind = Fits type size
+closed_by section inner.DateAndTime type size behind =
+    if takes_dates section then further size (read_as (with_initial type) (ending_at section (in_array (length type.arrays)) behind)) else LeftOut kind.DateTime
+closed_by section (inner.Elementary its) type size behind =
+    further size (read_as (with_initial type) (ending_at section (in_array (length type.arrays)) behind))
 
-abbrev pub closed_behind : Bool → List Token → Read Written → Read Written
-closed_behind valued tokens No = No
-closed_behind valued tokens (LeftOut kind) = LeftOut kind
-closed_behind valued tokens (Fits type size) = closed_by valued type.innermost type size (drop size tokens)
+abbrev pub closed_behind : Section → List Token → Read Written → Read Written
+closed_behind section tokens No = No
+closed_behind section tokens (LeftOut kind) = LeftOut kind
+closed_behind section tokens (Fits type size) = closed_by section type.innermost type size (drop size tokens)
 
--- what stands where a declaration may stand that opens so many levels at most, behind its name
-abbrev pub declaration_at : Bool → ℕ → Token → List Token → Read Written
-declaration_at valued left name [] = No
-declaration_at valued left name (colon ∷ rest) =
+-- what stands where a declaration of a section may stand that opens so many levels at most, behind its name
+abbrev pub declaration_at : Section → ℕ → Token → List Token → Read Written
+declaration_at section left name [] = No
+declaration_at section left name (colon ∷ rest) =
     if is_word_kind name.kind && is_sign (codes ":") colon
-    then further 1 (closed_behind valued rest (type_at left rest))
+    then further 1 (closed_behind section rest (type_at left rest))
     else No
 
 -- Levels
@@ -203,12 +203,7 @@ levels_behind levels line inner.Struct arrays =
     record { line = line; depth = depth_of levels + arrays + 1; in_array = in_array arrays } ∷ levels
 levels_behind levels line other arrays = levels
 
--- the word that ends the declarations of a block: those of a data block stand in a STRUCT of its own
-abbrev pub end_of_declarations : BlockKind → List ℕ
-end_of_declarations block.Db = codes "END_STRUCT"
-end_of_declarations other = codes "END_VAR"
-
--- the word that ends the innermost STRUCT, or the declarations
-abbrev pub ends_level : BlockKind → List Level → Token → Bool
-ends_level kind [] first = is_word (end_of_declarations kind) first
-ends_level kind (level ∷ levels) first = is_word (codes "END_STRUCT") first
+-- the word that ends the innermost STRUCT, or the section
+abbrev pub ends_level : Section → List Level → Token → Bool
+ends_level section [] first = is_word (end_of_section section) first
+ends_level section (level ∷ levels) first = is_word (codes "END_STRUCT") first

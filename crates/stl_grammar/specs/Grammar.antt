@@ -8,12 +8,15 @@ use Rattle.s7_base.specs.declared.reason.Reason.{Reason}
 use Rattle.s7_base.specs.declared.reason.Reason.TheVariants.{BadStatement, Unsupported}
 use Rattle.s7_base.specs.declared.reason.Rejection.TheVariants.{Refused}
 use Rattle.s7_base.specs.declared.token.Token.{Token}
-use Rattle.stl_grammar.specs.Items.{begins_body, begins_with_name, body_of, is_complete, is_data, is_end, is_instance, is_not_built, is_semicolon, is_skipped_alone, item_at, misfit_line, section_word, statement_at, statement_reason, statement_size}
+use Rattle.stl_grammar.specs.Items.{begins_body, begins_with_name, body_of, is_complete, is_data, is_end, is_instance, is_not_built, is_semicolon, is_skipped_alone, item_at, misfit_line, statement_at, statement_reason, statement_size}
 use Rattle.stl_grammar.specs.AddressForms.{IsAddress}
 use Rattle.stl_grammar.specs.DeclarationForms.{IsDeclaration, LeavesOutDeclaration}
 use Rattle.stl_grammar.specs.Declarations.{ends_level, has_number, is_user_type, left_of, levels_behind}
 use Rattle.stl_grammar.specs.InitialForms.{IsEnding, IsInitial, LeavesOutEnding, LeavesOutInitial}
 use Rattle.stl_grammar.specs.declared.declaration.Level.{Level}
+use Rattle.stl_grammar.specs.Sections.{is_own, may_open, section_word}
+use Rattle.stl_grammar.specs.declared.declaration.Section.{Section}
+use Rattle.stl_grammar.specs.declared.declaration.Section.TheVariants as part
 use Rattle.stl_grammar.specs.declared.declaration.Written.{Written}
 use Rattle.stl_grammar.specs.Headings.{heading_kind, is_behind, is_heading_cut_off, is_skipped, kind_word, size_on}
 use Rattle.digit_texts.specs.Digits.{kept_number}
@@ -24,7 +27,7 @@ use Rattle.stl_statements.specs.Words.{is_word, is_quoted_kind}
 use Rattle.stl_grammar.specs.declared.item.Found.{Found}
 use Rattle.stl_grammar.specs.declared.item.Found.TheVariants.{Fits, Misfit, Ended}
 use Rattle.stl_grammar.specs.declared.item.Item.{Item}
-use Rattle.stl_grammar.specs.declared.item.Item.TheVariants.{Opens, Mark, Symbol, Declares, Closes, Instr, Initial, Ends}
+use Rattle.stl_grammar.specs.declared.item.Item.TheVariants.{Opens, Mark, Starts, Symbol, Declares, Closes, Instr, Initial, Ends}
 use Rattle.stl_grammar.specs.declared.item.Where.{Where}
 use Rattle.stl_grammar.specs.declared.item.Where.TheVariants.{Start, Table, Between, Heading, Inside, Behind, Body, Values}
 use Rattle.stl_tree.specs.declared.raw.BlockKind.{BlockKind}
@@ -64,7 +67,7 @@ pub data IsName : List ℕ → List Token → RawName → Type 0 where
 pub data IsForm : Where → List Token → Item → ℕ → Where → Type 0 where
   heading : (place : Where) (kind : BlockKind) (first : Token) {names : List Token} (rest : List Token) {name : RawName} →
       MayOpen place → heading_kind first ≡ Some kind → IsName (kind_word kind) names name
-      → IsForm place (first ∷ (names ++ rest)) (Opens first.line kind name) (length names)
+      → IsForm place (first ∷ (names ++ rest)) (Opens first.line kind name None) (length names)
       (Heading kind (last_line first.line names))
   table : (first : Token) (rest : List Token) →
       heading_kind first ≡ None → is_word (codes "SYMBOL_TABLE") first ≡ true → IsForm Start (first ∷ rest) Mark 0 (Table first.line)
@@ -81,24 +84,29 @@ pub data IsForm : Where → List Token → Item → ℕ → Where → Type 0 whe
   begin : (kind : BlockKind) (line : Line) (first : Token) (rest : List Token) →
       is_skipped line first rest ≡ false → is_data kind ≡ false → is_word (codes "BEGIN") first ≡ true
       → IsForm (Heading kind line) (first ∷ rest) Mark 0 (Body kind)
-  section : (kind : BlockKind) (line : Line) (first : Token) (rest : List Token) →
-      is_skipped line first rest ≡ false → begins_body kind first ≡ false → is_word (section_word kind) first ≡ true
-      → IsForm (Heading kind line) (first ∷ rest) Mark 0 (Inside kind [])
-  section_end : (kind : BlockKind) (first : Token) (rest : List Token) →
-      is_data kind ≡ false → is_word (codes "END_VAR") first ≡ true
-      → IsForm (Inside kind []) (first ∷ rest) Mark 0 (Behind kind)
-  data_end : (first sign : Token) (rest : List Token) →
+  first_section : (kind : BlockKind) (line : Line) (its : Section) (first : Token) (rest : List Token) →
+      is_skipped line first rest ≡ false → begins_body kind first ≡ false → is_word (section_word its) first ≡ true
+      → may_open kind None its ≡ true
+      → IsForm (Heading kind line) (first ∷ rest) (Starts its) 0 (Inside kind its [])
+  section_end : (kind : BlockKind) (its : Section) (first : Token) (rest : List Token) →
+      is_own its ≡ false → is_word (codes "END_VAR") first ≡ true
+      → IsForm (Inside kind its []) (first ∷ rest) Mark 0 (Behind kind its)
+  data_end : (kind : BlockKind) (first sign : Token) (rest : List Token) →
       is_word (codes "END_STRUCT") first ≡ true → is_semicolon sign ≡ true
-      → IsForm (Inside block.Db []) (first ∷ sign ∷ rest) Mark 1 (Behind block.Db)
-  struct_end : (kind : BlockKind) (level : Level) (levels : List Level) (first : Token) (front rest : List Token) (items : List InitialItem) →
-      is_word (codes "END_STRUCT") first ≡ true → IsEnding (is_data kind) level.in_array front items
-      → IsForm (Inside kind (level ∷ levels)) (first ∷ (front ++ rest)) (Closes items) (length front) (Inside kind levels)
-  declaration : (kind : BlockKind) (levels : List Level) (name : Token) (front rest : List Token) (type : Written) →
-      ends_level kind levels name ≡ false → IsDeclaration (is_data kind) (left_of levels) name front type
-      → IsForm (Inside kind levels) (name ∷ (front ++ rest)) (Declares name.text name.line type) (length front)
-      (Inside kind (levels_behind levels name.line type.innermost (length type.arrays)))
-  begin_behind : (kind : BlockKind) (first : Token) (rest : List Token) →
-      is_word (codes "BEGIN") first ≡ true → IsForm (Behind kind) (first ∷ rest) Mark 0 (body_of kind)
+      → IsForm (Inside kind part.Own []) (first ∷ sign ∷ rest) Mark 1 (Behind kind part.Own)
+  struct_end : (kind : BlockKind) (its : Section) (level : Level) (levels : List Level) (first : Token) (front rest : List Token)
+      (items : List InitialItem) →
+      is_word (codes "END_STRUCT") first ≡ true → IsEnding its level.in_array front items
+      → IsForm (Inside kind its (level ∷ levels)) (first ∷ (front ++ rest)) (Closes items) (length front) (Inside kind its levels)
+  declaration : (kind : BlockKind) (its : Section) (levels : List Level) (name : Token) (front rest : List Token) (type : Written) →
+      ends_level its levels name ≡ false → IsDeclaration its (left_of levels) name front type
+      → IsForm (Inside kind its levels) (name ∷ (front ++ rest)) (Declares name.text name.line type) (length front)
+      (Inside kind its (levels_behind levels name.line type.innermost (length type.arrays)))
+  begin_behind : (kind : BlockKind) (before : Section) (first : Token) (rest : List Token) →
+      is_word (codes "BEGIN") first ≡ true → IsForm (Behind kind before) (first ∷ rest) Mark 0 (body_of kind)
+  later_section : (kind : BlockKind) (before its : Section) (first : Token) (rest : List Token) →
+      is_word (section_word its) first ≡ true → may_open kind (Some before) its ≡ true
+      → IsForm (Behind kind before) (first ∷ rest) (Starts its) 0 (Inside kind its [])
   value : (first : Token) (front rest : List Token) (its : RawInitial) →
       is_end block.Db first ≡ false → IsInitial first.line (first ∷ front) its
       → IsForm Values (first ∷ (front ++ rest)) (Initial its) (length front) Values
@@ -125,12 +133,12 @@ pub data LeavesOutForm : Where → List Token → Kind → Type 0 where
       is_user_type first rest ≡ true → LeavesOutForm (Heading block.Db line) (first ∷ rest) UserType
   data_of_the_system : (line : Line) (first : Token) (rest : List Token) →
       has_number (codes "SFB") first rest ≡ true → LeavesOutForm (Heading block.Db line) (first ∷ rest) SystemCall
-  in_a_declaration : (kind : BlockKind) (levels : List Level) (name : Token) (rest : List Token) (k : Kind) →
-      ends_level kind levels name ≡ false → LeavesOutDeclaration (is_data kind) (left_of levels) name rest k
-      → is_complete (name ∷ rest) ≡ true → LeavesOutForm (Inside kind levels) (name ∷ rest) k
-  at_a_struct_end : (kind : BlockKind) (level : Level) (levels : List Level) (first : Token) (rest : List Token) (k : Kind) →
-      is_word (codes "END_STRUCT") first ≡ true → LeavesOutEnding (is_data kind) level.in_array rest k
-      → is_complete (first ∷ rest) ≡ true → LeavesOutForm (Inside kind (level ∷ levels)) (first ∷ rest) k
+  in_a_declaration : (kind : BlockKind) (its : Section) (levels : List Level) (name : Token) (rest : List Token) (k : Kind) →
+      ends_level its levels name ≡ false → LeavesOutDeclaration its (left_of levels) name rest k
+      → is_complete (name ∷ rest) ≡ true → LeavesOutForm (Inside kind its levels) (name ∷ rest) k
+  at_a_struct_end : (kind : BlockKind) (its : Section) (level : Level) (levels : List Level) (first : Token) (rest : List Token) (k : Kind) →
+      is_word (codes "END_STRUCT") first ≡ true → LeavesOutEnding its level.in_array rest k
+      → is_complete (first ∷ rest) ≡ true → LeavesOutForm (Inside kind its (level ∷ levels)) (first ∷ rest) k
   in_a_value : (first : Token) (rest : List Token) (k : Kind) →
       LeavesOutInitial (first ∷ rest) k → is_complete (first ∷ rest) ≡ true → LeavesOutForm Values (first ∷ rest) k
 
@@ -140,9 +148,9 @@ begins_with_instance [] = false
 begins_with_instance (first ∷ rest) = is_instance first rest
 
 -- among declarations: the word that ends them, or a name and a colon
-abbrev pub begins_inside : BlockKind → List Level → List Token → Bool
-begins_inside kind levels [] = false
-begins_inside kind levels (first ∷ rest) = ends_level kind levels first || begins_with_name (first ∷ rest)
+abbrev pub begins_inside : Section → List Level → List Token → Bool
+begins_inside section levels [] = false
+begins_inside section levels (first ∷ rest) = ends_level section levels first || begins_with_name (first ∷ rest)
 
 -- the item has a form that is not built yet, where it has no other. A data block has all of its forms.
 abbrev pub is_unbuilt : Where → List Token → Bool
@@ -150,8 +158,8 @@ is_unbuilt Start tokens = is_not_built false (is_heading_cut_off tokens) tokens
 is_unbuilt (Table line) tokens = is_not_built false false tokens
 is_unbuilt Between tokens = is_not_built false (is_heading_cut_off tokens) tokens
 is_unbuilt (Heading kind line) tokens = if is_data kind then begins_with_instance tokens else is_not_built false false tokens
-is_unbuilt (Inside kind levels) tokens = if begins_inside kind levels tokens then false else is_not_built false false tokens
-is_unbuilt (Behind kind) tokens = if is_data kind then false else is_not_built false false tokens
+is_unbuilt (Inside kind section levels) tokens = if begins_inside section levels tokens then false else is_not_built false false tokens
+is_unbuilt (Behind kind section) tokens = if is_data kind then false else is_not_built false false tokens
 is_unbuilt (Body kind) tokens = is_not_built (begins_with_label tokens) false tokens
 is_unbuilt Values tokens = false
 
@@ -191,10 +199,10 @@ pub data IsItem : Line → Where → List Token → Found → Type 0 where
   in_a_table : {end : Line} (line : Line) → IsItem end (Table line) [] (Misfit end BadStatement)
   behind_a_block : {end : Line} → IsItem end Between [] Ended
   behind_a_heading : {end : Line} (kind : BlockKind) (line : Line) → IsItem end (Heading kind line) [] (Misfit end BadStatement)
-  in_a_section : {end : Line} (kind : BlockKind) → IsItem end (Inside kind []) [] (Misfit end BadStatement)
-  in_a_struct : {end : Line} (kind : BlockKind) (level : Level) (levels : List Level) →
-      IsItem end (Inside kind (level ∷ levels)) [] (Misfit level.line BadStatement)
-  behind_a_section : {end : Line} (kind : BlockKind) → IsItem end (Behind kind) [] (Misfit end BadStatement)
+  in_a_section : {end : Line} (kind : BlockKind) (its : Section) → IsItem end (Inside kind its []) [] (Misfit end BadStatement)
+  in_a_struct : {end : Line} (kind : BlockKind) (its : Section) (level : Level) (levels : List Level) →
+      IsItem end (Inside kind its (level ∷ levels)) [] (Misfit level.line BadStatement)
+  behind_a_section : {end : Line} (kind : BlockKind) (its : Section) → IsItem end (Behind kind its) [] (Misfit end BadStatement)
   in_a_body : {end : Line} (kind : BlockKind) → IsItem end (Body kind) [] (Misfit end BadStatement)
   among_values : {end : Line} → IsItem end Values [] (Misfit end BadStatement)
 

@@ -71,7 +71,7 @@ abbrev pub opened : Reason → BlockKind → Token → List Token → Read RawNa
 opened reason kind first rest read.No = Misfit first.line reason
 opened reason kind first rest (read.LeftOut left) = Misfit first.line reason
 opened reason kind first rest (read.Fits name size) =
-    Fits (Opens first.line kind name) size (Heading kind (line_of first.line (drop (size - 1) rest)))
+    Fits (Opens first.line kind name None) size (Heading kind (line_of first.line (drop (size - 1) rest)))
 
 -- the same by its kind, or else something else
 abbrev pub opened_by : Reason → Option BlockKind → Found → Token → List Token → Found

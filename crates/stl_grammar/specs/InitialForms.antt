@@ -7,6 +7,8 @@ use Rattle.s7_base.specs.declared.token.Token.{Token}
 use Rattle.s7_base.specs.declared.word.Width.TheVariants as width
 use Rattle.stl_grammar.specs.Initials.{count_of, initial, once, times}
 use Rattle.stl_grammar.specs.ListForms.{AreElements, LeavesOutElement}
+use Rattle.stl_grammar.specs.Sections.{takes_values}
+use Rattle.stl_grammar.specs.declared.declaration.Section.{Section}
 use Rattle.stl_statements.specs.ConstantForms.{IsAmong, IsConstant}
 use Rattle.stl_statements.specs.Constants.{Prefixed, begins_real, constant, prefixes}
 use Rattle.stl_statements.specs.PathForms.{IsPath}
@@ -41,15 +43,16 @@ pub data IsLast : List Token → Constant → Type 0 where
   last : (front : List Token) (sign : Token) (c : Constant) →
       IsValue front c → is_sign (codes ";") sign ≡ true → IsLast (front ++ (sign ∷ [])) c
 
--- what ends a declaration, given whether it may have an initial value and whether it has an array round it: `;`, or
--- `:=` with a value or a list before it
-pub data IsEnding : Bool → Bool → List Token → List InitialItem → Type 0 where
-  nothing : (valued in_array : Bool) (sign : Token) → is_sign (codes ";") sign ≡ true → IsEnding valued in_array (sign ∷ []) []
+-- what ends a declaration of a section, given whether it has an array round it: `;`, or `:=` with a value or a list
+-- before it, where the section takes initial values
+pub data IsEnding (section : Section) : Bool → List Token → List InitialItem → Type 0 where
+  nothing : (in_array : Bool) (sign : Token) → is_sign (codes ";") sign ≡ true → IsEnding section in_array (sign ∷ []) []
   with_value : (assign : Token) (rest : List Token) (c : Constant) →
-      is_sign (codes ":=") assign ≡ true → IsLast rest c → IsEnding true false (assign ∷ rest) (once c ∷ [])
+      takes_values section ≡ true → is_sign (codes ":=") assign ≡ true → IsLast rest c
+      → IsEnding section false (assign ∷ rest) (once c ∷ [])
   with_list : (assign : Token) (rest : List Token) (items : List InitialItem) →
-      is_sign (codes ":=") assign ≡ true → AreElements IsListItem (codes ";") rest items
-      → IsEnding true true (assign ∷ rest) items
+      takes_values section ≡ true → is_sign (codes ":=") assign ≡ true → AreElements IsListItem (codes ";") rest items
+      → IsEnding section true (assign ∷ rest) items
 
 -- an initial value of a data block, on a line: `path := value;`
 pub data IsInitial (line : Line) : List Token → RawInitial → Type 0 where
@@ -66,7 +69,7 @@ pub data LeavesOutBehind : Prefix → List Token → Kind → Type 0 where
 
 -- tokens begin with a value of a kind that is left out: one with a prefix, or a real one
 pub data LeavesOutValue : List Token → Kind → Type 0 where
-  prefixed : (row : Prefixed) (first hash : Token) (rest : List Token) (k : Kind) →
+  with_prefix : (row : Prefixed) (first hash : Token) (rest : List Token) (k : Kind) →
       IsAmong row prefixes → is_word row.word first ≡ true → is_joined (codes "#") hash ≡ true → LeavesOutBehind row.what rest k
       → LeavesOutValue (first ∷ hash ∷ rest) k
   real : (tokens : List Token) → begins_real tokens ≡ true → LeavesOutValue tokens kind.Real
@@ -79,12 +82,13 @@ pub data LeavesOutItem : List Token → Kind → Type 0 where
       → LeavesOutItem (number ∷ before ∷ rest) k
 
 -- a declaration ends with such a value
-pub data LeavesOutEnding : Bool → Bool → List Token → Kind → Type 0 where
+pub data LeavesOutEnding (section : Section) : Bool → List Token → Kind → Type 0 where
   in_value : (assign : Token) (rest : List Token) (k : Kind) →
-      is_sign (codes ":=") assign ≡ true → LeavesOutValue rest k → LeavesOutEnding true false (assign ∷ rest) k
+      takes_values section ≡ true → is_sign (codes ":=") assign ≡ true → LeavesOutValue rest k
+      → LeavesOutEnding section false (assign ∷ rest) k
   in_list : (assign : Token) (rest : List Token) (k : Kind) →
-      is_sign (codes ":=") assign ≡ true → LeavesOutElement IsListItem LeavesOutItem rest k
-      → LeavesOutEnding true true (assign ∷ rest) k
+      takes_values section ≡ true → is_sign (codes ":=") assign ≡ true → LeavesOutElement IsListItem LeavesOutItem rest k
+      → LeavesOutEnding section true (assign ∷ rest) k
 
 -- such a value stands behind a path
 pub data LeavesOutInitial : List Token → Kind → Type 0 where

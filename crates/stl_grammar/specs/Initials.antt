@@ -4,6 +4,8 @@ use Rattle.s7_base.specs.declared.reason.Line.{Line}
 use Rattle.s7_base.specs.declared.token.Token.{Token}
 use Rattle.s7_base.specs.declared.word.Width.TheVariants as width
 use Rattle.stl_grammar.specs.Elements.{begins_with_sign, elements_from}
+use Rattle.stl_grammar.specs.Sections.{takes_values}
+use Rattle.stl_grammar.specs.declared.declaration.Section.{Section}
 use Rattle.stl_statements.specs.Constants.{constant, constant_at}
 use Rattle.stl_statements.specs.Paths.{path_at}
 use Rattle.stl_statements.specs.Pointers.{is_in_reach, pointer_at, value_of}
@@ -96,12 +98,12 @@ abbrev pub initial_at : Bool → List Token → Read (List InitialItem)
 initial_at in_array tokens =
     if in_array then list_at tokens else read_as alone (last_value tokens)
 
--- what ends a declaration: `;`, and where it may have an initial value, `:=` and that before it
-abbrev pub ending_at : Bool → Bool → List Token → Read (List InitialItem)
-ending_at valued in_array [] = No
-ending_at valued in_array (sign ∷ rest) =
+-- what ends a declaration of a section: `;`, and where it may have an initial value, `:=` and that before it
+abbrev pub ending_at : Section → Bool → List Token → Read (List InitialItem)
+ending_at section in_array [] = No
+ending_at section in_array (sign ∷ rest) =
     if is_sign (codes ";") sign then Fits [] 1
-    else if valued && is_sign (codes ":=") sign then further 1 (initial_at in_array rest)
+    else if takes_values section && is_sign (codes ":=") sign then further 1 (initial_at in_array rest)
     else No
 
 -- Initial values of a data block

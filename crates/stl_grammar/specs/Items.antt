@@ -19,13 +19,16 @@ use Rattle.stl_grammar.specs.Declarations.{declaration_at, ends_level, has_numbe
 use Rattle.stl_grammar.specs.Elements.{begins_with_sign, begins_with_word}
 use Rattle.stl_grammar.specs.Initials.{ending_at, path_value_at}
 use Rattle.stl_grammar.specs.declared.declaration.Level.{Level}
+use Rattle.stl_grammar.specs.declared.declaration.Section.{Section}
+use Rattle.stl_grammar.specs.declared.declaration.Section.TheVariants as part
 use Rattle.stl_grammar.specs.declared.declaration.Written.{Written}
 use Rattle.stl_grammar.specs.Headings.{heading_kind, is_heading_cut_off, is_skipped, opened_by, size_on}
+use Rattle.stl_grammar.specs.Sections.{section_at}
 use Rattle.stl_grammar.specs.Symbols.{ends_table, symbol_behind}
 use Rattle.stl_grammar.specs.declared.item.Found.{Found}
 use Rattle.stl_grammar.specs.declared.item.Found.TheVariants.{Fits, Misfit, Ended}
 use Rattle.stl_grammar.specs.declared.item.Item.{Item}
-use Rattle.stl_grammar.specs.declared.item.Item.TheVariants.{Mark, Symbol, Declares, Closes, Instr, Initial, Ends}
+use Rattle.stl_grammar.specs.declared.item.Item.TheVariants.{Mark, Starts, Symbol, Declares, Closes, Instr, Initial, Ends}
 use Rattle.stl_grammar.specs.declared.item.Where.{Where}
 use Rattle.stl_grammar.specs.declared.item.Where.TheVariants.{Start, Table, Between, Heading, Inside, Behind, Body, Values}
 use Rattle.stl_tree.specs.declared.raw.BlockKind.{BlockKind}
@@ -130,18 +133,18 @@ abbrev pub declaration_reason : List Token → Read Written → Reason
 declaration_reason tokens (read.LeftOut left) = left_out_reason tokens left
 declaration_reason tokens other = if begins_with_name tokens then BadStatement else reason_with false false tokens
 
--- the same where the word stands that ends the innermost STRUCT or the declarations
-abbrev pub closing_reason : BlockKind → List Level → List Token → List Token → Reason
-closing_reason kind [] tokens rest = BadStatement
-closing_reason kind (level ∷ levels) tokens rest = read_reason tokens (ending_at (is_data kind) level.in_array rest)
+-- the same where the word stands that ends the innermost STRUCT or the section
+abbrev pub closing_reason : Section → List Level → List Token → List Token → Reason
+closing_reason section [] tokens rest = BadStatement
+closing_reason section (level ∷ levels) tokens rest = read_reason tokens (ending_at section level.in_array rest)
 
 -- the same among declarations
-abbrev pub inside_reason : BlockKind → List Level → List Token → Reason
-inside_reason kind levels [] = BadStatement
-inside_reason kind levels (first ∷ rest) =
-    if ends_level kind levels first
-    then closing_reason kind levels (first ∷ rest) rest
-    else declaration_reason (first ∷ rest) (declaration_at (is_data kind) (left_of levels) first rest)
+abbrev pub inside_reason : Section → List Level → List Token → Reason
+inside_reason section levels [] = BadStatement
+inside_reason section levels (first ∷ rest) =
+    if ends_level section levels first
+    then closing_reason section levels (first ∷ rest) rest
+    else declaration_reason (first ∷ rest) (declaration_at section (left_of levels) first rest)
 
 -- the same among the initial values of a data block
 abbrev pub value_reason : List Token → Reason
@@ -153,8 +156,8 @@ abbrev pub misfit_reason : Where → List Token → Reason
 misfit_reason Start tokens = heading_reason tokens
 misfit_reason Between tokens = heading_reason tokens
 misfit_reason (Heading kind line) tokens = reason_in kind (data_reason tokens) tokens
-misfit_reason (Inside kind levels) tokens = inside_reason kind levels tokens
-misfit_reason (Behind kind) tokens = reason_in kind BadStatement tokens
+misfit_reason (Inside kind section levels) tokens = inside_reason section levels tokens
+misfit_reason (Behind kind section) tokens = reason_in kind BadStatement tokens
 misfit_reason Values tokens = value_reason tokens
 misfit_reason (Body kind) tokens = reason_with (begins_with_label tokens) false tokens
 misfit_reason elsewhere tokens = reason_with false false tokens
@@ -166,7 +169,7 @@ level_line (level ∷ levels) first = if is_word (codes "END_STRUCT") first then
 
 -- the line of an item that fits no form
 abbrev pub misfit_line : Where → Token → Line
-misfit_line (Inside kind levels) first = level_line levels first
+misfit_line (Inside kind section levels) first = level_line levels first
 misfit_line elsewhere first = first.line
 
 -- why a complete statement is refused that is no instruction for a reason; one that begins with a word of a
@@ -202,64 +205,64 @@ in_table line tokens first rest =
 abbrev pub begins_body : BlockKind → Token → Bool
 begins_body kind first = not (is_data kind) && is_word (codes "BEGIN") first
 
-abbrev pub section_word : BlockKind → List ℕ
-section_word block.Db = codes "STRUCT"
-section_word other = codes "VAR_TEMP"
+-- a section that opens, where one does
+abbrev pub section_found : BlockKind → Reason → Token → Option Section → Found
+section_found kind reason first None = Misfit first.line reason
+section_found kind reason first (Some section) = Fits (Starts section) 0 (Inside kind section [])
 
 -- what stands behind a heading whose last line this is
 abbrev pub behind_heading : BlockKind → Line → List Token → Token → List Token → Found
 behind_heading kind line tokens first rest =
     if is_skipped line first rest then Fits Mark (size_on first.line rest) (Heading kind first.line)
     else if begins_body kind first then Fits Mark 0 (Body kind)
-    else if is_word (section_word kind) first then Fits Mark 0 (Inside kind [])
-    else Misfit first.line (misfit_reason (Heading kind line) tokens)
+    else section_found kind (misfit_reason (Heading kind line) tokens) first (section_at kind None first)
 
 -- the end of the innermost STRUCT, which stands on a line, by what was read behind its word
-abbrev pub struct_found : BlockKind → Line → List Level → List Token → Read (List InitialItem) → Found
-struct_found kind line levels tokens (read.Fits items size) = Fits (Closes items) size (Inside kind levels)
-struct_found kind line levels tokens other = Misfit line (read_reason tokens other)
+abbrev pub struct_found : BlockKind → Section → Line → List Level → List Token → Read (List InitialItem) → Found
+struct_found kind section line levels tokens (read.Fits items size) = Fits (Closes items) size (Inside kind section levels)
+struct_found kind section line levels tokens other = Misfit line (read_reason tokens other)
 
--- the end of the declarations of a block, given its word and what stands behind it
-abbrev pub declarations_end : BlockKind → Token → List Token → Found
-declarations_end block.Db first rest =
-    if begins_with_sign (codes ";") rest then Fits Mark 1 (Behind block.Db) else Misfit first.line BadStatement
-declarations_end kind first rest = Fits Mark 0 (Behind kind)
+-- the end of a section, given its word and what stands behind it: behind the STRUCT of a data block stands `;`
+abbrev pub section_end_found : BlockKind → Section → Token → List Token → Found
+section_end_found kind part.Own first rest =
+    if begins_with_sign (codes ";") rest then Fits Mark 1 (Behind kind part.Own) else Misfit first.line BadStatement
+section_end_found kind section first rest = Fits Mark 0 (Behind kind section)
 
--- what stands where the word stands that ends the innermost STRUCT or the declarations
-abbrev pub closing_at : BlockKind → List Level → List Token → Token → List Token → Found
-closing_at kind [] tokens first rest = declarations_end kind first rest
-closing_at kind (level ∷ levels) tokens first rest =
-    struct_found kind level.line levels tokens (ending_at (is_data kind) level.in_array rest)
+-- what stands where the word stands that ends the innermost STRUCT or the section
+abbrev pub closing_at : BlockKind → Section → List Level → List Token → Token → List Token → Found
+closing_at kind section [] tokens first rest = section_end_found kind section first rest
+closing_at kind section (level ∷ levels) tokens first rest =
+    struct_found kind section level.line levels tokens (ending_at section level.in_array rest)
 
 -- a declaration of so many tokens behind its name
-abbrev pub declared : BlockKind → List Level → Token → Written → ℕ → Found
-declared kind levels first type size =
+abbrev pub declared : BlockKind → Section → List Level → Token → Written → ℕ → Found
+declared kind section levels first type size =
     Fits (Declares first.text first.line type) size
-    (Inside kind (levels_behind levels first.line type.innermost (length type.arrays)))
+    (Inside kind section (levels_behind levels first.line type.innermost (length type.arrays)))
 
 -- the same, by what was read
-abbrev pub declaration_found : BlockKind → List Level → List Token → Token → Read Written → Found
-declaration_found kind levels tokens first (read.Fits type size) = declared kind levels first type size
-declaration_found kind levels tokens first other = Misfit first.line (declaration_reason tokens other)
+abbrev pub declaration_found : BlockKind → Section → List Level → List Token → Token → Read Written → Found
+declaration_found kind section levels tokens first (read.Fits type size) = declared kind section levels first type size
+declaration_found kind section levels tokens first other = Misfit first.line (declaration_reason tokens other)
 
 -- what stands among declarations
-abbrev pub inside_at : BlockKind → List Level → List Token → Token → List Token → Found
-inside_at kind levels tokens first rest =
-    if ends_level kind levels first
-    then closing_at kind levels tokens first rest
-    else declaration_found kind levels tokens first (declaration_at (is_data kind) (left_of levels) first rest)
+abbrev pub inside_at : BlockKind → Section → List Level → List Token → Token → List Token → Found
+inside_at kind section levels tokens first rest =
+    if ends_level section levels first
+    then closing_at kind section levels tokens first rest
+    else declaration_found kind section levels tokens first (declaration_at section (left_of levels) first rest)
 
 -- where the body of a block stands
 abbrev pub body_of : BlockKind → Where
 body_of block.Db = Values
 body_of kind = Body kind
 
--- what stands behind declarations
-abbrev pub behind_at : BlockKind → List Token → Token → Found
-behind_at kind tokens first =
+-- what stands behind a section
+abbrev pub behind_at : BlockKind → Section → List Token → Token → Found
+behind_at kind section tokens first =
     if is_word (codes "BEGIN") first
     then Fits Mark 0 (body_of kind)
-    else Misfit first.line (misfit_reason (Behind kind) tokens)
+    else section_found kind (misfit_reason (Behind kind section) tokens) first (section_at kind (Some section) first)
 
 -- an initial value of a data block, by what was read
 abbrev pub value_found : List Token → Token → Read RawInitial → Found
@@ -311,8 +314,8 @@ at_end end Start = Ended
 at_end end (Table line) = Misfit end BadStatement
 at_end end Between = Ended
 at_end end (Heading kind line) = Misfit end BadStatement
-at_end end (Inside kind levels) = Misfit (cut_line end levels) BadStatement
-at_end end (Behind kind) = Misfit end BadStatement
+at_end end (Inside kind section levels) = Misfit (cut_line end levels) BadStatement
+at_end end (Behind kind section) = Misfit end BadStatement
 at_end end (Body kind) = Misfit end BadStatement
 at_end end Values = Misfit end BadStatement
 
@@ -323,8 +326,8 @@ at_token (Table line) tokens first rest = in_table line tokens first rest
 at_token Between tokens first rest =
     heading_at Between (Misfit first.line (misfit_reason Between tokens)) tokens first rest
 at_token (Heading kind line) tokens first rest = behind_heading kind line tokens first rest
-at_token (Inside kind levels) tokens first rest = inside_at kind levels tokens first rest
-at_token (Behind kind) tokens first rest = behind_at kind tokens first
+at_token (Inside kind section levels) tokens first rest = inside_at kind section levels tokens first rest
+at_token (Behind kind section) tokens first rest = behind_at kind section tokens first
 at_token (Body kind) tokens first rest = body_at kind tokens first
 at_token Values tokens first rest = values_at tokens first
 

@@ -9,4 +9,5 @@ pub mod Initials
 pub mod Items
 pub mod ListForms
 pub mod RawPrograms
+pub mod Sections
 pub mod Symbols

@@ -9,15 +9,18 @@ use Rattle.stl_grammar.specs.Items.{items_of}
 use Rattle.stl_grammar.specs.declared.declaration.Innermost.{Innermost}
 use Rattle.stl_grammar.specs.declared.declaration.Innermost.TheVariants as inner
 use Rattle.stl_grammar.specs.declared.declaration.OpenStruct.{OpenStruct}
+use Rattle.stl_grammar.specs.declared.declaration.Section.{Section}
+use Rattle.stl_grammar.specs.declared.declaration.Section.TheVariants as part
 use Rattle.stl_grammar.specs.declared.declaration.Written.{Written}
 use Rattle.stl_grammar.specs.declared.item.Item.{Item}
-use Rattle.stl_grammar.specs.declared.item.Item.TheVariants.{Opens, Mark, Symbol, Declares, Closes, Instr, Initial, Ends}
+use Rattle.stl_grammar.specs.declared.item.Item.TheVariants.{Opens, Mark, Starts, Symbol, Declares, Closes, Instr, Initial, Ends}
 use Rattle.stl_grammar.specs.declared.item.Reading.{Reading}
 use Rattle.stl_tree.specs.declared.raw.BlockKind.{BlockKind}
 use Rattle.stl_tree.specs.declared.raw.BlockKind.TheVariants as block
 use Rattle.stl_tree.specs.declared.raw.Declaration.{Declaration}
 use Rattle.stl_tree.specs.declared.raw.DeclType.{DeclType}
 use Rattle.stl_tree.specs.declared.raw.DeclType.TheVariants as of
+use Rattle.stl_tree.specs.declared.raw.ElemType.{ElemType}
 use Rattle.stl_tree.specs.declared.raw.InitialItem.{InitialItem}
 use Rattle.stl_tree.specs.declared.raw.RawBlock.{RawBlock}
 use Rattle.stl_tree.specs.declared.raw.RawData.{RawData}
@@ -29,13 +32,13 @@ use Rattle.stl_tree.specs.declared.raw.RawName.{RawName}
 use Rattle.stl_tree.specs.declared.raw.RawProgram.{RawProgram}
 
 -- a block of which the heading alone is known
-abbrev pub headed : Line → BlockKind → RawName → RawBlock
-headed line kind name =
+abbrev pub headed : Line → BlockKind → RawName → Option ElemType → RawBlock
+headed line kind name result =
     record {
       kind = kind;
       name = name;
       line = line;
-      result = None;
+      result = result;
       inputs = [];
       outputs = [];
       in_outs = [];
@@ -71,7 +74,7 @@ with_value value db = record db { initial = db.initial ++ (value ∷ []) }
 
 -- nothing is read yet
 abbrev pub nothing_read : Reading
-nothing_read = record { symbols = []; dbs = []; last_db = None; done = []; last = None; structs = [] }
+nothing_read = record { symbols = []; dbs = []; last_db = None; done = []; last = None; section = part.Temp; structs = [] }
 
 -- a type with arrays round it, the outermost first
 abbrev pub array_of : List (List (ℤ × ℤ)) → DeclType → DeclType
@@ -83,9 +86,14 @@ abbrev pub declaration : List ℕ → Line → List (List (ℤ × ℤ)) → Decl
 declaration name line arrays type items =
     record { name = name; line = line; ty = array_of arrays type; initial = items }
 
--- a block with one more temporary variable
-abbrev pub with_temp : Declaration → RawBlock → RawBlock
-with_temp one block = record block { temps = block.temps ++ (one ∷ []) }
+-- a block with one more declaration in a section
+abbrev pub with_part : Section → Declaration → RawBlock → RawBlock
+with_part part.Input one block = record block { inputs = block.inputs ++ (one ∷ []) }
+with_part part.Output one block = record block { outputs = block.outputs ++ (one ∷ []) }
+with_part part.InOut one block = record block { in_outs = block.in_outs ++ (one ∷ []) }
+with_part part.Static one block = record block { statics = block.statics ++ (one ∷ []) }
+with_part part.Temp one block = record block { temps = block.temps ++ (one ∷ []) }
+with_part part.Own one block = block
 
 -- a data block with one more declaration
 abbrev pub kind_with : Declaration → RawDataKind → RawDataKind
@@ -95,15 +103,14 @@ kind_with one (Instance name) = Instance name
 abbrev pub with_own : Declaration → RawData → RawData
 with_own one db = record db { kind = kind_with one db.kind }
 
--- the text so far, where no STRUCT is open, with one more declaration of the data block that is open, or else of
--- the last block
-abbrev pub with_last : Declaration → Option RawData → Reading → Reading
-with_last one (Some db) reading = record reading { last_db = Some (with_own one db); structs = [] }
-with_last one None reading = record reading { last = option_map (with_temp one) reading.last; structs = [] }
+-- the text so far, where no STRUCT is open, with one more declaration in a section of the last block
+abbrev pub with_last : Declaration → Section → Reading → Reading
+with_last one part.Own reading = record reading { last_db = option_map (with_own one) reading.last_db; structs = [] }
+with_last one section reading = record reading { last = option_map (with_part section one) reading.last; structs = [] }
 
 -- the text so far, with one more declaration of the innermost STRUCT that is open, or of the last block
 abbrev pub with_declared : Declaration → List OpenStruct → Reading → Reading
-with_declared one [] reading = with_last one reading.last_db reading
+with_declared one [] reading = with_last one reading.section reading
 with_declared one (struct ∷ outer) reading =
     record reading { structs = record struct { members = struct.members ++ (one ∷ []) } ∷ outer }
 
@@ -125,25 +132,26 @@ closed items (struct ∷ outer) reading =
     with_declared (declaration struct.name struct.line struct.arrays (of.Struct struct.members) items) outer reading
 
 -- the text so far, and the heading of a block: it is the last one of its kind, and no block of the other is open
-abbrev pub opened : Line → BlockKind → RawName → Reading → Reading
-opened line block.Db name reading =
+abbrev pub opened : Line → BlockKind → RawName → Option ElemType → Reading → Reading
+opened line block.Db name result reading =
     record reading {
       dbs = dbs_in reading;
       last_db = Some (data_headed line name);
       done = blocks_in reading;
       last = None;
     }
-opened line kind name reading =
+opened line kind name result reading =
     record reading {
       dbs = dbs_in reading;
       last_db = None;
       done = blocks_in reading;
-      last = Some (headed line kind name);
+      last = Some (headed line kind name result);
     }
 
 -- the text so far, and one item more
 abbrev pub with_item : Reading → Item → Reading
-with_item reading (Opens line kind name) = opened line kind name reading
+with_item reading (Opens line kind name result) = opened line kind name result reading
+with_item reading (Starts section) = record reading { section = section }
 with_item reading (Symbol line) = record reading { symbols = reading.symbols ++ (line ∷ []) }
 with_item reading Mark = reading
 with_item reading (Declares name line type) = with_type name line type type.innermost reading

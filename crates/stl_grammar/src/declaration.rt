@@ -23,6 +23,18 @@ pub struct Written {
     pub initial: List<InitialItem>,
 }
 
+/// A section of declarations, in the order in which they stand; `Own` is the STRUCT of a data block with
+/// declarations of its own.
+#[derive(Clone, Copy)]
+pub enum Section {
+    Input,
+    Output,
+    InOut,
+    Static,
+    Temp,
+    Own,
+}
+
 /// A STRUCT that is open: the line of its declaration, how many levels are open with it, each STRUCT and each
 /// ARRAY being one, and whether its declaration has an array round it.
 #[derive(Clone, Copy)]

@@ -1,10 +1,10 @@
 //! Items of a source text, and where they stand.
 
-use crate::declaration::{Level, OpenStruct, Written};
+use crate::declaration::{Level, OpenStruct, Section, Written};
 use s7_base::{Line, List, Reason};
 use std::collections::LinkedList;
 use stl_tree::{
-    BlockKind, InitialItem, RawBlock, RawData, RawInitial, RawInstr, RawName, SymbolLine,
+    BlockKind, ElemType, InitialItem, RawBlock, RawData, RawInitial, RawInstr, RawName, SymbolLine,
 };
 
 /// Where an item stands.
@@ -23,10 +23,10 @@ pub enum Where {
     Heading(BlockKind, Line),
 
     /// Among the declarations of a section, and the STRUCTs that are open, the innermost first.
-    Inside(BlockKind, LinkedList<Level>),
+    Inside(BlockKind, Section, LinkedList<Level>),
 
-    /// Behind the declarations.
-    Behind(BlockKind),
+    /// Behind a section.
+    Behind(BlockKind, Section),
 
     /// In the body of a block.
     Body(BlockKind),
@@ -38,12 +38,15 @@ pub enum Where {
 /// An item of a text.
 #[derive(Drop)]
 pub enum Item {
-    /// The heading of a block, with its line.
-    Opens(Line, BlockKind, RawName),
+    /// The heading of a block, with its line, its name and the type of its result.
+    Opens(Line, BlockKind, RawName, Option<ElemType>),
 
     /// What only parts the text: `BEGIN`, `;` alone, a word or a line that is skipped, the words around the
-    /// symbol table and a section.
+    /// symbol table and the end of a section.
     Mark,
+
+    /// The word that opens a section.
+    Starts(Section),
 
     /// A line of the symbol table.
     Symbol(SymbolLine),
@@ -85,6 +88,9 @@ pub struct Reading {
     pub last_db: Option<RawData>,
     pub done: List<RawBlock>,
     pub last: Option<RawBlock>,
+
+    /// The section that opened last, where declarations belong.
+    pub section: Section,
 
     /// The STRUCTs that are open, the innermost first.
     pub structs: LinkedList<OpenStruct>,

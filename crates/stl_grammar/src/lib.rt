@@ -5,7 +5,7 @@
 //! and form by form; `items_have_forms` promises that both say the same.
 #![tactic(auto)]
 
-pub use declaration::{Innermost, Level, OpenStruct, Written};
+pub use declaration::{Innermost, Level, OpenStruct, Section, Written};
 pub use grammar_laws::items_have_forms;
 pub use item::{Found, Item, Reading, Where};
 

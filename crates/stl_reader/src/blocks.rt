@@ -14,22 +14,28 @@ use std::alloc::Global;
 use std::collections::LinkedList;
 use std::mem::replace;
 use stl_declarations::{put_closed, put_type};
-use stl_grammar::{Found, Item, Reading, Where};
+use stl_grammar::{Found, Item, Reading, Section, Where};
 use stl_lexer::tokens;
 use stl_tree::{
-    BlockKind, RawBlock, RawData, RawDataKind, RawInitial, RawInstr, RawName, RawProgram,
+    BlockKind, ElemType, RawBlock, RawData, RawDataKind, RawInitial, RawInstr, RawName, RawProgram,
     SymbolLine,
 };
 
 /// A block of which the heading alone is known.
-fn headed(alloc: Global, line: Line, kind: BlockKind, name: RawName) -> RawBlock
-    ensures { result ≡ headed line kind name }
+fn headed(
+    alloc: Global,
+    line: Line,
+    kind: BlockKind,
+    name: RawName,
+    result_type: Option<ElemType>,
+) -> RawBlock
+    ensures { result ≡ headed line kind name result_type }
 {
     RawBlock {
         kind,
         name,
         line,
-        result: None,
+        result: result_type,
         inputs: List::new(alloc),
         outputs: List::new(alloc),
         in_outs: List::new(alloc),
@@ -95,15 +101,23 @@ fn put_opened(
     line: Line,
     kind: BlockKind,
     name: RawName,
+    result_type: Option<ElemType>,
 ) -> Result<(), NoMemory>
-    ensures { OnOk result (reading.new ≡ opened line kind name reading.old) }
+    ensures { OnOk result (reading.new ≡ opened line kind name result_type reading.old) }
 {
     match kind {
         BlockKind::Db => open_data(reading, data_headed(alloc, line, name)),
         BlockKind::Ob | BlockKind::Fc | BlockKind::Fb => {
-            open_block(reading, headed(alloc, line, kind, name))
+            open_block(reading, headed(alloc, line, kind, name, result_type))
         }
     }
+}
+
+/// The word that opens a section.
+fn put_section(reading: &mut Reading, section: Section)
+    ensures { reading.new ≡ with_item reading.old (item.Starts section) }
+{
+    reading.section = section;
 }
 
 /// One more line of the symbol table.
@@ -147,7 +161,13 @@ fn put_item(alloc: Global, reading: &mut Reading, item: Item) -> Result<(), NoMe
     ensures { OnOk result (reading.new ≡ with_item reading.old item) }
 {
     match item {
-        Item::Opens(line, kind, name) => put_opened(alloc, reading, line, kind, name),
+        Item::Opens(line, kind, name, result_type) => {
+            put_opened(alloc, reading, line, kind, name, result_type)
+        }
+        Item::Starts(section) => {
+            put_section(reading, section);
+            Ok(())
+        }
         Item::Symbol(line) => put_symbol(reading, line),
         Item::Declares(name, line, written) => put_type(alloc, reading, name, line, written),
         Item::Closes(items) => put_closed(alloc, reading, items),
@@ -210,6 +230,7 @@ fn read_tokens(alloc: Global, tokens: &[Token], end: Line) -> Result<RawProgram,
         last_db: None,
         done: List::new(alloc),
         last: None,
+        section: Section::Temp,
         structs: LinkedList::new(alloc),
     };
     read_items(alloc, &mut reading, tokens, end)

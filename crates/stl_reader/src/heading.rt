@@ -122,7 +122,7 @@ fn opened(
         Read::Fits(name, size) => {
             let line = line_of(first.line, rest_after(rest, size.saturating_sub(1)));
             Found::Fits(
-                Item::Opens(first.line, kind, name),
+                Item::Opens(first.line, kind, name, None),
                 size,
                 Where::Heading(kind, line),
             )

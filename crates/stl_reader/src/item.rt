@@ -1,6 +1,6 @@
 //! The item at a place of a text.
 ghost use Rattle.std.specs.Prelude.{◌≡◌, [], take, IfOk};
-ghost use Rattle.stl_grammar.specs.Items.{is_complete, statement_at, statement_size, begins_body, behind_at, behind_heading, body_of, cut_line, section_word, is_skipped_alone, statement_found, statement_from, body_at, at_end, at_token, item_at};
+ghost use Rattle.stl_grammar.specs.Items.{is_complete, statement_at, statement_size, begins_body, behind_at, behind_heading, body_of, cut_line, section_found, is_skipped_alone, statement_found, statement_from, body_at, at_end, at_token, item_at};
 ghost use Rattle.stl_statements.specs.Statements.{instruction_of};
 ghost use Rattle.stl_grammar.specs.declared.item.Where.TheVariants.{Body};
 ghost use Rattle.stl_reader.specs.inner.Finding.{HasFirst};
@@ -17,7 +17,8 @@ use s7_base::{Line, NoMemory, Reason, Rejection, Token, front_of};
 use std::alloc::Global;
 use std::collections::LinkedList;
 use stl_constants::is_word;
-use stl_grammar::{Found, Item, Level, Where};
+use stl_declarations::section_at;
+use stl_grammar::{Found, Item, Level, Section, Where};
 use stl_instructions::instruction;
 use stl_tree::BlockKind;
 
@@ -28,13 +29,23 @@ fn begins_body(kind: BlockKind, first: &Token) -> bool
     !is_data(kind) && is_word(first, "BEGIN")
 }
 
-/// The word that leads from a heading to declarations.
-fn section_word(kind: BlockKind) -> &'static str
-    ensures { result.now ≡ section_word kind }
+/// A section that opens, where one does.
+fn section_found(
+    alloc: Global,
+    kind: BlockKind,
+    reason: Reason,
+    first: &Token,
+    section: Option<Section>,
+) -> Found
+    ensures { result ≡ section_found kind reason first.now section }
 {
-    match kind {
-        BlockKind::Db => "STRUCT",
-        BlockKind::Ob | BlockKind::Fc | BlockKind::Fb => "VAR_TEMP",
+    match section {
+        Some(section) => Found::Fits(
+            Item::Starts(section),
+            0,
+            Where::Inside(kind, section, LinkedList::new(alloc)),
+        ),
+        None => Found::Misfit(first.line, reason),
     }
 }
 
@@ -57,10 +68,9 @@ fn behind_heading(
         )
     } else if begins_body(kind, first) {
         Found::Fits(Item::Mark, 0, Where::Body(kind))
-    } else if is_word(first, section_word(kind)) {
-        Found::Fits(Item::Mark, 0, Where::Inside(kind, LinkedList::new(alloc)))
     } else {
-        Found::Misfit(first.line, reason_in(kind, data_reason(tokens), tokens))
+        let reason = reason_in(kind, data_reason(tokens), tokens);
+        section_found(alloc, kind, reason, first, section_at(kind, None, first))
     }
 }
 
@@ -74,14 +84,27 @@ fn body_of(kind: BlockKind) -> Where
     }
 }
 
-/// What stands behind declarations.
-fn behind_at(kind: BlockKind, tokens: &[Token], first: &Token) -> Found
-    ensures { result ≡ behind_at kind tokens.now first.now }
+/// What stands behind a section.
+fn behind_at(
+    alloc: Global,
+    kind: BlockKind,
+    section: Section,
+    tokens: &[Token],
+    first: &Token,
+) -> Found
+    ensures { result ≡ behind_at kind section tokens.now first.now }
 {
     if is_word(first, "BEGIN") {
         Found::Fits(Item::Mark, 0, body_of(kind))
     } else {
-        Found::Misfit(first.line, reason_in(kind, Reason::BadStatement, tokens))
+        let reason = reason_in(kind, Reason::BadStatement, tokens);
+        section_found(
+            alloc,
+            kind,
+            reason,
+            first,
+            section_at(kind, Some(section), first),
+        )
     }
 }
 
@@ -174,8 +197,10 @@ fn at_token(
             )
         }
         Where::Heading(kind, line) => Ok(behind_heading(alloc, kind, line, tokens, first, rest)),
-        Where::Inside(kind, levels) => inside_at(alloc, kind, levels, tokens, first, rest),
-        Where::Behind(kind) => Ok(behind_at(kind, tokens, first)),
+        Where::Inside(kind, section, levels) => {
+            inside_at(alloc, kind, section, levels, tokens, first, rest)
+        }
+        Where::Behind(kind, section) => Ok(behind_at(alloc, kind, section, tokens, first)),
         Where::Body(kind) => body_at(alloc, kind, tokens, first),
         Where::Values => values_at(alloc, tokens, first),
     }
@@ -198,8 +223,8 @@ fn at_end(end: Line, place: Where) -> Found
 {
     match place {
         Where::Start | Where::Between => Found::Ended,
-        Where::Inside(_, levels) => Found::Misfit(cut_line(end, &levels), Reason::BadStatement),
-        Where::Table(_) | Where::Heading(_, _) | Where::Behind(_) | Where::Body(_) => {
+        Where::Inside(_, _, levels) => Found::Misfit(cut_line(end, &levels), Reason::BadStatement),
+        Where::Table(_) | Where::Heading(_, _) | Where::Behind(_, _) | Where::Body(_) => {
             Found::Misfit(end, Reason::BadStatement)
         }
         Where::Values => Found::Misfit(end, Reason::BadStatement),

@@ -1,0 +1,101 @@
+-- Sections of declarations: with which words they begin and end, which blocks have them, in which order, and what
+-- may stand in them.
+use Rattle.std.specs.Prelude.{ℕ, Bool, true, false, ◌&&◌, nat_lt, if◌then◌else◌, List, codes, Option, Some, None}
+use Rattle.s7_base.specs.declared.token.Token.{Token}
+use Rattle.stl_grammar.specs.declared.declaration.Section.{Section}
+use Rattle.stl_grammar.specs.declared.declaration.Section.TheVariants as part
+use Rattle.stl_statements.specs.Words.{is_word}
+use Rattle.stl_tree.specs.declared.raw.BlockKind.{BlockKind}
+use Rattle.stl_tree.specs.declared.raw.BlockKind.TheVariants as block
+
+-- Words
+
+-- the word with which a section begins
+abbrev pub section_word : Section → List ℕ
+section_word part.Input = codes "VAR_INPUT"
+section_word part.Output = codes "VAR_OUTPUT"
+section_word part.InOut = codes "VAR_IN_OUT"
+section_word part.Static = codes "VAR"
+section_word part.Temp = codes "VAR_TEMP"
+section_word part.Own = codes "STRUCT"
+
+-- the word with which it ends
+abbrev pub end_of_section : Section → List ℕ
+end_of_section part.Own = codes "END_STRUCT"
+end_of_section other = codes "END_VAR"
+
+-- it is the STRUCT of a data block
+abbrev pub is_own : Section → Bool
+is_own part.Own = true
+is_own other = false
+
+-- a section of formals, by its word
+abbrev pub formal_section : Token → Option Section
+formal_section word =
+    if is_word (codes "VAR_INPUT") word then Some part.Input
+    else if is_word (codes "VAR_OUTPUT") word then Some part.Output
+    else if is_word (codes "VAR_IN_OUT") word then Some part.InOut
+    else None
+
+-- another one
+abbrev pub inner_section : Token → Option Section
+inner_section word =
+    if is_word (codes "VAR") word then Some part.Static
+    else if is_word (codes "VAR_TEMP") word then Some part.Temp
+    else if is_word (codes "STRUCT") word then Some part.Own
+    else None
+
+abbrev pub formal_or_inner : Option Section → Option Section → Option Section
+formal_or_inner (Some section) inner = Some section
+formal_or_inner None inner = inner
+
+-- the section that begins with a word
+abbrev pub section_named : Token → Option Section
+section_named word = formal_or_inner (formal_section word) (inner_section word)
+
+-- Which may open
+
+-- a block of this kind has such a section
+abbrev pub has_section : BlockKind → Section → Bool
+has_section block.Db part.Own = true
+has_section block.Db other = false
+has_section kind part.Temp = true
+has_section kind other = false
+
+-- where it stands in the order of sections
+abbrev pub rank_of : Section → ℕ
+rank_of part.Input = 0
+rank_of part.Output = 1
+rank_of part.InOut = 2
+rank_of part.Static = 3
+rank_of part.Temp = 4
+rank_of part.Own = 5
+
+-- it may stand behind another one, or behind none
+abbrev pub is_later : Option Section → Section → Bool
+is_later None section = true
+is_later (Some before) section = nat_lt (rank_of before) (rank_of section)
+
+-- it may open in a block of this kind, behind another one or behind none
+abbrev pub may_open : BlockKind → Option Section → Section → Bool
+may_open kind before section = has_section kind section && is_later before section
+
+abbrev pub if_open : BlockKind → Option Section → Option Section → Option Section
+if_open kind before None = None
+if_open kind before (Some section) = if may_open kind before section then Some section else None
+
+-- the section that a word opens there
+abbrev pub section_at : BlockKind → Option Section → Token → Option Section
+section_at kind before word = if_open kind before (section_named word)
+
+-- What may stand there
+
+-- its declarations may have initial values
+abbrev pub takes_values : Section → Bool
+takes_values part.Temp = false
+takes_values other = true
+
+-- one may be of DATE_AND_TIME
+abbrev pub takes_dates : Section → Bool
+takes_dates part.Temp = true
+takes_dates other = false
