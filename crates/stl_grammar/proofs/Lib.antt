@@ -1,12 +1,2 @@
-pub mod AddressLaws
-pub mod ConstantFronts
-pub mod DeclarationLaws
-pub mod GrammarLaws
-pub mod InitialLaws
-pub mod ItemLaws
 pub mod ItemRows
-pub mod ListLaws
-pub mod MisfitLaws
-pub mod Outs
-pub mod SectionLaws
-pub mod StatementSizes
+pub mod Skipping

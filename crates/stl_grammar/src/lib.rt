@@ -2,13 +2,11 @@
 //!
 //! Stands on `stl_tree`, which has raw programs, and on `stl_statements`, which has the forms of one statement.
 //! `specs/` has the items of a text and the raw program that they make. Items stand there twice, as functions
-//! and form by form; `items_have_forms` promises that both say the same.
+//! and form by form; `source_laws` promises that both say the same.
 #![tactic(auto)]
 
 pub use declaration::{Innermost, Level, OpenStruct, Section, Written};
-pub use grammar_laws::items_have_forms;
 pub use item::{Found, Item, Reading, Where};
 
 mod declaration;
-mod grammar_laws;
 mod item;

@@ -3,7 +3,7 @@ use Rattle.std.proofs.Common.{◌≡◌, ℕ, List, [], ◌∷◌, drop, Result,
 use Rattle.s7_base.specs.declared.reason.Line.{Line}
 use Rattle.s7_base.specs.declared.reason.Rejection.{Rejection}
 use Rattle.s7_base.specs.declared.token.Token.{Token}
-use Rattle.stl_grammar.proofs.GrammarLaws.{skipped}
+use Rattle.stl_grammar.proofs.Skipping.{skipped}
 use Rattle.stl_grammar.specs.Items.{item_at, items_from, prepend_item, with_found}
 use Rattle.stl_grammar.specs.RawPrograms.{nothing_read, raw_by, with_item}
 use Rattle.stl_grammar.specs.declared.item.Found.{Found}

@@ -12,23 +12,21 @@ use Rattle.memory_areas.specs.declared.place.AreaName.{AreaName}
 use Rattle.memory_areas.specs.declared.place.AreaName.TheVariants as area_name
 use Rattle.memory_areas.specs.declared.sizes.TheConstants.{MOST_BLOCKS}
 use Rattle.s7_base.specs.Broken.{first_of_all}
-use Rattle.s7_base.specs.Tokens.{tokens_of, line_at_end}
 use Rattle.s7_base.specs.declared.broken.Break.{Break}
 use Rattle.s7_base.specs.declared.reason.Line.{Line}
 use Rattle.s7_base.specs.declared.reason.Reason.{Reason}
 use Rattle.s7_base.specs.declared.reason.Rejection.{Rejection}
-use Rattle.s7_base.specs.declared.token.Token.{Token}
 use Rattle.stl_tree.specs.Accepted.{AreDistinct, HasOperand, HaveOperands, IsAccepted, IsAcceptedBlock, IsBlockNumber, IsEnded, IsSymbol}
 use Rattle.stl_tree.specs.Brackets.{AreNested, WithNumber, open_behind}
 use Rattle.stl_tree.specs.StlRun.{block_named, is_same_name}
-use Rattle.stl_grammar.specs.RawPrograms.{raw_of, raw_by_tokens, raw_text}
-use Rattle.stl_rules.specs.Accepting.{IsKept, IsText}
+use Rattle.stl_grammar.specs.RawPrograms.{raw_text}
+use Rattle.stl_rules.specs.Accepting.{IsKept}
 use Rattle.stl_rules.specs.Layouts.{breaks_in}
 use Rattle.stl_rules.specs.Names.{block_number, may_have}
 use Rattle.stl_rules.specs.Programs.{block_name, block_of, block_with, body_of, instr_of, program_of, symbol_area, symbol_at, symbol_in, symbol_of}
 use Rattle.stl_rules.specs.Raw.{Scope, are_refused, most_in_block, most_local}
-use Rattle.stl_rules.specs.Stages.{blocks_behind, bodies, body_breaks, brackets_at, brackets_from, content_breaks, dbs_behind, heading_breaks, initial_breaks, instr_breaks, is_among, names, no_blocks, none_among, one_too_many, open_at_end, open_then, symbols_behind, with_block_number}
-use Rattle.stl_rules.specs.Verdict.{judged_by, verdict}
+use Rattle.stl_rules.specs.Stages.{blocks_behind, bodies, body_breaks, brackets_at, brackets_from, content_breaks, dbs_behind, first_broken, heading_breaks, initial_breaks, instr_breaks, is_among, names, no_blocks, none_among, one_too_many, open_at_end, open_then, stages, symbols_behind, with_block_number}
+use Rattle.stl_rules.specs.Verdict.{judged, judged_by, verdict}
 use Rattle.stl_rules.specs.VerdictLaws.{VerdictIsAccepted}
 use Rattle.stl_tree.specs.declared.program.Block.{Block}
 use Rattle.stl_tree.specs.declared.program.Instr.{Instr}
@@ -48,7 +46,7 @@ use Rattle.stl_tree.specs.declared.raw.SymbolAddress.{SymbolAddress}
 use Rattle.stl_tree.specs.declared.raw.SymbolAddress.TheVariants as address
 use Rattle.stl_tree.specs.declared.raw.SymbolLine.{SymbolLine}
 use Rattle.stl_statements.specs.Mnemonics.{mnemonic_named}
-use Rattle.stl_rules.proofs.AcceptingLaws.{agree}
+use Rattle.stl_rules.proofs.StageLaws.{accepts, kept as stages_kept}
 use Rattle.stl_rules.proofs.DataBlockLaws.{are_blocks, comes_among, numbers, stays_among}
 use Rattle.stl_rules.proofs.Lists.{all_made, no_more, no_parts, none_of_all}
 use Rattle.stl_rules.proofs.ProgramLaws.{IsClear, IsLaidOut, behind_instr, has_operand, opened}
@@ -279,24 +277,26 @@ raw_accepted raw named closed some =
       instances = refl;
     }
 
-program_accepted : (end : Line) (tokens : List Token) (program : Program) → IsText end tokens program → IsAccepted program
-program_accepted end tokens program text =
-    let raw = raw_of text.items in
+-- the program of a raw program that is judged so keeps the rules
+judged_accepted : (raw : RawProgram) (program : Program) → judged raw ≡ Ok program → IsAccepted program
+unfolding judged
+judged_accepted raw program e =
+    let a = accepts raw (first_broken (stages raw)) program refl e in
     let on_bodies : List (List Break) = bodies raw ∷ no_blocks raw ∷ [] in
     let on_all : List (List Break) = no_blocks raw ∷ [] in
-    let later : All IsKept on_bodies = All-tail IsKept (names raw) on_bodies text.kept in
+    let all : All IsKept (stages raw) = stages_kept (stages raw) a.none_named in
+    let later : All IsKept on_bodies = All-tail IsKept (names raw) on_bodies all in
     let last : All IsKept on_all = All-tail IsKept (bodies raw) on_all later in
-    let named : names raw ≡ [] = All-head IsKept (names raw) on_bodies text.kept in
+    let named : names raw ≡ [] = All-head IsKept (names raw) on_bodies all in
     let closed : bodies raw ≡ [] = All-head IsKept (bodies raw) on_all later in
     let some : no_blocks raw ≡ [] = All-head IsKept (no_blocks raw) [] last in
-    subst IsAccepted text.program_is (raw_accepted raw named closed some)
+    subst IsAccepted a.same (raw_accepted raw named closed some)
 
--- the program of a raw program that is read keeps the rules
-by_tokens : (end : Line) (cut : Result (List Token) Rejection) (program : Program) → judged_by (raw_by_tokens end cut) ≡ Ok program → IsAccepted program
-by_tokens end (Ok tokens) program e = program_accepted end tokens program (agree.sound end tokens program e)
-by_tokens end (Err refused) program e = absurd cc
+by_raw : (r : Result RawProgram Rejection) (program : Program) → judged_by r ≡ Ok program → IsAccepted program
+by_raw (Ok raw) program e = judged_accepted raw program e
+by_raw (Err refused) program e = absurd cc
 
 -- and so does that of a text
 pub verdict_accepted : VerdictIsAccepted
-unfolding verdict raw_text
-verdict_accepted bytes program e = by_tokens (line_at_end bytes) (tokens_of bytes) program e
+unfolding verdict
+verdict_accepted bytes program e = by_raw (raw_text bytes) program e

@@ -1,5 +1,4 @@
 pub mod AcceptedLaws
-pub mod AcceptingLaws
 pub mod Components
 pub mod DataBlockLaws
 pub mod Ends
@@ -10,5 +9,6 @@ pub mod Lists
 mod NameRows
 mod OperandRows
 pub mod ProgramLaws
+pub mod StageLaws
 pub mod TypeInduction
 mod VerdictRows

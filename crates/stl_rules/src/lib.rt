@@ -8,7 +8,7 @@
 
 pub use given::Given;
 pub use laid::{Component, Extent, Layout};
-pub use source_laws::{verdict_accepts_the_grammar, verdict_is_accepted};
+pub use source_laws::verdict_is_accepted;
 
 mod given;
 mod laid;

@@ -6,8 +6,8 @@ use Rattle.s7_base.specs.Tokens.{is_same_word}
 use Rattle.s7_base.specs.declared.reason.Kind.{Kind}
 use Rattle.s7_base.specs.declared.token.Token.{Token}
 use Rattle.stl_constants.proofs.Reading.{if_false, if_true, other_sign}
-use Rattle.stl_grammar.proofs.ConstantFronts.{IsStop, Stops, stop_by}
-use Rattle.stl_grammar.proofs.Outs.{OutOf, as_out, further_out, weaker_out}
+use Rattle.source_laws.proofs.ConstantFronts.{IsStop, Stops, stop_by}
+use Rattle.source_laws.proofs.Outs.{OutOf, as_out, further_out, weaker_out}
 use Rattle.stl_grammar.specs.Elements.{elements_behind, elements_from, elements_with, prepended}
 use Rattle.stl_grammar.specs.ListForms.{AreElements, last, more, LeavesOutElement, here, behind}
 use Rattle.stl_places.proofs.Fronts.{FrontOf, as_front, further_front}

@@ -9,9 +9,9 @@ use Rattle.s7_base.specs.declared.reason.Reason.{Reason}
 use Rattle.s7_base.specs.declared.reason.Reason.TheVariants.{BadStatement, Unsupported}
 use Rattle.s7_base.specs.declared.token.Token.{Token}
 use Rattle.stl_constants.proofs.Reading.{if_false, if_true, word_no_quoted}
-use Rattle.stl_grammar.proofs.DeclarationLaws.{Starts, declaration_left, declaration_out, number_starts}
-use Rattle.stl_grammar.proofs.InitialLaws.{ending_left, ending_out, initial_left, initial_out}
-use Rattle.stl_grammar.proofs.Outs.{OutOf}
+use Rattle.source_laws.proofs.DeclarationLaws.{Starts, declaration_left, declaration_out, number_starts}
+use Rattle.source_laws.proofs.InitialLaws.{ending_left, ending_out, initial_left, initial_out}
+use Rattle.source_laws.proofs.Outs.{OutOf}
 use Rattle.stl_grammar.specs.DeclarationForms.{LeavesOutDeclaration}
 use Rattle.stl_grammar.specs.DeclarationForms as declared
 use Rattle.stl_grammar.specs.Declarations.{declaration_at, ends_level, has_number, is_user_type, left_of}

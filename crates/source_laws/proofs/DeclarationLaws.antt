@@ -12,10 +12,10 @@ use Rattle.s7_base.specs.declared.reason.Kind.{Kind}
 use Rattle.s7_base.specs.declared.reason.Kind.TheVariants as kind
 use Rattle.s7_base.specs.declared.token.Token.{Token}
 use Rattle.stl_constants.proofs.Reading.{if_false, if_true, mapped, no_sign, other_word, same_letters, taken}
-use Rattle.stl_grammar.proofs.ConstantFronts.{Stops, stop_by}
-use Rattle.stl_grammar.proofs.InitialLaws.{ending_front, ending_left, ending_out, ending_read}
-use Rattle.stl_grammar.proofs.ListLaws.{Agrees, Closes, elements_front, elements_read}
-use Rattle.stl_grammar.proofs.Outs.{OutOf, as_out, dropped, fitting_out, further_out, weaker_out}
+use Rattle.source_laws.proofs.ConstantFronts.{Stops, stop_by}
+use Rattle.source_laws.proofs.InitialLaws.{ending_front, ending_left, ending_out, ending_read}
+use Rattle.source_laws.proofs.ListLaws.{Agrees, Closes, elements_front, elements_read}
+use Rattle.source_laws.proofs.Outs.{OutOf, as_out, dropped, fitting_out, further_out, weaker_out}
 use Rattle.stl_grammar.specs.DeclarationForms.{AreDims, HasEnd, IsBounds, IsDeclaration, BeginsDeclaration, IsType, LeavesOutDeclaration, LeavesOutType, elem_word}
 use Rattle.stl_grammar.specs.DeclarationForms as form
 use Rattle.stl_grammar.specs.Declarations.{alone, array_at, array_with, before_of, begins_with_number, bounds_at, closed_behind, closed_by, declaration_at, dims_at, has_number, in_array, is_user_type, left_out_type, one_word_at, pointer_types, small_or_other, small_type, time_types, type_at, type_kind, upper_at, upper_behind, wide_or_left_out, wide_type, with_array, with_initial}

@@ -8,16 +8,16 @@ use Rattle.s7_base.specs.declared.reason.Reason.{Reason}
 use Rattle.s7_base.specs.declared.reason.Rejection.{Rejection}
 use Rattle.s7_base.specs.declared.reason.Rejection.TheVariants.{Refused, NoMemory}
 use Rattle.s7_base.specs.declared.token.Token.{Token}
-use Rattle.stl_grammar.proofs.StatementSizes.{Split, size_open, size_append, split_of, taken}
+use Rattle.source_laws.proofs.StatementSizes.{Split, size_open, size_append, split_of, taken}
 use Rattle.stl_grammar.specs.Grammar.{IsName, quoted, apart, together, MayOpen, last_line, IsForm, heading, table, symbol, table_end, skipped_line, begin, first_section, section_end, data_end, struct_end, declaration, begin_behind, later_section, value, values_end, skipped_word, end_word, statement, has_statement, plain_reason, LeavesOutForm, HasNoForm, IsItem, form, left_out, no_instruction, none, at_start, in_a_table, behind_a_block, behind_a_heading, in_a_section, in_a_struct, behind_a_section, in_a_body, among_values, ItemsHaveForms}
-use Rattle.stl_grammar.proofs.AddressLaws.{address_is, address_read}
-use Rattle.stl_grammar.proofs.DeclarationLaws.{declaration_front, declaration_read}
-use Rattle.stl_grammar.proofs.InitialLaws.{ending_front, ending_read, initial_front, initial_read, initial_some}
-use Rattle.stl_grammar.proofs.SectionLaws.{OpensHere, no_begin_word, section_is, section_read}
+use Rattle.source_laws.proofs.AddressLaws.{address_is, address_read}
+use Rattle.source_laws.proofs.DeclarationLaws.{declaration_front, declaration_read}
+use Rattle.source_laws.proofs.InitialLaws.{ending_front, ending_read, initial_front, initial_read, initial_some}
+use Rattle.source_laws.proofs.SectionLaws.{OpensHere, no_begin_word, section_is, section_read}
 use Rattle.stl_grammar.specs.Sections.{is_own, may_open, section_at, section_word}
 use Rattle.stl_grammar.specs.declared.declaration.Section.{Section}
 use Rattle.stl_grammar.specs.declared.declaration.Section.TheVariants as part
-use Rattle.stl_grammar.proofs.MisfitLaws.{Says, by_left, by_plain, left_says, no_left_body, says}
+use Rattle.source_laws.proofs.MisfitLaws.{Says, by_left, by_plain, left_says, no_left_body, says}
 use Rattle.stl_grammar.specs.DeclarationForms.{IsDeclaration}
 use Rattle.stl_grammar.specs.InitialForms.{IsEnding, IsInitial}
 use Rattle.stl_places.proofs.Fronts.{FrontOf}

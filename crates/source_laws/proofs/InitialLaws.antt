@@ -12,9 +12,9 @@ use Rattle.s7_base.specs.declared.word.Width.{Width}
 use Rattle.s7_base.specs.declared.word.Width.TheVariants as width
 use Rattle.stl_constants.proofs.ConstantLaws.{IsNoConstant, constant_no_word, constant_there, pointer_no_constant, word_is}
 use Rattle.stl_constants.proofs.Reading.{if_false, if_true, joined_sign, no_sign, or_no, or_this, other_sign, other_word, taken}
-use Rattle.stl_grammar.proofs.ConstantFronts.{Stops, constant_before, constant_front, constant_left, constant_out, left_no_bracket, left_no_word, stop_by}
-use Rattle.stl_grammar.proofs.ListLaws.{Agrees, Closes, elements_front, elements_left, elements_out, elements_read}
-use Rattle.stl_grammar.proofs.Outs.{OutOf, and_then_left, and_then_out, as_out, fitting_out, further_out, or_left, or_out, weaker_out}
+use Rattle.source_laws.proofs.ConstantFronts.{Stops, constant_before, constant_front, constant_left, constant_out, left_no_bracket, left_no_word, stop_by}
+use Rattle.source_laws.proofs.ListLaws.{Agrees, Closes, elements_front, elements_left, elements_out, elements_read}
+use Rattle.source_laws.proofs.Outs.{OutOf, and_then_left, and_then_out, as_out, fitting_out, further_out, or_left, or_out, weaker_out}
 use Rattle.stl_grammar.specs.Elements.{begins_with_sign}
 use Rattle.stl_grammar.specs.InitialForms.{IsEnding, IsInitial, IsLast, IsListItem, IsValue, LeavesOutEnding, LeavesOutInitial, LeavesOutItem, LeavesOutValue}
 use Rattle.stl_grammar.specs.InitialForms as form

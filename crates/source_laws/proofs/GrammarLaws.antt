@@ -9,13 +9,8 @@ use Rattle.stl_grammar.specs.declared.item.Found.{Found}
 use Rattle.stl_grammar.specs.declared.item.Found.TheVariants.{Fits, Misfit, Ended}
 use Rattle.stl_grammar.specs.declared.item.Item.{Item}
 use Rattle.stl_grammar.specs.declared.item.Where.{Where}
-use Rattle.stl_grammar.proofs.ItemLaws.{sound as item_is, complete as item_found}
-
--- tokens that belong to the item before are passed over
-pub skipped : (end : Line) (n : ℕ) (place : Where) (tokens : List Token) → items_from end n place tokens ≡ items_from end 0 place (drop n tokens)
-skipped end zero place tokens = refl
-skipped end (suc n) place [] = refl
-skipped end (suc n) place (first ∷ rest) = skipped end n place rest
+use Rattle.source_laws.proofs.ItemLaws.{sound as item_is, complete as item_found}
+use Rattle.stl_grammar.proofs.Skipping.{skipped}
 
 abbrev IsSome : List Token → Type 0
 IsSome [] = ⊥

@@ -1,0 +1,12 @@
+pub mod AcceptingLaws
+pub mod AddressLaws
+pub mod ConstantFronts
+pub mod DeclarationLaws
+pub mod GrammarLaws
+pub mod InitialLaws
+pub mod ItemLaws
+pub mod ListLaws
+pub mod MisfitLaws
+pub mod Outs
+pub mod SectionLaws
+pub mod StatementSizes
