@@ -1,11 +1,17 @@
 -- Laws of the instruction table.
-use Rattle.std.specs.Prelude.{◌^◌, ◌<◌}
+use Rattle.std.specs.Prelude.{◌≡◌, ◌^◌, ◌<◌, Ok}
+use Rattle.memory_areas.specs.Access.{aimed, and_then, located, reached}
+use Rattle.memory_areas.specs.Areas.{Contents}
+use Rattle.memory_areas.specs.declared.place.Place.{Place}
+use Rattle.s7_base.specs.declared.word.Width.{Width}
 use Rattle.stl_tree.specs.Accepted.{HasOperand}
 use Rattle.stl_tree.specs.Instructions.{effect_of}
 use Rattle.stl_tree.specs.Now.{Now}
 use Rattle.stl_tree.specs.Reads.{reads_of}
 use Rattle.stl_tree.specs.declared.program.Op.{Op}
+use Rattle.stl_tree.specs.declared.program.Operand.{Operand}
 use Rattle.instruction_laws.specs.Agreement.{Agree, AreLike}
+use Rattle.instruction_laws.specs.Located.{aimed_and_located, found_and_reached}
 use Rattle.instruction_laws.specs.Ranges.{IsInRange, LeavesInRange}
 
 -- what an instruction does depends on no register but those that it reads: where two states agree on these, it does
@@ -19,3 +25,10 @@ EffectsDependOnReads =
 -- an instruction whose operand and constants are ones that it may have keeps registers and memory in their ranges
 abbrev pub RangesAreKept : Type 0
 RangesAreKept = (op : Op) (now : Now) → HasOperand op → IsInRange now → LeavesInRange (effect_of op now)
+
+-- an access goes by the tests of `located`: to reach a place, as each read and write there does, gives what `located`
+-- gives of it, the place or the first fault; and to find the place of an operand and then reach it gives what `located`
+-- gives of its aim, in the same state
+pub record AccessesAreLocated : Type 0 where
+  pub of_place : (p : Place) (w : Width) (m : Contents) → and_then (reached p w m) (λ bytes. Ok p) ≡ located (aimed p) w m
+  pub of_operand : (o : Operand) (w : Width) (now : Now) → found_and_reached o w now ≡ aimed_and_located o w now

@@ -1,3 +1,4 @@
 pub mod Agreement
 pub mod InstructionLaws
+pub mod Located
 pub mod Ranges

@@ -1,11 +1,11 @@
-//! Laws of instructions: what an instruction does depends on no register but those that it reads, and it keeps
-//! registers and memory in their ranges.
+//! Laws of instructions: what an instruction does depends on no register but those that it reads, it keeps registers
+//! and memory in their ranges, and its accesses go by the tests of `located`.
 //!
 //! Stands on `stl_tree`, whose instruction table these laws are about; of `st_tree` it names when a memory holds
 //! bytes, and that writes keep it so. It computes nothing: the contracts of its functions are the laws.
 #![tactic(auto)]
 
-ghost use Rattle.instruction_laws.specs.InstructionLaws.{EffectsDependOnReads, RangesAreKept};
+ghost use Rattle.instruction_laws.specs.InstructionLaws.{AccessesAreLocated, EffectsDependOnReads, RangesAreKept};
 
 /// What an instruction does depends on no register but those that it reads.
 pub fn effects_depend_on_reads()
@@ -15,4 +15,9 @@ pub fn effects_depend_on_reads()
 /// An instruction keeps registers and memory in their ranges.
 pub fn ranges_are_kept()
     ensures { RangesAreKept }
+{}
+
+/// An access reaches the place that its operand is aimed at, or meets the fault of the first test that holds there.
+pub fn accesses_are_located()
+    ensures { AccessesAreLocated }
 {}
