@@ -1,6 +1,7 @@
 //! The machine itself.
 ghost use Rattle.std.specs.Prelude.{◌≡◌, ◌+◌, ◌^◌, ◌<◌, IfSome, MatchOption, Some, None};
 ghost use Rattle.stl_machine.specs.Machine.{IsNew, memory_of, outcome_of};
+ghost use Rattle.stl_machine.specs.declared.machine.Progress.TheVariants.{Running};
 ghost use Rattle.stl_machine.specs.inner.Effects.{next_of};
 ghost use Rattle.stl_machine.specs.inner.Views.{seen, standing};
 ghost use Rattle.stl_tree.specs.StlRun.{block_called, block_named, is_same_name, returned, step_by, steps_on};
@@ -79,6 +80,7 @@ fn block_called(program: &Program, call: &Call) -> Option<usize>
 fn next_of<'p>(program: &'p Program, progress: Progress, state: &State) -> Option<&'p Instr>
     ensures instruction { MatchOption result (next_of (standing program.now progress state.now) ≡ None)
         (λ instr. next_of (standing program.now progress state.now) ≡ Some instr.now) }
+    ensures running { IfSome result (λ instr. progress ≡ Running) }
     ensures room { IfSome result (λ instr. state.now.frames.current.at + 1 < 2 ^ 64) }
 {
     if let Progress::Over(_) = progress {
@@ -105,18 +107,17 @@ fn returned(state: &mut State) -> Progress
     }
 }
 
-/// Does an instruction, the one to come, and says how the run goes on.
-fn step_by(instr: &Instr, state: &mut State) -> Progress
-    requires { state.old.frames.current.at + 1 < 2 ^ 64 }
-    ensures { (program : Program) → standing program result state.new ≡ step_by (Some instr.now) program (seen state.old) }
+/// Does an instruction, the one to come, in a run that is not over. The progress is written only where it
+/// changes, which a step seldom does.
+fn step_by(instr: &Instr, state: &mut State, progress: &mut Progress)
+    requires running { progress.old ≡ Running }
+    requires room { state.old.frames.current.at + 1 < 2 ^ 64 }
+    ensures { (program : Program) → standing program progress.new state.new ≡ step_by (Some instr.now) program (seen state.old) }
 {
     match effect_of(&instr.op, state) {
-        Ok(Effect::Next) => {
-            state.frames.current.at += 1;
-            Progress::Running
-        }
-        Ok(Effect::Leave) => returned(state),
-        Err(fault) => Progress::Over(Some(fault)),
+        Ok(Effect::Next) => state.frames.current.at += 1,
+        Ok(Effect::Leave) => *progress = returned(state),
+        Err(fault) => *progress = Progress::Over(Some(fault)),
     }
 }
 
@@ -155,7 +156,7 @@ impl<'p> Machine<'p> {
             let Some(instr) = next_of(self.program, self.progress, &self.state) else {
                 break;
             };
-            self.progress = step_by(instr, &mut self.state);
+            step_by(instr, &mut self.state, &mut self.progress);
         }
         self.outcome()
     }

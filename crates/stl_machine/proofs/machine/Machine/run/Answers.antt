@@ -9,7 +9,7 @@ use Rattle.stl_tree.specs.StlRun.{steps_on}
 pub loop-preserved : goal.loop-preserved
 loop-preserved c =
     let before = c.loop.self-inside in
-    c.step_by-self-inside.ensures before.program.now
+    c.step_by.ensures before.program.now
     ∙ known_step before.program.now before.progress before.state c.in-Some.instr.now c.in-Some.ensures.instruction
     ∙ one_more c.loop.counter c.args.self.now (standing before.program.now before.progress before.state) c.loop.invariant
 
