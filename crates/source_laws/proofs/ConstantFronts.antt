@@ -17,7 +17,7 @@ use Rattle.stl_constants.proofs.ConstantLaws.{IsNoConstant, constant_all, consta
 use Rattle.stl_constants.proofs.Reading.{AllOf, alike, if_false, if_true, joined_sign, mapped, no_sign, no_word, or_no, or_this, other_sign, other_word, same_letters, sign_no_text, taken, word_no_text}
 use Rattle.stl_constants.proofs.Tables.{found_among, found_apart, found_passes, none_at, none_found}
 use Rattle.source_laws.proofs.Outs.{OutOf, as_out, fitting_out, or_left, or_out, weaker_out}
-use Rattle.stl_grammar.specs.Elements.{begins_with_sign}
+use Rattle.stl_statements.specs.Lists.{begins_with_sign}
 use Rattle.stl_grammar.specs.InitialForms.{LeavesOutBehind, LeavesOutValue, always, name, with_prefix, real}
 use Rattle.stl_places.proofs.Fronts.{FrontOf, as_front, fitting_front, or_front}
 use Rattle.stl_statements.specs.ConstantForms.{IsAmong, IsConstant, IsNumberIn, IsPrefixed, IsSigned}

@@ -19,10 +19,10 @@ use Rattle.source_laws.proofs.Outs.{OutOf, as_out, dropped, fitting_out, further
 use Rattle.stl_grammar.specs.DeclarationForms.{AreDims, HasEnd, IsBounds, IsDeclaration, BeginsDeclaration, IsType, LeavesOutDeclaration, LeavesOutType, elem_word}
 use Rattle.stl_grammar.specs.DeclarationForms as form
 use Rattle.stl_grammar.specs.Declarations.{alone, array_at, array_with, before_of, begins_with_number, bounds_at, closed_behind, closed_by, declaration_at, dims_at, has_number, in_array, is_user_type, left_out_type, one_word_at, pointer_types, small_or_other, small_type, time_types, type_at, type_kind, upper_at, upper_behind, wide_or_left_out, wide_type, with_array, with_initial}
-use Rattle.stl_grammar.specs.Elements.{begins_with_word}
+use Rattle.stl_statements.specs.Lists.{begins_with_word}
 use Rattle.stl_grammar.specs.InitialForms.{IsEnding, LeavesOutEnding}
 use Rattle.stl_grammar.specs.Initials.{ending_at}
-use Rattle.stl_grammar.specs.ListForms.{AreElements}
+use Rattle.stl_statements.specs.ListForms.{AreElements}
 use Rattle.stl_grammar.specs.declared.declaration.Innermost.{Innermost}
 use Rattle.stl_grammar.specs.declared.declaration.Innermost.TheVariants as inner
 use Rattle.stl_grammar.specs.Sections.{takes_dates}

@@ -15,11 +15,11 @@ use Rattle.stl_constants.proofs.Reading.{if_false, if_true, joined_sign, no_sign
 use Rattle.source_laws.proofs.ConstantFronts.{Stops, constant_before, constant_front, constant_left, constant_out, left_no_bracket, left_no_word, stop_by}
 use Rattle.source_laws.proofs.ListLaws.{Agrees, Closes, elements_front, elements_left, elements_out, elements_read}
 use Rattle.source_laws.proofs.Outs.{OutOf, and_then_left, and_then_out, as_out, fitting_out, further_out, or_left, or_out, weaker_out}
-use Rattle.stl_grammar.specs.Elements.{begins_with_sign}
+use Rattle.stl_statements.specs.Lists.{begins_with_sign}
 use Rattle.stl_grammar.specs.InitialForms.{IsEnding, IsInitial, IsLast, IsListItem, IsValue, LeavesOutEnding, LeavesOutInitial, LeavesOutItem, LeavesOutValue}
 use Rattle.stl_grammar.specs.InitialForms as form
-use Rattle.stl_grammar.specs.Initials.{alone, closed_value, count_of, ending_at, group_behind, initial, initial_at, initial_behind, item_of_list, last_value, list_at, once, path_value_at, pointer_of, times, truth_at, value_at, values_at}
-use Rattle.stl_grammar.specs.ListForms.{AreElements, LeavesOutElement}
+use Rattle.stl_grammar.specs.Initials.{alone, closed_value, count_of, ending_at, group_behind, initial, initial_at, initial_behind, item_of_list, last_value, list_at, once, path_value_at, pointer_of, times, value_at, values_at}
+use Rattle.stl_statements.specs.ListForms.{AreElements, LeavesOutElement}
 use Rattle.stl_grammar.specs.Sections.{takes_values}
 use Rattle.stl_grammar.specs.declared.declaration.Section.{Section}
 use Rattle.stl_places.proofs.Fronts.{FrontOf, and_then_front, and_then_read, as_front, further_front, further_read, or_front, refined}
@@ -30,7 +30,7 @@ use Rattle.stl_places.proofs.PlaceTokens.{begins_place}
 use Rattle.stl_places.proofs.PointerLaws.{pointer_constant_front, pointer_hashed}
 use Rattle.stl_statements.specs.ConstantForms.{IsConstant, IsPrefixed, IsSigned}
 use Rattle.stl_statements.specs.ConstantForms as constant_form
-use Rattle.stl_statements.specs.Constants.{begins_glued, constant, constant_at, name_behind, prefixes}
+use Rattle.stl_statements.specs.Constants.{begins_glued, constant, constant_at, name_behind, prefixes, truth_at}
 use Rattle.stl_statements.specs.PathForms.{IsPath}
 use Rattle.stl_statements.specs.Paths.{component_at, number_word, path_at, step_at}
 use Rattle.stl_statements.specs.Places.{bit_at, is_no_digit, letters_of, place_at}

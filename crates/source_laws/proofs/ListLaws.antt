@@ -8,8 +8,8 @@ use Rattle.s7_base.specs.declared.token.Token.{Token}
 use Rattle.stl_constants.proofs.Reading.{if_false, if_true, other_sign}
 use Rattle.source_laws.proofs.ConstantFronts.{IsStop, Stops, stop_by}
 use Rattle.source_laws.proofs.Outs.{OutOf, as_out, further_out, weaker_out}
-use Rattle.stl_grammar.specs.Elements.{elements_behind, elements_from, elements_with, prepended}
-use Rattle.stl_grammar.specs.ListForms.{AreElements, last, more, LeavesOutElement, here, behind}
+use Rattle.stl_statements.specs.Lists.{elements_behind, elements_from, elements_with, prepended}
+use Rattle.stl_statements.specs.ListForms.{AreElements, last, more, LeavesOutElement, here, behind}
 use Rattle.stl_places.proofs.Fronts.{FrontOf, as_front, further_front}
 use Rattle.stl_statements.specs.Readers.{further, read_as}
 use Rattle.stl_statements.specs.Words.{is_sign}

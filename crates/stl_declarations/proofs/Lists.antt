@@ -3,7 +3,7 @@ use Rattle.std.proofs.Common.{◌≡◌, ℕ, zero, suc, ◌+◌, Bool, true, fa
 use Rattle.std.specs.Prelude.{codes}
 use Rattle.s7_base.specs.declared.reason.Kind.{Kind}
 use Rattle.s7_base.specs.declared.token.Token.{Token}
-use Rattle.stl_grammar.specs.Elements.{elements_behind, elements_from, elements_with, prepended}
+use Rattle.stl_statements.specs.Lists.{elements_behind, elements_from, elements_with, prepended}
 use Rattle.stl_declarations.specs.inner.Lists.{next_of, read_further}
 use Rattle.stl_declarations.specs.declared.elements.Next.TheVariants.{End, More, Other}
 use Rattle.stl_statements.specs.Readers.{further, read_as}

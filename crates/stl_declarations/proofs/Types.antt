@@ -3,7 +3,7 @@ use Rattle.std.proofs.Common.{◌≡◌, ℕ, zero, suc, ◌-◌, ◌<◌, Bool,
 use Rattle.std.specs.Prelude.{codes}
 use Rattle.s7_base.specs.declared.token.Token.{Token}
 use Rattle.stl_grammar.specs.Declarations.{alone, array_at, array_with, one_word_at, opening_type, type_at}
-use Rattle.stl_grammar.specs.Elements.{begins_with_word}
+use Rattle.stl_statements.specs.Lists.{begins_with_word}
 use Rattle.stl_grammar.specs.declared.declaration.Innermost.TheVariants as inner
 use Rattle.stl_statements.specs.declared.mnemonic.Read.TheVariants.{Fits}
 

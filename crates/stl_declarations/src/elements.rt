@@ -1,6 +1,6 @@
 //! Lists with commas between their elements, and words and signs at the front of tokens.
 ghost use Rattle.std.specs.Prelude.{◌≡◌, ◌+◌, IfOk};
-ghost use Rattle.stl_grammar.specs.Elements.{begins_with_sign, begins_with_word};
+ghost use Rattle.stl_statements.specs.Lists.{begins_with_sign, begins_with_word};
 ghost use Rattle.stl_statements.specs.Readers.{further};
 ghost use Rattle.stl_declarations.specs.inner.Lists.{next_of};
 

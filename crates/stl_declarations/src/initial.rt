@@ -1,8 +1,8 @@
 //! Initial values.
 ghost use Rattle.std.specs.Prelude.{◌≡◌, ◌++◌, IfOk};
-ghost use Rattle.stl_grammar.specs.Initials.{alone, closed_value, count_of, ending_at, group_behind, initial, initial_at, initial_behind, item_of_list, last_value, list_at, once, path_value_at, pointer_of, pointer_value, times, truth, truth_at, value_at, values_at};
+ghost use Rattle.stl_grammar.specs.Initials.{alone, closed_value, count_of, ending_at, group_behind, initial, initial_at, initial_behind, item_of_list, last_value, list_at, once, path_value_at, pointer_of, pointer_value, times, value_at, values_at};
 ghost use Rattle.s7_base.specs.declared.word.Width.TheVariants as width;
-ghost use Rattle.stl_statements.specs.Constants.{constant, constant_at};
+ghost use Rattle.stl_statements.specs.Constants.{constant, constant_at, truth, truth_at};
 ghost use Rattle.stl_statements.specs.Pointers.{pointer_at};
 ghost use Rattle.stl_statements.specs.Readers.{further, or_else, read_as};
 

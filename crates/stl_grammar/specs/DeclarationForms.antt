@@ -5,7 +5,7 @@ use Rattle.s7_base.specs.declared.reason.Kind.TheVariants as kind
 use Rattle.s7_base.specs.declared.token.Token.{Token}
 use Rattle.stl_grammar.specs.Declarations.{alone, in_array, is_user_type, pointer_types, time_types, with_array, with_initial}
 use Rattle.stl_grammar.specs.InitialForms.{IsEnding, LeavesOutEnding}
-use Rattle.stl_grammar.specs.ListForms.{AreElements}
+use Rattle.stl_statements.specs.ListForms.{AreElements}
 use Rattle.stl_grammar.specs.declared.declaration.Innermost.{Innermost}
 use Rattle.stl_grammar.specs.declared.declaration.Innermost.TheVariants as inner
 use Rattle.stl_grammar.specs.Sections.{takes_dates}

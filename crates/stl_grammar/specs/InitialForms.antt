@@ -6,7 +6,7 @@ use Rattle.s7_base.specs.declared.reason.Line.{Line}
 use Rattle.s7_base.specs.declared.token.Token.{Token}
 use Rattle.s7_base.specs.declared.word.Width.TheVariants as width
 use Rattle.stl_grammar.specs.Initials.{count_of, initial, once, times}
-use Rattle.stl_grammar.specs.ListForms.{AreElements, LeavesOutElement}
+use Rattle.stl_statements.specs.ListForms.{AreElements, LeavesOutElement}
 use Rattle.stl_grammar.specs.Sections.{takes_values}
 use Rattle.stl_grammar.specs.declared.declaration.Section.{Section}
 use Rattle.stl_statements.specs.ConstantForms.{IsAmong, IsConstant}

@@ -3,14 +3,14 @@ use Rattle.std.specs.Prelude.{ℕ, Bool, ◌&&◌, nat_lt, if◌then◌else◌, 
 use Rattle.s7_base.specs.declared.reason.Line.{Line}
 use Rattle.s7_base.specs.declared.token.Token.{Token}
 use Rattle.s7_base.specs.declared.word.Width.TheVariants as width
-use Rattle.stl_grammar.specs.Elements.{begins_with_sign, elements_from}
+use Rattle.stl_statements.specs.Lists.{begins_with_sign, elements_from}
 use Rattle.stl_grammar.specs.Sections.{takes_values}
 use Rattle.stl_grammar.specs.declared.declaration.Section.{Section}
-use Rattle.stl_statements.specs.Constants.{constant, constant_at}
+use Rattle.stl_statements.specs.Constants.{constant, constant_at, truth_at}
 use Rattle.stl_statements.specs.Paths.{path_at}
 use Rattle.stl_statements.specs.Pointers.{is_in_reach, pointer_at, value_of}
 use Rattle.stl_statements.specs.Readers.{and_then, fitting, further, number_in, or_else, read_as}
-use Rattle.stl_statements.specs.Words.{is_sign, is_word}
+use Rattle.stl_statements.specs.Words.{is_sign}
 use Rattle.stl_statements.specs.declared.mnemonic.Read.{Read}
 use Rattle.stl_statements.specs.declared.mnemonic.Read.TheVariants.{Fits, No}
 use Rattle.stl_tree.specs.declared.raw.Constant.{Constant}
@@ -28,17 +28,6 @@ pointer_value p = if is_in_reach p then Some (constant width.Dword (value_of p))
 abbrev pub pointer_of : Read RawPointer → Read Constant
 pointer_of (Fits p size) = fitting size (pointer_value p)
 pointer_of other = No
-
-abbrev pub truth : Token → Option Constant
-truth word =
-    if is_word (codes "TRUE") word then Some (constant width.Bit 1)
-    else if is_word (codes "FALSE") word then Some (constant width.Bit 0)
-    else None
-
--- `TRUE` or `FALSE`
-abbrev pub truth_at : List Token → Read Constant
-truth_at [] = No
-truth_at (first ∷ rest) = fitting 1 (truth first)
 
 -- what stands where an initial value may stand
 abbrev pub value_at : List Token → Read Constant

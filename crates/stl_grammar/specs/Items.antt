@@ -16,7 +16,7 @@ use Rattle.stl_statements.specs.Words.{is_word, is_sign, is_quoted_kind, is_word
 use Rattle.stl_statements.specs.declared.mnemonic.Read.{Read}
 use Rattle.stl_statements.specs.declared.mnemonic.Read.TheVariants as read
 use Rattle.stl_grammar.specs.Declarations.{declaration_at, ends_level, has_number, is_user_type, left_of, levels_behind}
-use Rattle.stl_grammar.specs.Elements.{begins_with_sign, begins_with_word}
+use Rattle.stl_statements.specs.Lists.{begins_with_sign, begins_with_word}
 use Rattle.stl_grammar.specs.Initials.{ending_at, path_value_at}
 use Rattle.stl_grammar.specs.declared.declaration.Level.{Level}
 use Rattle.stl_grammar.specs.declared.declaration.Section.{Section}

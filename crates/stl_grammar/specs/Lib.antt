@@ -1,13 +1,11 @@
 pub mod AddressForms
 pub mod DeclarationForms
 pub mod Declarations
-pub mod Elements
 pub mod Grammar
 pub mod Headings
 pub mod InitialForms
 pub mod Initials
 pub mod Items
-pub mod ListForms
 pub mod RawPrograms
 pub mod Sections
 pub mod Symbols

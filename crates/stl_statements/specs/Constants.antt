@@ -271,6 +271,18 @@ up_to most (first ∷ rest) =
 abbrev pub number_at : ℕ → List Token → Read Constant
 number_at most tokens = or_else (marked_at left_out_prefixes tokens) (read_as plain (up_to most tokens))
 
+-- a truth value by its word
+abbrev pub truth : Token → Option Constant
+truth word =
+    if is_word (codes "TRUE") word then Some (constant width.Bit 1)
+    else if is_word (codes "FALSE") word then Some (constant width.Bit 0)
+    else None
+
+-- `TRUE` or `FALSE`
+abbrev pub truth_at : List Token → Read Constant
+truth_at [] = No
+truth_at (first ∷ rest) = fitting 1 (truth first)
+
 -- a constant of a width fits another one: a binary one each greater width, a plain number a double word
 abbrev pub fits_as : Width → Width → Constant → Bool
 fits_as width.Byte width.Byte c = true

@@ -1,6 +1,8 @@
 pub mod ConstantForms
 pub mod Constants
 pub mod InstructionForms
+pub mod ListForms
+pub mod Lists
 pub mod Mnemonics
 pub mod Numbers
 pub mod PathForms
