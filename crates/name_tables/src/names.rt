@@ -60,7 +60,7 @@ fn numbers_of_dbs(
 ) -> Result<Vec<Result<u32, Reason>>, NoMemory>
     ensures { IfOk result (λ numbers. numbers.items ≡ db_numbers symbols.now dbs.now) }
 {
-    let mut numbers = Vec::new(alloc);
+    let mut numbers = Vec::with_capacity(alloc, dbs.len())?;
     for d in dbs {
         put_number(alloc, symbols, BlockKind::Db, &d.name, &mut numbers)?;
     }
@@ -75,7 +75,7 @@ pub fn numbers_of_blocks(
 ) -> Result<Vec<Result<u32, Reason>>, NoMemory>
     ensures { IfOk result (λ numbers. numbers.items ≡ block_numbers symbols.now blocks.now) }
 {
-    let mut numbers = Vec::new(alloc);
+    let mut numbers = Vec::with_capacity(alloc, blocks.len())?;
     for raw in blocks {
         put_number(alloc, symbols, raw.kind, &raw.name, &mut numbers)?;
     }

@@ -74,7 +74,7 @@ fn places_of(
 ) -> Result<IndexMap<u32, usize>, NoMemory>
     ensures { IfOk result (λ places. AreNumberPlaces numbers.now places.entries) }
 {
-    let mut places = IndexMap::new(alloc);
+    let mut places = IndexMap::with_capacity(alloc, numbers.len())?;
     for place in 0..numbers.len() {
         put_place(&mut places, numbers[place], place)?;
     }

@@ -39,7 +39,7 @@ impl<'t> Model for Symbols<'t> {
 fn places_of(alloc: Global, lines: &[SymbolLine]) -> Result<IndexMap<Vec<u8>, usize>, NoMemory>
     ensures { IfOk result (λ places. AreNamePlaces lines.now (map (λ e. (e.0.items, e.1)) places.entries)) }
 {
-    let mut places = IndexMap::new(alloc);
+    let mut places = IndexMap::with_capacity(alloc, lines.len())?;
     for place in 0..lines.len() {
         let line = &lines[place];
         let key = key_of(alloc, line.name.as_slice())?;

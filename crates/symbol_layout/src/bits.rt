@@ -58,7 +58,7 @@ fn put_zeros(bits: &mut Vec<bool>, count: u64) -> Result<(), NoMemory>
 pub fn zeros(alloc: Global, count: u64) -> Result<Vec<bool>, NoMemory>
     ensures { IfOk result (λ bits. bits.items ≡ zeros count) }
 {
-    let mut bits = Vec::new(alloc);
+    let mut bits = Vec::with_capacity(alloc, count as usize)?;
     put_zeros(&mut bits, count)?;
     Ok(bits)
 }
@@ -123,7 +123,8 @@ pub fn value_bits(alloc: Global, width: Width, values: &[Constant]) -> Result<Ve
     match values {
         [] => zeros(alloc, extent_of_width(width).bits),
         [constant, ..] => {
-            let mut bits = Vec::new(alloc);
+            let room = extent_of_width(width).bits as usize;
+            let mut bits = Vec::with_capacity(alloc, room)?;
             put_number(&mut bits, width, value_in(width, *constant))?;
             Ok(bits)
         }

@@ -25,13 +25,13 @@ impl Model for Names {
 }
 
 impl Names {
-    /// No names.
-    pub fn new(alloc: Global) -> Names
-        ensures { result ≡ [] }
+    /// No names, with room for so many.
+    pub fn with_capacity(alloc: Global, count: usize) -> Result<Names, NoMemory>
+        ensures { IfOk result (λ names. names ≡ []) }
     {
-        Names {
-            keys: IndexSet::new(alloc),
-        }
+        Ok(Names {
+            keys: IndexSet::with_capacity(alloc, count)?,
+        })
     }
 
     /// Puts a name to those of the scope, and says whether it was new.

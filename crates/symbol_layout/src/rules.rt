@@ -117,7 +117,7 @@ pub fn judge_scope(
 ) -> Result<(), NoMemory>
     ensures { OnOk result (breaks.new ≡ breaks.old ++ scope_breaks [] decls.now) }
 {
-    let mut names = Names::new(alloc);
+    let mut names = Names::with_capacity(alloc, decls.len())?;
     for d in decls {
         judge_name(alloc, &mut names, d, breaks)?;
         judge_declaration(alloc, d, breaks)?;
