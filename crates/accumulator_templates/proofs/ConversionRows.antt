@@ -1,10 +1,11 @@
 -- ITD, INVI, INVD, CAW and CAD do their rows.
-use Rattle.std.proofs.Common.{◌≡◌, ℕ, ◌+◌, ◌-◌, ◌*◌, ◌/◌, ◌%◌, ◌^◌, ◌<◌, List, [], Ok, refl, ap, ◌∙◌, arith}
+use Rattle.std.proofs.Common.{◌≡◌, ℕ, ◌+◌, ◌-◌, ◌*◌, ◌/◌, ◌%◌, ◌^◌, ◌<◌, List, [], Ok, refl, sym, ap, subst, ◌∙◌, arith}
 use Rattle.std.specs.Prelude.{ℤ}
 use Rattle.s7_base.specs.SignedNumbers.{number, pattern}
 use Rattle.s7_base.specs.declared.register.Reg.TheVariants as reg
 use Rattle.s7_base.specs.declared.word.Width.TheVariants as width
-use Rattle.stl_tree.specs.Conversions.{dword_reversed, extended, inverted, word_reversed}
+use Rattle.stl_tree.proofs.RowForms.{dword_by_bytes, word_by_bytes}
+use Rattle.stl_tree.specs.Conversions.{dword_reversed, extended, inverted, replaced, word_reversed}
 use Rattle.stl_tree.specs.Registers.{RegisterValues}
 use Rattle.st_tree.specs.State.{State}
 use Rattle.st_tree.specs.Value.{value}
@@ -92,8 +93,9 @@ module _ (g : List Located) (s : State) (used : ℕ) (r : RegisterValues) (sta :
   caw_row =
       let a : r.accu1 < 2 ^ 32 = range.accu1 in
       let w : turned < 2 ^ 16 = omega arith in
-      one_set g s used r sta range (with_low_of turned_value) (word_reversed r).accu1 (omega arith)
-      (low_set turned_value turned w caw_worth)
+      subst (λ after. IsRow g s used caw_of r after sta) (sym (word_by_bytes r))
+      (one_set g s used r sta range (with_low_of turned_value) (replaced width.Word turned r).accu1 (omega arith)
+      (low_set turned_value turned w caw_worth))
 
   -- CAD, byte by byte
 
@@ -126,12 +128,17 @@ module _ (g : List Located) (s : State) (used : ℕ) (r : RegisterValues) (sta :
       high 16 (r.accu1 / 2 ^ 16 % 2 ^ 8 * 2 ^ 8) (omega arith) (omega arith) two_bytes third
       ∙ ap (λ (n : ℕ). Ok (dword n)) same
 
+  abbrev all_turned : ℕ
+  all_turned = r.accu1 % 2 ^ 8 * 2 ^ 24 + r.accu1 / 2 ^ 8 % 2 ^ 8 * 2 ^ 16 + r.accu1 / 2 ^ 16 % 2 ^ 8 * 2 ^ 8 + r.accu1 / 2 ^ 24 % 2 ^ 8
+
   pub cad_row : IsRow g s used cad_of r (dword_reversed r) sta
   cad_row =
       let a : r.accu1 < 2 ^ 32 = range.accu1 in
       let high : ℕ = (r.accu1 % 2 ^ 8 * 2 ^ 8 + r.accu1 / 2 ^ 8 % 2 ^ 8) * 2 ^ 8 + r.accu1 / 2 ^ 16 % 2 ^ 8 in
-      let same : high * 2 ^ 8 + r.accu1 / 2 ^ 24 % 2 ^ 8 ≡ (dword_reversed r).accu1 = omega arith in
-      one_set g s used r sta range reversed_value (dword_reversed r).accu1 (omega arith)
+      let after : RegisterValues = replaced width.Dword all_turned r in
+      let same : high * 2 ^ 8 + r.accu1 / 2 ^ 24 % 2 ^ 8 ≡ after.accu1 = omega arith in
+      subst (λ after. IsRow g s used cad_of r after sta) (sym (dword_by_bytes r))
+      (one_set g s used r sta range reversed_value after.accu1 (omega arith)
       (high_first g before three_reversed (byte_above_of 24)
       high 8 (r.accu1 / 2 ^ 24 % 2 ^ 8) (omega arith) (omega arith) three_bytes fourth
-      ∙ ap (λ (n : ℕ). Ok (dword n)) same)
+      ∙ ap (λ (n : ℕ). Ok (dword n)) same))

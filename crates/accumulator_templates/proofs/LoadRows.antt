@@ -2,7 +2,7 @@
 use Rattle.std.proofs.Common.{◌≡◌, ℕ, ◌+◌, ◌%◌, ◌^◌, ◌<◌, ◌≤◌, pos, Bool, true, false, List, [], ◌∷◌, length, Result, Ok, Err, refl, ap, ◌∙◌, arith}
 use Rattle.std.specs.Prelude.{ℤ}
 use Rattle.std.specs.Int.{from_bool}
-use Rattle.memory_areas.specs.Access.{and_then, read_bit, read_byte, read_dword, read_word}
+use Rattle.memory_areas.specs.Access.{and_then, bits_wide, read_bit, read_byte, read_dword, read_word}
 use Rattle.memory_areas.specs.Areas.{Contents}
 use Rattle.memory_areas.specs.declared.place.Place.{Place}
 use Rattle.s7_base.specs.declared.outcome.Fault.{Fault}
@@ -10,7 +10,7 @@ use Rattle.s7_base.specs.declared.register.Reg.TheVariants as reg
 use Rattle.s7_base.specs.declared.word.Width.{Width}
 use Rattle.s7_base.specs.declared.word.Width.TheVariants as width
 use Rattle.stl_tree.specs.Accepted.{IsOperand}
-use Rattle.stl_tree.specs.Accumulators.{accu_pushed, bits_wide, loaded, read_number}
+use Rattle.stl_tree.specs.Accumulators.{accu_pushed, loaded, read_number}
 use Rattle.stl_tree.specs.Instructions.{loaded_from, on_registers}
 use Rattle.stl_tree.specs.Now.{Activation, Now, with_value}
 use Rattle.stl_tree.specs.declared.program.LoadArg.TheVariants as arg

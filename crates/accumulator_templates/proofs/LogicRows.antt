@@ -10,7 +10,8 @@ use Rattle.s7_base.specs.declared.register.Reg.TheVariants as reg
 use Rattle.s7_base.specs.declared.word.Width.TheVariants as width
 use Rattle.status_word.specs.Results.{after_logic}
 use Rattle.status_word.specs.StatusBits.{StatusBits}
-use Rattle.stl_tree.specs.Accumulators.{bits_wide, part, with_part}
+use Rattle.memory_areas.specs.Access.{bits_wide}
+use Rattle.stl_tree.specs.Accumulators.{part, with_part}
 use Rattle.stl_tree.specs.Reads.{is_fixed}
 use Rattle.stl_tree.specs.Registers.{RegisterValues}
 use Rattle.stl_tree.specs.WordLogic.{after_logic_row, combined, logic_result, other_of as other_number, width_of}

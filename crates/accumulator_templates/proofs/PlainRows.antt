@@ -9,7 +9,7 @@ use Rattle.s7_base.specs.declared.register.Reg.{Reg}
 use Rattle.s7_base.specs.declared.register.Reg.TheVariants as reg
 use Rattle.s7_base.specs.declared.word.Width.{Width}
 use Rattle.s7_base.specs.declared.word.Width.TheVariants as width
-use Rattle.stl_tree.specs.Accumulators.{bits_wide}
+use Rattle.memory_areas.specs.Access.{bits_wide}
 use Rattle.stl_tree.specs.Accepted.{HasOperand, IsOfWidth, IsOpenArg}
 use Rattle.stl_tree.specs.Reads.{is_fixed}
 use Rattle.stl_tree.specs.WordLogic.{width_of}

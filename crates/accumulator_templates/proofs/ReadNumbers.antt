@@ -3,14 +3,13 @@ use Rattle.std.proofs.Common.{◌≡◌, ℕ, zero, suc, ◌+◌, ◌^◌, ◌<�
 use Rattle.std.specs.Prelude.{All}
 use Rattle.std.specs.Int.{from_bool}
 use Rattle.std.proofs.lemmas.List.Elements.{All-head, All-tail}
-use Rattle.memory_areas.specs.Access.{aimed, and_then, bytes_there, fault_of, read_bit, unless}
+use Rattle.memory_areas.specs.Access.{HoldsBytes, aimed, and_then, bits_wide, bytes_there, fault_of, read_bit, unless}
 use Rattle.memory_areas.specs.Areas.{Contents, byte_at, dword_at, word_at}
 use Rattle.memory_areas.specs.declared.place.Place.{Place}
 use Rattle.s7_base.specs.declared.outcome.Fault.{Fault}
 use Rattle.s7_base.specs.declared.word.Width.{Width}
 use Rattle.s7_base.specs.declared.word.Width.TheVariants as width
-use Rattle.stl_tree.specs.Accumulators.{bits_wide, read_number}
-use Rattle.st_tree.specs.Fitting.{HoldsBytes}
+use Rattle.stl_tree.specs.Accumulators.{read_number}
 
 abbrev IsByte : ℕ → Type 0
 IsByte b = b < 256

@@ -1,12 +1,13 @@
 -- + n, + L#n, INC and DEC do their rows.
-use Rattle.std.proofs.Common.{◌≡◌, ℕ, ◌%◌, ◌^◌, ◌<◌, pos, Bool, true, false, if◌then◌else◌, List, [], ◌∷◌, Ok, refl, sym, ap, ◌∙◌, arith}
+use Rattle.std.proofs.Common.{◌≡◌, ℕ, ◌%◌, ◌^◌, ◌<◌, pos, Bool, true, false, if◌then◌else◌, List, [], ◌∷◌, Ok, refl, sym, ap, subst, ◌∙◌, arith}
 use Rattle.std.specs.Prelude.{ℤ, ◌+ℤ◌, ◌-ℤ◌}
 use Rattle.std.specs.Ordering.{int_eq}
 use Rattle.std.proofs.lemmas.Int.{ints}
 use Rattle.s7_base.specs.SignedNumbers.{number, pattern}
 use Rattle.s7_base.specs.declared.register.Reg.TheVariants as reg
 use Rattle.s7_base.specs.declared.word.Width.TheVariants as width
-use Rattle.stl_tree.specs.Accumulators.{decreased, increased, signed_part, with_number}
+use Rattle.stl_tree.proofs.RowForms.{down_in_byte, up_in_byte}
+use Rattle.stl_tree.specs.Accumulators.{counted_down, counted_up, increased, signed_part, with_number}
 use Rattle.stl_tree.specs.Registers.{RegisterValues}
 use Rattle.st_tree.specs.State.{State}
 use Rattle.st_tree.specs.Value.{value}
@@ -67,22 +68,28 @@ module _ (g : List Located) (s : State) (used : ℕ) (r : RegisterValues) (sta :
       ≡ Ok (byte (pattern 8 (number 8 (r.accu1 % 2 ^ 8) +ℤ pos n)))
   inc_sum n = simp (parts, byte_sum)
 
-  pub inc_row : (n : ℕ) → IsRow g s used (inc_of n) r (increased width.Byte (pos n) r) sta
-  inc_row n =
+  signed_inc_row : (n : ℕ) → IsRow g s used (inc_of n) r (increased width.Byte (pos n) r) sta
+  signed_inc_row n =
       let a : r.accu1 < 2 ^ 32 = range.accu1 in
       let w : pattern 8 (number 8 (r.accu1 % 2 ^ 8) +ℤ pos n) < 2 ^ 8 = pattern_below_8 (number 8 (r.accu1 % 2 ^ 8) +ℤ pos n) in
       unless_zero_row (pos n) (with_byte_of (sum_of binary.Add type.Int type.Byte (pos n)))
       (λ (m : ℤ). with_number width.Byte r.accu1 (signed_part width.Byte r.accu1 +ℤ m)) (nothing_added_8 r.accu1) (omega arith)
       (byte_worth g s used [] (known r sta) r.accu1 refl a (sum_of binary.Add type.Int type.Byte (pos n)) (pattern 8 (number 8 (r.accu1 % 2 ^ 8) +ℤ pos n)) w (inc_sum n))
 
+  pub inc_row : (n : ℕ) → IsRow g s used (inc_of n) r (counted_up n r) sta
+  inc_row n = subst (λ after. IsRow g s used (inc_of n) r after sta) (sym (up_in_byte n r)) (signed_inc_row n)
+
   dec_difference : (n : ℕ) → value g (sum_of binary.Sub type.Int type.Byte (pos n)) (stage s used [] (known r sta))
       ≡ Ok (byte (pattern 8 (number 8 (r.accu1 % 2 ^ 8) -ℤ pos n)))
   dec_difference n = simp (parts, byte_difference)
 
-  pub dec_row : (n : ℕ) → IsRow g s used (dec_of n) r (decreased width.Byte (pos n) r) sta
-  dec_row n =
+  signed_dec_row : (n : ℕ) → IsRow g s used (dec_of n) r (record r { accu1 = with_number width.Byte r.accu1 (signed_part width.Byte r.accu1 -ℤ pos n) }) sta
+  signed_dec_row n =
       let a : r.accu1 < 2 ^ 32 = range.accu1 in
       let w : pattern 8 (number 8 (r.accu1 % 2 ^ 8) -ℤ pos n) < 2 ^ 8 = pattern_below_8 (number 8 (r.accu1 % 2 ^ 8) -ℤ pos n) in
       unless_zero_row (pos n) (with_byte_of (sum_of binary.Sub type.Int type.Byte (pos n)))
       (λ (m : ℤ). with_number width.Byte r.accu1 (signed_part width.Byte r.accu1 -ℤ m)) (nothing_taken_8 r.accu1) (omega arith)
       (byte_worth g s used [] (known r sta) r.accu1 refl a (sum_of binary.Sub type.Int type.Byte (pos n)) (pattern 8 (number 8 (r.accu1 % 2 ^ 8) -ℤ pos n)) w (dec_difference n))
+
+  pub dec_row : (n : ℕ) → IsRow g s used (dec_of n) r (counted_down n r) sta
+  dec_row n = subst (λ after. IsRow g s used (dec_of n) r after sta) (sym (down_in_byte n r)) (signed_dec_row n)

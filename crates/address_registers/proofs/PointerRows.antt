@@ -4,7 +4,7 @@ use Rattle.std.specs.Prelude.{neg_ℤ}
 use Rattle.s7_base.specs.declared.outcome.Fault.TheVariants.{AreaCode}
 use Rattle.memory_areas.specs.Pointers.{bit_of_pointer, byte_of_pointer, code_of_pointer, moved, with_offset}
 use Rattle.memory_areas.specs.declared.place.Area.TheVariants as area
-use Rattle.address_registers.specs.Pointers.{resolved}
+use Rattle.memory_areas.specs.Access.{place_aimed, pointed}
 
 -- P#M 10.3
 
@@ -61,32 +61,32 @@ least = refl
 
 -- the areas of the codes; no other code has one
 
-inputs : resolved 0x81000053 20 30 4 ≡ Ok (record { area = area.I; byte = 10; bit = 3 })
+inputs : place_aimed (pointed 0x81000053 20 30 4) ≡ Ok (record { area = area.I; byte = 10; bit = 3 })
 inputs = refl
 
-outputs : resolved 0x82000053 20 30 4 ≡ Ok (record { area = area.Q; byte = 10; bit = 3 })
+outputs : place_aimed (pointed 0x82000053 20 30 4) ≡ Ok (record { area = area.Q; byte = 10; bit = 3 })
 outputs = refl
 
-markers : resolved 0x83000053 20 30 4 ≡ Ok (record { area = area.M; byte = 10; bit = 3 })
+markers : place_aimed (pointed 0x83000053 20 30 4) ≡ Ok (record { area = area.M; byte = 10; bit = 3 })
 markers = refl
 
-db : resolved 0x84000053 20 30 4 ≡ Ok (record { area = area.Db 20; byte = 10; bit = 3 })
+db : place_aimed (pointed 0x84000053 20 30 4) ≡ Ok (record { area = area.Db 20; byte = 10; bit = 3 })
 db = refl
 
-di : resolved 0x85000053 20 30 4 ≡ Ok (record { area = area.Db 30; byte = 10; bit = 3 })
+di : place_aimed (pointed 0x85000053 20 30 4) ≡ Ok (record { area = area.Db 30; byte = 10; bit = 3 })
 di = refl
 
-local : resolved 0x86000053 20 30 4 ≡ Ok (record { area = area.Local 4; byte = 10; bit = 3 })
+local : place_aimed (pointed 0x86000053 20 30 4) ≡ Ok (record { area = area.Local 4; byte = 10; bit = 3 })
 local = refl
 
-closed : resolved 0x84000000 0 30 4 ≡ Ok (record { area = area.Db 0; byte = 0; bit = 0 })
+closed : place_aimed (pointed 0x84000000 0 30 4) ≡ Ok (record { area = area.Db 0; byte = 0; bit = 0 })
 closed = refl
 
-below : resolved 0x80000053 20 30 4 ≡ Err AreaCode
+below : place_aimed (pointed 0x80000053 20 30 4) ≡ Err AreaCode
 below = refl
 
-above : resolved 0x87000053 20 30 4 ≡ Err AreaCode
+above : place_aimed (pointed 0x87000053 20 30 4) ≡ Err AreaCode
 above = refl
 
-none : resolved 0x00000053 20 30 4 ≡ Err AreaCode
+none : place_aimed (pointed 0x00000053 20 30 4) ≡ Err AreaCode
 none = refl

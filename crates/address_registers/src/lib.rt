@@ -2,7 +2,7 @@
 //! one names.
 //!
 //! Stands on `s7_base` and `memory_areas`, whose `Pointers` has the parts of a pointer and what the additions
-//! give, and whose `Access` the areas of the codes. `specs/` has the place that a pointer names.
+//! give, and whose `Access` the areas of the codes and the place that a pointer names.
 #![tactic(auto)]
 
 pub use place::resolve;

@@ -6,7 +6,8 @@ use Rattle.s7_base.specs.declared.outcome.Fault.{Fault}
 use Rattle.s7_base.specs.declared.register.Reg.TheVariants as reg
 use Rattle.s7_base.specs.declared.word.Width.{Width}
 use Rattle.s7_base.specs.declared.word.Width.TheVariants as width
-use Rattle.stl_tree.specs.Accumulators.{bits_wide, signed_part, with_number}
+use Rattle.memory_areas.specs.Access.{bits_wide}
+use Rattle.stl_tree.specs.Accumulators.{signed_part, with_number}
 use Rattle.stl_tree.specs.Arithmetic.{result_in}
 use Rattle.stl_tree.specs.Registers.{RegisterValues}
 use Rattle.st_tree.specs.State.{State}

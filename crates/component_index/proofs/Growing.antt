@@ -1,18 +1,16 @@
 -- Scopes that stand in a list stay what they are when more are put behind them.
-use Rattle.std.proofs.Common.{◌≡◌, ◌<◌, ◌+◌, ℕ, zero, suc, List, [], ◌∷◌, ◌++◌, length, take, get_or, slice_get, Option, Some, None, option_map, Result, Ok, Err, refl, sym, ap, subst, ◌∙◌}
+use Rattle.std.proofs.Common.{◌≡◌, ℕ, zero, suc, List, [], ◌∷◌, ◌++◌, length, slice_get, Option, Some, None, option_map, Result, Ok, Err, refl, sym, ap, subst, ◌∙◌}
 use Rattle.std.proofs.Math.Logic.{◌⊎◌, inl, inr}
-use Rattle.std.proofs.lemmas.List.{take_more}
 use Rattle.std.specs.Prelude.{IfOk, OnOk}
-use Rattle.stl_rules.specs.Extents.{end_behind, end_of, end_of_all, extent_of, place_behind}
+use Rattle.stl_rules.specs.DeclarationRules.{key_of}
+use Rattle.stl_rules.specs.Paths.{Placed, named_behind}
 use Rattle.stl_tree.specs.declared.raw.Declaration.{Declaration}
 use Rattle.stl_tree.specs.declared.raw.DeclType.{DeclType}
-use Rattle.symbol_layout.proofs.Capped.{capped_end, capped_place, end_of_kept}
-use Rattle.symbol_layout.proofs.Kept.{is_aligned}
-use Rattle.symbol_layout.specs.Kept.{capped}
+use Rattle.symbol_layout.specs.Structs.{AreBits, struct_in}
 use Rattle.component_index.specs.declared.scope.Entry.{Entry}
 use Rattle.component_index.specs.declared.scope.Inner.{Inner}
 use Rattle.component_index.specs.declared.scope.Scope.{Scope}
-use Rattle.component_index.specs.inner.Scopes.{AreBits, AreEntries, AreScopes, Grows, Held, IsEntry, IsInner, IsOf, IsScope, IsStruct, held, struct_in}
+use Rattle.component_index.specs.inner.Scopes.{AreScopes, Entries, Grows, Held, IsInner, IsOf, IsScope, IsStruct, IsTable, LeadsTo, entry_of, held, table_of}
 
 -- Lists
 
@@ -44,12 +42,12 @@ struct_stays a b s n (Some parts) h = s n parts h
 pub inner_stays : (a b : Held) → Stays a b → (inner : Inner) (ty : DeclType) → IsInner a inner ty → IsInner b inner ty
 inner_stays a b s inner ty h = (struct_stays a b s inner.scope (struct_in ty) h.0, h.1)
 
-pub entries_stay : (a b : Held) → Stays a b → (end : ℕ) (decls : List Declaration) (es : List Entry) → AreEntries a end decls es → AreEntries b end decls es
-entries_stay a b s end [] [] h = tt
-entries_stay a b s end [] (e ∷ es) h = h
-entries_stay a b s end (d ∷ decls) [] h = h
-entries_stay a b s end (d ∷ decls) (e ∷ es) h =
-    ((h.0.0, h.0.1, inner_stays a b s e.inner d.ty h.0.2), entries_stay a b s (end_of end d) decls es h.1)
+pub leads_stay : (a b : Held) → Stays a b → (real : Option Placed) (found : Option Entry) → LeadsTo a real found → LeadsTo b real found
+leads_stay a b s real None h = (h.0, tt)
+leads_stay a b s real (Some e) h = (h.0, (h.1.0, h.1.1, inner_stays a b s e.inner e.ty.now h.1.2))
+
+pub table_stays : (a b : Held) → Stays a b → (real : List ℕ → Option Placed) (entries : Entries) → IsTable a real entries → IsTable b real entries
+table_stays a b s real entries h name = leads_stay a b s (real name) (entry_of (key_of name) entries) (h name)
 
 -- One scope more
 
@@ -65,7 +63,7 @@ pub pushed_held : (scopes : List Scope) (s : Scope) → held (scopes ++ s ∷ []
 pushed_held scopes s = ap (option_map (λ (x : Scope). x.decls.now)) (is_last scopes s)
 
 scope_stays : (a b : Held) → Stays a b → (s : Scope) → IsScope a s → IsScope b s
-scope_stays a b t s h = (h.0, entries_stay a b t 0 s.decls.now s.entries.items h.1)
+scope_stays a b t s h = table_stays a b t (named_behind 0 s.decls.now) (table_of s.names) h
 
 pub pushed_scopes : (scopes : List Scope) (s : Scope) → AreScopes scopes → IsScope (held scopes) s → AreScopes (scopes ++ s ∷ [])
 pushed_scopes scopes s all one n x h = by_place (either_there scopes s x n h)
@@ -97,40 +95,3 @@ if_ok P Q (Err e) f h = tt
 pub on_ok : {X E : Type 0} (P Q : Type 0) (r : Result X E) → (P → Q) → OnOk r P → OnOk r Q
 on_ok P Q (Ok x) f h = f h
 on_ok P Q (Err e) f h = tt
-
--- One declaration more
-
-entries_more : (a : Held) (end : ℕ) (decls : List Declaration) (es : List Entry) (d : Declaration) (e : Entry)
-    → AreEntries a end decls es → IsEntry a (end_of_all end decls) d e → AreEntries a end (decls ++ d ∷ []) (es ++ e ∷ [])
-entries_more a end [] [] d e h one = (one, tt)
-entries_more a end [] (x ∷ es) d e h one = absurd h
-entries_more a end (y ∷ decls) [] d e h one = absurd h
-entries_more a end (y ∷ decls) (x ∷ es) d e h one = (h.0, entries_more a (end_of end y) decls es d e h.1 one)
-
-end_more : (end : ℕ) (decls : List Declaration) (d : Declaration) → end_of_all end (decls ++ d ∷ []) ≡ end_of (end_of_all end decls) d
-end_more end [] d = refl
-end_more end (y ∷ decls) d = end_more (end_of end y) decls d
-
-module _ (decls : List Declaration) (i : ℕ) (d : Declaration) (before : i < length decls) (item : d ≡ get_or decls i d) (end : ℕ)
-    (is : end ≡ capped (end_of_all 0 (take i decls))) where
-  more : take i decls ++ d ∷ [] ≡ take (i + 1) decls
-  more = ap (λ (y : Declaration). take i decls ++ y ∷ []) item ∙ sym (take_more decls i d before)
-
-  pub end_turn : (next : ℕ) → next ≡ capped (end_behind end (extent_of d.ty)) → next ≡ capped (end_of_all 0 (take (i + 1) decls))
-  end_turn next e =
-      let real : ℕ = end_of_all 0 (take i decls) in
-      e ∙ ap (λ n. capped (end_behind n (extent_of d.ty))) is
-      ∙ sym (end_of_kept (capped real) (extent_of d.ty))
-      ∙ capped_end real (extent_of d.ty) (is_aligned d.ty)
-      ∙ ap capped (sym (end_more 0 (take i decls) d))
-      ∙ ap (λ ds. capped (end_of_all 0 ds)) more
-
-  pub entry_turn : (a b : Held) → Stays a b → (es : List Entry) (e : Entry) → AreEntries a 0 (take i decls) es
-      → e.place ≡ place_behind end (extent_of d.ty) → e.ty.now ≡ d.ty → IsInner b e.inner d.ty
-      → AreEntries b 0 (take (i + 1) decls) (es ++ e ∷ [])
-  entry_turn a b stays es e h place ty inner =
-      let real : ℕ = end_of_all 0 (take i decls) in
-      let kept : e.place ≡ capped (place_behind real (extent_of d.ty))
-      = place ∙ ap (λ n. place_behind n (extent_of d.ty)) is ∙ sym (capped_place real (extent_of d.ty).alignment (is_aligned d.ty)) in
-      subst (λ ds. AreEntries b 0 ds (es ++ e ∷ [])) more
-      (entries_more b 0 (take i decls) es d e (entries_stay a b stays 0 (take i decls) es h) (kept, ty, inner))

@@ -1,5 +1,5 @@
 pub mod Aligned
 pub mod Finding
 pub mod Growing
-pub mod Inners
 pub mod Stepping
+pub mod Tables

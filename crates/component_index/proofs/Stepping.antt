@@ -1,7 +1,6 @@
 -- What a name finds in a scope, and what a step leads to.
-use Rattle.std.proofs.Common.{◌≡◌, ℕ, ℤ, suc, ◌+◌, ◌*◌, ◌%◌, ◌^◌, ◌≤◌, List, [], ◌∷◌, Bool, true, false, cond, slice_get, Option, Some, None, refl, sym, ap, ◌∙◌, subst, arith}
+use Rattle.std.proofs.Common.{◌≡◌, ℕ, ℤ, ◌+◌, ◌*◌, ◌%◌, ◌^◌, ◌≤◌, List, slice_get, Option, Some, None, refl, sym, ap, ◌∙◌, subst, arith}
 use Rattle.std.specs.Prelude.{IfSome, option_and_then, option_map}
-use Rattle.s7_base.specs.Tokens.{is_same_word}
 use Rattle.stl_tree.specs.declared.raw.Declaration.{Declaration}
 use Rattle.stl_tree.specs.declared.raw.DeclType.{DeclType}
 use Rattle.stl_tree.specs.declared.raw.DeclType.TheOpen as T
@@ -9,7 +8,7 @@ use Rattle.stl_tree.specs.declared.raw.DeclType.TheVariants as type
 use Rattle.stl_tree.specs.declared.raw.PathStep.{PathStep}
 use Rattle.stl_tree.specs.declared.raw.PathStep.TheVariants as step
 use Rattle.stl_rules.specs.DeclarationRules.{key_of}
-use Rattle.stl_rules.specs.Extents.{elements_in, end_of, end_of_all, extent_of, filled, place_behind}
+use Rattle.stl_rules.specs.Extents.{elements_in, end_of_all, extent_of, filled}
 use Rattle.stl_rules.specs.declared.laid.Extent.{Extent}
 use Rattle.stl_rules.specs.Paths.{Placed, element_at, named_behind, stepped, stepped_in}
 use Rattle.stl_rules.proofs.Ends.{whole}
@@ -17,44 +16,11 @@ use Rattle.stl_rules.proofs.Equations.{extent_array, extent_struct, step_array, 
 use Rattle.symbol_layout.specs.Kept.{capped, capped_placed}
 use Rattle.component_index.specs.declared.scope.Entry.{Entry}
 use Rattle.component_index.specs.declared.scope.Scope.{Scope}
-use Rattle.first_places.specs.Places.{first_place}
-use Rattle.first_places.proofs.Firsts.{same_words}
-use Rattle.component_index.specs.inner.Places.{has_key}
-use Rattle.component_index.specs.inner.Scopes.{AreEntries, AreScopes, Held, IsAt, IsInner, IsScope, IsStruct, LeadsTo, entry_at, entry_in, held, moved, placed, struct_in}
-use Rattle.component_index.proofs.Aligned.{IsWhole, at_multiple, both_multiples, element_whole, kept_whole, named_moved}
+use Rattle.symbol_layout.specs.Structs.{struct_in}
+use Rattle.symbol_layout.proofs.Structs.{inner_array, inner_struct}
+use Rattle.component_index.specs.inner.Scopes.{AreScopes, Held, IsAt, IsInner, IsScope, IsStruct, LeadsTo, entry_at, entry_in, held, moved, placed}
+use Rattle.component_index.proofs.Aligned.{IsWhole, both_multiples, element_whole, kept_whole, named_moved}
 use Rattle.component_index.proofs.Growing.{same_inner}
-use Rattle.component_index.proofs.Inners.{inner_array, inner_struct}
-
--- what is found in a scope from place 0 on
-abbrev pub Named : Held → Option Placed → Option Entry → Type 0
-Named all None None = Unit {0}
-Named all None (Some e) = ⊥
-Named all (Some x) None = ⊥
-Named all (Some x) (Some e) = (e.place ≡ capped x.0) × (e.ty.now ≡ x.1) × IsInner all e.inner x.1 × IsWhole x.0 x.1
-
-pub named_found : (all : Held) (decls : List Declaration) (es : List Entry) (end : ℕ) (name : List ℕ) → AreEntries all end decls es
-    → Named all (named_behind end decls name) (option_and_then (λ i. slice_get es i) (first_place (has_key (key_of name)) decls))
-named_found all [] [] end name h = tt
-named_found all [] (e ∷ es) end name h = absurd h
-named_found all (d ∷ decls) [] end name h = absurd h
-named_found all (d ∷ decls) (e ∷ es) end name h =
-    subst (λ b. Named all (cond (is_same_word d.name name) here (named_behind (end_of end d) decls name))
-    (option_and_then (λ i. slice_get (e ∷ es) i) (cond b (Some 0) (option_map (λ n. suc n) rest)))) (same_words d.name name)
-    (either (is_same_word d.name name) rest (named_found all decls es (end_of end d) name h.1))
-  where
-    here : Option Placed
-    here = Some (place_behind end (extent_of d.ty), d.ty)
-
-    rest : Option ℕ
-    rest = first_place (has_key (key_of name)) decls
-
-    either : (b : Bool) (o : Option ℕ) → Named all (named_behind (end_of end d) decls name) (option_and_then (λ i. slice_get es i) o)
-        → Named all (cond b here (named_behind (end_of end d) decls name))
-        (option_and_then (λ i. slice_get (e ∷ es) i) (cond b (Some 0) (option_map (λ n. suc n) o)))
-    either true o more =
-        (h.0.0, h.0.1, h.0.2, at_multiple end (extent_of d.ty).alignment (extent_of d.ty).bits (whole d.ty))
-    either false None more = more
-    either false (Some i) more = more
 
 -- From place 0 to where a scope begins
 
@@ -69,31 +35,30 @@ is_at all e place ty at same is inner =
       subst (λ t. IsInner all e.inner t) (sym same) inner,
     )
 
-leads : (all : Held) (start : ℕ) → start % 16 ≡ 0 → (real : Option Placed) (found : Option Entry) → Named all real found
+leads : (all : Held) (start : ℕ) → start % 16 ≡ 0 → (real : Option Placed) (found : Option Entry) → LeadsTo all real found
     → LeadsTo all (option_map (λ (x : Placed). (start + x.0, x.1)) real) (option_map (moved start) found)
-leads all start h None None n = (refl, tt)
-leads all start h None (Some e) n = absurd n
-leads all start h (Some x) None n = absurd n
-leads all start h (Some x) (Some e) n =
-    let place : capped (start + e.place) ≡ capped (start + x.0) = kept_sum start x.0 e.place n.0 in
-    let is : IsWhole (start + x.0) x.1
-    = both_multiples start x.0 (extent_of x.1).alignment (extent_of x.1).bits (whole x.1) h n.3 in (
-      ap (λ p. Some (p, e.ty.now)) place ∙ ap (λ t. Some (capped (start + x.0), t)) n.1,
-      is_at all (moved start e) (start + x.0) x.1 place n.1 is n.2,
+leads all start h None None l = (refl, tt)
+leads all start h None (Some e) l = let none = l.0 in absurd cc
+leads all start h (Some x) None l = let none = l.0 in absurd cc
+leads all start h (Some x) (Some e) l =
+    let low : capped (start + e.place) ≤ 2 ^ 60 = omega arith in
+    let found = l.0 in
+    let both : (e.place, e.ty.now) ≡ (capped x.0, x.1) = cc in
+    let place : capped (start + e.place) ≡ capped (start + x.0) = kept_sum start x.0 e.place (ap (λ (p : Placed). p.0) both) in
+    let whole_sum : IsWhole (start + e.place) e.ty.now
+    = both_multiples start e.place (extent_of e.ty.now).alignment (extent_of e.ty.now).bits (whole e.ty.now) h l.1.1 in (
+      ap (λ p. Some (p, e.ty.now)) place ∙ ap (λ (p : Placed). Some (capped (start + x.0), p.1)) both,
+      (low, kept_whole (start + e.place) e.ty.now whole_sum, l.1.2),
     )
 
 in_scope : (all : Held) (s : Scope) (start : ℕ) (name : List ℕ) → start % 16 ≡ 0 → IsScope all s
     → LeadsTo all (named_behind start s.decls.now name) (option_map (moved start) (entry_in (key_of name) s))
 in_scope all s start name h is =
     let none : start + 0 ≡ start = omega arith in
-    let places : option_and_then (λ i. slice_get s.entries.items i) (first_place (has_key (key_of name)) s.decls.now) ≡ entry_in (key_of name) s
-    = ap (option_and_then (λ i. slice_get s.entries.items i)) (sym (is.0 (key_of name))) in
     let real : option_map (λ (x : Placed). (start + x.0, x.1)) (named_behind 0 s.decls.now name) ≡ named_behind start s.decls.now name
     = sym (named_moved start h s.decls.now 0 name) ∙ ap (λ n. named_behind n s.decls.now name) none in
     subst (λ (r : Option Placed). LeadsTo all r (option_map (moved start) (entry_in (key_of name) s))) real
-    (subst (λ (f : Option Entry). LeadsTo all (option_map (λ (x : Placed). (start + x.0, x.1)) (named_behind 0 s.decls.now name)) (option_map (moved start) f)) places
-    (leads all start h (named_behind 0 s.decls.now name) (option_and_then (λ i. slice_get s.entries.items i) (first_place (has_key (key_of name)) s.decls.now))
-    (named_found all s.decls.now s.entries.items 0 name is.1)))
+    (leads all start h (named_behind 0 s.decls.now name) (entry_in (key_of name) s) (is name))
 
 -- the first declaration of a name in the scope of a number
 pub named_in_scope : (scopes : List Scope) (n : ℕ) (parts : List Declaration) (start : ℕ) (name : List ℕ) → AreScopes scopes → held scopes n ≡ Some parts

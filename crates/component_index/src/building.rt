@@ -1,16 +1,17 @@
-//! Scopes made from declarations.
-ghost use Rattle.std.specs.Prelude.{◌≡◌, [], ◌∷◌, ◌++◌, ◌≤◌, ◌^◌, IfOk, OnOk};
+//! Tables and scopes made from declarations.
+ghost use Rattle.std.specs.Prelude.{◌≡◌, ◌≤◌, ◌^◌, IfOk, OnOk};
 ghost use Rattle.stl_rules.specs.Extents.{end_behind, end_of_all, extent_of, place_behind};
-ghost use Rattle.component_index.specs.inner.Scopes.{AreBits, AreEntries, AreScopes, Grows, IsInner, IsOf, held, struct_in};
-ghost use Rattle.symbol_layout.specs.Kept.{capped};
+ghost use Rattle.stl_rules.specs.Paths.{named_behind, named_in};
+ghost use Rattle.component_index.specs.inner.Scopes.{Adds, AreScopes, Grows, IsInner, IsOf, IsTable, held, table_of};
+ghost use Rattle.symbol_layout.specs.Kept.{borrowed, capped};
+ghost use Rattle.symbol_layout.specs.Structs.{AreBits, struct_in};
 
-use crate::places::places_of;
 use crate::scope::{Entry, Inner, Scope};
-use crate::types::extent_by;
+use crate::table::Table;
 use s7_base::NoMemory;
 use std::alloc::Global;
 use stl_tree::{DeclType, Declaration};
-use symbol_layout::{end_behind, filled, place_behind};
+use symbol_layout::{end_behind, extent_by, filled, place_behind, section_behind};
 
 /// The entry of a declaration of a type behind what ends here.
 fn entry_behind<'d>(end: u64, ty: &'d DeclType, inner: Inner) -> Entry<'d>
@@ -33,29 +34,23 @@ fn end_of(end: u64, ty: &DeclType, inner: Inner) -> u64
     end_behind(end, extent_by(ty, inner.bits))
 }
 
-/// Puts a scope behind the others, where its entries and its end are known.
+/// Puts a scope behind the others, where its names and its end are known.
 #[tactic(auto, using(crate::proofs::Growing::pushed_grows, crate::proofs::Growing::pushed_held, crate::proofs::Growing::pushed_scopes))]
 fn put_scope<'d>(
-    alloc: Global,
     scopes: &mut Vec<Scope<'d>>,
     decls: &'d [Declaration],
-    entries: Vec<Entry<'d>>,
+    names: Table<'d>,
     end: u64,
 ) -> Result<Inner, NoMemory>
     requires scopes { AreScopes scopes.old.items }
-    requires entries { AreEntries (held scopes.old.items) 0 decls.now entries.items }
+    requires names { IsTable (held scopes.old.items) (named_behind 0 decls.now) (table_of names) }
     requires end { end ≡ capped (end_of_all 0 decls.now) }
     ensures scopes { OnOk result (AreScopes scopes.new.items) }
     ensures grown { OnOk result (Grows scopes.old.items scopes.new.items) }
     ensures own { IfOk result (λ inner. IsOf (held scopes.new.items) inner decls.now) }
 {
-    let names = places_of(alloc, decls)?;
     let scope = scopes.len();
-    scopes.push(Scope {
-        decls,
-        entries,
-        names,
-    })?;
+    scopes.push(Scope { decls, names })?;
     Ok(Inner {
         scope,
         bits: filled(end).bits,
@@ -78,28 +73,55 @@ fn put_inner<'d>(
         DeclType::Elementary(_) => Ok(Inner { scope: 0, bits: 0 }),
         DeclType::DateAndTime => Ok(Inner { scope: 0, bits: 0 }),
         DeclType::Array(_, element) => put_inner(alloc, scopes, element.get()),
-        DeclType::Struct(parts) => put_scopes(alloc, scopes, parts.as_slice()),
+        DeclType::Struct(parts) => {
+            let mut names = Table::new(alloc);
+            let end = put_section(alloc, scopes, &mut names, 0, parts.as_slice())?;
+            put_scope(scopes, parts.as_slice(), names, end)
+        }
     }
 }
 
-/// Puts the scope of declarations behind the others, with those inside before it.
+/// Puts declarations behind what ends here to a table, with the scopes inside them behind the others, and says
+/// where the last one ends.
 #[cycle(building)]
-pub fn put_scopes<'d>(
+fn put_section<'d>(
     alloc: Global,
     scopes: &mut Vec<Scope<'d>>,
+    names: &mut Table<'d>,
+    start: u64,
     decls: &'d [Declaration],
-) -> Result<Inner, NoMemory>
-    requires { AreScopes scopes.old.items }
+) -> Result<u64, NoMemory>
+    requires scopes { AreScopes scopes.old.items }
+    requires start { start ≤ 2 ^ 60 }
     ensures scopes { OnOk result (AreScopes scopes.new.items) }
     ensures grown { OnOk result (Grows scopes.old.items scopes.new.items) }
-    ensures own { IfOk result (λ inner. IsOf (held scopes.new.items) inner decls.now) }
+    ensures names { OnOk result (Adds (held scopes.new.items) (named_behind start decls.now) (table_of names.old) (table_of names.new)) }
+    ensures end { IfOk result (λ end. end ≡ capped (end_of_all start decls.now)) }
 {
-    let mut entries = Vec::with_capacity(alloc, decls.len())?;
-    let mut end = 0;
+    names.reserve(decls.len())?;
+    let mut end = start;
     for d in decls {
         let inner = put_inner(alloc, scopes, &d.ty)?;
-        entries.push(entry_behind(end, &d.ty, inner))?;
+        names.put(alloc, d.name.as_slice(), entry_behind(end, &d.ty, inner))?;
         end = end_of(end, &d.ty, inner);
     }
-    put_scope(alloc, scopes, decls, entries, end)
+    Ok(end)
+}
+
+/// The table of sections, with the scopes inside them put behind the others.
+pub fn put_sections<'d>(
+    alloc: Global,
+    scopes: &mut Vec<Scope<'d>>,
+    sections: &[&'d [Declaration]],
+) -> Result<Table<'d>, NoMemory>
+    requires { AreScopes scopes.old.items }
+    ensures scopes { OnOk result (AreScopes scopes.new.items) }
+    ensures names { IfOk result (λ names. IsTable (held scopes.new.items) (named_in 0 (borrowed sections.now)) (table_of names)) }
+{
+    let mut names = Table::new(alloc);
+    let mut end = 0;
+    for section in sections {
+        end = put_section(alloc, scopes, &mut names, section_behind(end), section)?;
+    }
+    Ok(names)
 }

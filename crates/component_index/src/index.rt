@@ -1,11 +1,14 @@
 //! The index of the components of declarations.
-ghost use Rattle.std.specs.Prelude.{◌≡◌, [], ◌∷◌, IfOk, option_map};
+ghost use Rattle.std.specs.Prelude.{◌≡◌, IfOk, option_map};
 ghost use Rattle.stl_rules.specs.Paths.{component_at, component_in};
 ghost use Rattle.component_index.specs.inner.Scopes.{component_behind, placed};
+ghost use Rattle.symbol_layout.specs.Kept.{borrowed};
 
-use crate::building::put_scopes;
-use crate::scope::{Entry, Inner, Scope};
-use crate::walking::{named, walked};
+use crate::building::put_sections;
+use crate::scope::{Entry, Scope};
+use crate::table::Table;
+use crate::walking::walked;
+use first_places::key_of;
 use s7_base::{NoMemory, rest_after};
 use std::alloc::Global;
 use std::marker::Model;
@@ -13,14 +16,16 @@ use stl_rules::Component;
 use stl_tree::{Declaration, PathStep};
 use symbol_layout::{Placed, component_at};
 
-/// Declarations whose components are found by maps. Contracts see the declarations.
+/// Sections of declarations whose components are found by maps. Contracts see the sections.
 #[derive(Drop)]
 pub struct Components<'d> {
-    decls: &'d [Declaration],
+    sections: Vec<&'d [Declaration]>,
+
+    /// The scopes of all that is a STRUCT inside.
     scopes: Vec<Scope<'d>>,
 
-    /// The scope of the declarations themselves.
-    own: Inner,
+    /// The names of all sections, which are one scope.
+    names: Table<'d>,
 }
 
 impl<'d> Model for Components<'d> {
@@ -29,15 +34,17 @@ impl<'d> Model for Components<'d> {
     ghost use Rattle.stl_tree.specs.declared.raw.Declaration.{Declaration};
     ghost use Rattle.stl_tree.specs.contracts.raw.DeclType as declared;
     ghost use Rattle.stl_tree.specs.contracts.raw.Declaration as declaration;
-    ghost use Rattle.component_index.specs.inner.Scopes.{AreScopes, IsOf, held};
+    ghost use Rattle.stl_rules.specs.Paths.{named_in};
+    ghost use Rattle.symbol_layout.specs.Kept.{borrowed};
+    ghost use Rattle.component_index.specs.inner.Scopes.{AreScopes, IsTable, held, table_of};
 
-    ghost Value = { List Declaration };
+    ghost Value = { List (List Declaration) };
 
     ghost coded = { Prim.hlevel (codes, declared.the_row.coded, declaration.the_row.coded) };
 
-    ghost view = { λ c. c.decls.now };
+    ghost view = { λ c. borrowed c.sections.items };
 
-    ghost invariant = { λ c. AreScopes c.scopes.items × IsOf (held c.scopes.items) c.own c.decls.now };
+    ghost invariant = { λ c. AreScopes c.scopes.items × IsTable (held c.scopes.items) (named_in 0 (borrowed c.sections.items)) (table_of c.names) };
 }
 
 /// The component of what is found.
@@ -52,20 +59,26 @@ fn component_of(found: Option<Entry<'_>>) -> Option<Component>
 }
 
 impl<'d> Components<'d> {
-    /// The index of declarations.
-    pub fn new(alloc: Global, decls: &'d [Declaration]) -> Result<Components<'d>, NoMemory>
-        ensures { IfOk result (λ all. all ≡ decls.now) }
+    /// The index of sections.
+    pub fn new(alloc: Global, sections: &[&'d [Declaration]]) -> Result<Components<'d>, NoMemory>
+        ensures { IfOk result (λ all. all ≡ borrowed sections.now) }
     {
         let mut scopes = Vec::new(alloc);
-        let own = put_scopes(alloc, &mut scopes, decls)?;
-        Ok(Components { decls, scopes, own })
+        let names = put_sections(alloc, &mut scopes, sections)?;
+        let mut own = Vec::with_capacity(alloc, sections.len())?;
+        own.extend_from_slice(sections)?;
+        Ok(Components {
+            sections: own,
+            scopes,
+            names,
+        })
     }
 
-    /// The declarations.
-    pub fn declarations(&self) -> &'d [Declaration]
-        ensures { result.now ≡ self.now }
+    /// The sections.
+    pub fn sections(&self) -> &[&'d [Declaration]]
+        ensures { borrowed result.now ≡ self.now }
     {
-        self.decls
+        self.sections.as_slice()
     }
 
     /// The component that a name and a path behind it name.
@@ -77,18 +90,18 @@ impl<'d> Components<'d> {
     ) -> Result<Option<Component>, NoMemory>
         ensures { IfOk result (λ at. at ≡ component_behind self.now name.now path.now) }
     {
-        let scopes = self.scopes.as_slice();
-        let Some(start) = named(alloc, scopes, self.own.scope, 0, name)? else {
+        let key = key_of(alloc, name)?;
+        let Some(start) = self.names.find(key.as_slice()) else {
             return Ok(None);
         };
-        let at = walked(alloc, scopes, start, path)?;
+        let at = walked(alloc, self.scopes.as_slice(), start, path)?;
         Ok(component_of(at))
     }
 
     /// The component that a path names; `None` exactly where it names nothing that is declared. A place past
     /// the byte 4,294,967,295 is kept as the last bit of that.
     pub fn component(&self, alloc: Global, path: &[PathStep]) -> Result<Option<Component>, NoMemory>
-        ensures { IfOk result (λ at. at ≡ component_in (self.now ∷ []) path.now) }
+        ensures { IfOk result (λ at. at ≡ component_in self.now path.now) }
     {
         let [first, ..] = path else {
             return Ok(None);

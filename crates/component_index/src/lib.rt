@@ -2,14 +2,13 @@
 //! its own length.
 //!
 //! Stands on `stl_rules`, which says what a path names, on `symbol_layout` for lengths and on `first_places` for
-//! tables of names.
+//! the keys of names.
 #![tactic(auto)]
 
 mod building;
 mod index;
-mod places;
 mod scope;
-mod types;
+mod table;
 mod walking;
 
 pub use index::Components;

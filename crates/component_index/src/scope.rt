@@ -1,5 +1,5 @@
 //! Scopes of declarations.
-use indexmap::IndexMap;
+use crate::table::Table;
 use stl_tree::{DeclType, Declaration};
 
 /// The scope of the STRUCT inside a type, by its number, and the bits of that STRUCT. Where no STRUCT is
@@ -18,12 +18,9 @@ pub struct Entry<'d> {
     pub inner: Inner,
 }
 
-/// Declarations that stand one behind another from place 0 on.
+/// The components of a STRUCT, and their names from place 0 on.
 #[derive(Drop)]
 pub struct Scope<'d> {
     pub decls: &'d [Declaration],
-    pub entries: Vec<Entry<'d>>,
-
-    /// The first declaration of each name, in capitals.
-    pub names: IndexMap<Vec<u8>, usize>,
+    pub names: Table<'d>,
 }

@@ -2,23 +2,22 @@
 ghost use Rattle.std.specs.Prelude.{◌≡◌, IfOk, IfSome, option_map};
 ghost use Rattle.stl_rules.specs.DeclarationRules.{key_of};
 ghost use Rattle.stl_rules.specs.Paths.{element_at, stepped, walked};
-ghost use Rattle.component_index.specs.inner.Scopes.{AreBits, AreScopes, IsAt, LeadsTo, entry_at, entry_in, held, moved, placed, struct_in};
+ghost use Rattle.component_index.specs.inner.Scopes.{AreScopes, IsAt, LeadsTo, entry_at, entry_in, held, moved, placed};
 ghost use Rattle.symbol_layout.specs.Kept.{capped_placed};
+ghost use Rattle.symbol_layout.specs.Structs.{AreBits, struct_in};
 
 use crate::scope::{Entry, Inner, Scope};
-use crate::types::extent_by;
-use first_places::{key_of, look_up};
+use first_places::key_of;
 use s7_base::NoMemory;
 use std::alloc::Global;
 use stl_tree::{DeclType, PathStep};
-use symbol_layout::{elements_before, product, sum};
+use symbol_layout::{elements_before, extent_by, product, sum};
 
 /// The entry of the first declaration of a key in a scope.
 fn entry_in<'d>(scope: &Scope<'d>, key: &[u8]) -> Option<Entry<'d>>
     ensures { result ≡ entry_in key.now scope.now }
 {
-    let place = look_up(&scope.names, key)?;
-    scope.entries.get(place).copied()
+    scope.names.find(key)
 }
 
 /// The same in the scope of a number.
@@ -42,7 +41,7 @@ fn moved<'d>(start: u64, found: Option<Entry<'d>>) -> Option<Entry<'d>>
 }
 
 /// The first declaration of a name in a scope that begins here.
-pub fn named<'d>(
+fn named<'d>(
     alloc: Global,
     scopes: &[Scope<'d>],
     number: usize,

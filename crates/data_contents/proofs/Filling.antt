@@ -1,5 +1,5 @@
--- Declarations with a layout break no rule.
-use Rattle.std.proofs.Common.{◌≡◌, List, [], ◌∷◌, Option, Some, None, Ok, refl}
+-- Sections with a layout break no rule.
+use Rattle.std.proofs.Common.{◌≡◌, List, Option, Some, None, Ok, refl}
 use Rattle.s7_base.proofs.FirstBreak.{first_of_all_is_first}
 use Rattle.s7_base.specs.Broken.{first_of_all}
 use Rattle.s7_base.specs.declared.broken.Break.{Break}
@@ -13,8 +13,8 @@ laid : (o : Option Break) (l m : Layout) → answered o l ≡ Ok m → o ≡ Non
 laid None l m e = refl
 laid (Some b) l m e = absurd cc
 
-pub laid_kept : (decls : List Declaration) (m : Layout) → layout_of most_in_block (decls ∷ []) ≡ Ok m → AreKept decls
-laid_kept decls m e =
-    let own : Layout = record { length = length_of (decls ∷ []); initial = initial_of (decls ∷ []) } in
-    let breaks = breaks_in most_in_block (decls ∷ []) in
+pub laid_kept : (sections : List (List Declaration)) (m : Layout) → layout_of most_in_block sections ≡ Ok m → AreKept sections
+laid_kept sections m e =
+    let own : Layout = record { length = length_of sections; initial = initial_of sections } in
+    let breaks = breaks_in most_in_block sections in
     first_of_all_is_first.none breaks (laid (first_of_all breaks) own m e)

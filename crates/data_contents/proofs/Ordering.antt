@@ -7,7 +7,8 @@ use Rattle.std.specs.Ordering.{is_lt, nat_cmp}
 use Rattle.std.specs.declared.cmp.Ordering.TheVariants.{Less, Equal, Greater}
 use Rattle.std.proofs.lemmas.Bool.{cases_order, ltb-false, ltb-true}
 use Rattle.memory_areas.specs.declared.data_block.DataBlock.{DataBlock}
-use Rattle.stl_rules.specs.DataBlocks.{in_order, inserted}
+use Rattle.memory_areas.specs.Areas.{inserted}
+use Rattle.stl_rules.specs.DataBlocks.{in_order}
 use Rattle.data_contents.specs.Order.{AreInOrder, Rises, of_number}
 
 -- Numbers

@@ -1,5 +1,5 @@
 //! What a data block holds.
-ghost use Rattle.std.specs.Prelude.{◌≡◌, [], ◌∷◌, IfOk};
+ghost use Rattle.std.specs.Prelude.{◌≡◌, IfOk};
 ghost use Rattle.data_contents.specs.Contents.{Holds};
 ghost use Rattle.data_contents.specs.inner.Inside.{AreKept};
 ghost use Rattle.stl_rules.specs.DataBlocks.{or_two};
@@ -10,10 +10,7 @@ use component_index::Components;
 use s7_base::{Break, List, NoMemory, Rejection, first_of_all};
 use std::alloc::Global;
 use stl_tree::RawInitial;
-use symbol_layout::layout;
-
-/// The most bytes of a data block.
-const MOST_IN_BLOCK: u32 = 16_384;
+use symbol_layout::{MOST_IN_BLOCK, layout_of};
 
 /// What declarations and initial values of a data block come to.
 #[derive(Debug, Drop)]
@@ -47,7 +44,7 @@ fn filled(
     initial: List<u8>,
 ) -> Result<Content, NoMemory>
     requires kept { AreKept components.now }
-    requires initial { initial ≡ initial_of (components.now ∷ []) }
+    requires initial { initial ≡ initial_of components.now }
     ensures { IfOk result (Holds components.now values.now) }
 {
     let mut bytes = initial.into_vec();
@@ -69,7 +66,7 @@ pub fn content_of(
 ) -> Result<Content, NoMemory>
     ensures { IfOk result (Holds components.now values.now) }
 {
-    match layout(alloc, components.declarations(), MOST_IN_BLOCK) {
+    match layout_of(alloc, components.sections(), MOST_IN_BLOCK) {
         Ok(layout) => filled(alloc, components, values, layout.initial),
         Err(Rejection::Refused(line, rule)) => Ok(Content::BadDeclarations(Break { line, rule })),
         Err(Rejection::NoMemory) => Err(NoMemory),

@@ -1,10 +1,9 @@
 //! Initial values: the rules that they break, and their writes.
 ghost use Rattle.std.specs.Prelude.{◌≡◌, ◌++◌, length, IfSome, OnOk};
 ghost use Rattle.std.specs.List.{flat_map, fold};
-ghost use Rattle.data_contents.specs.inner.Judged.{breaks_at};
 ghost use Rattle.data_contents.specs.inner.Inside.{AreInside, IsInside};
 ghost use Rattle.stl_rules.specs.DataBlocks.{with_constant, with_value, with_value_at};
-ghost use Rattle.stl_rules.specs.Stages.{fits_kind, initial_breaks};
+ghost use Rattle.stl_rules.specs.Stages.{breaks_at, fits_kind, initial_breaks};
 
 use crate::writes::put_number;
 use component_index::Components;
@@ -65,16 +64,16 @@ fn put_at(bytes: &mut [u8], at: Option<Component>, value: Constant)
 /// the bytes are the defined ones whatever is noted.
 fn put_value(
     alloc: Global,
-    decls: &Components<'_>,
+    components: &Components<'_>,
     v: &RawInitial,
     bytes: &mut [u8],
     breaks: &mut List<Break>,
 ) -> Result<(), NoMemory>
-    requires { AreInside (length bytes.old) decls.now }
-    ensures bytes { OnOk result (bytes.new ≡ with_value decls.now bytes.old v.now) }
-    ensures breaks { OnOk result (breaks.new ≡ breaks.old ++ initial_breaks decls.now v.now) }
+    requires { AreInside (length bytes.old) components.now }
+    ensures bytes { OnOk result (bytes.new ≡ with_value components.now bytes.old v.now) }
+    ensures breaks { OnOk result (breaks.new ≡ breaks.old ++ initial_breaks components.now v.now) }
 {
-    let at = decls.component(alloc, v.path.as_slice())?;
+    let at = components.component(alloc, v.path.as_slice())?;
     judge(v, at, breaks)?;
     put_at(bytes, at, v.value);
     Ok(())
@@ -83,17 +82,17 @@ fn put_value(
 /// Puts initial values one after another, and notes the rules that they break.
 pub fn put_values(
     alloc: Global,
-    decls: &Components<'_>,
+    components: &Components<'_>,
     values: &[RawInitial],
     bytes: &mut [u8],
     breaks: &mut List<Break>,
 ) -> Result<(), NoMemory>
-    requires { AreInside (length bytes.old) decls.now }
-    ensures bytes { OnOk result (bytes.new ≡ fold (with_value decls.now) bytes.old values.now) }
-    ensures breaks { OnOk result (breaks.new ≡ breaks.old ++ flat_map (initial_breaks decls.now) values.now) }
+    requires { AreInside (length bytes.old) components.now }
+    ensures bytes { OnOk result (bytes.new ≡ fold (with_value components.now) bytes.old values.now) }
+    ensures breaks { OnOk result (breaks.new ≡ breaks.old ++ flat_map (initial_breaks components.now) values.now) }
 {
     for v in values {
-        put_value(alloc, decls, v, bytes, breaks)?;
+        put_value(alloc, components, v, bytes, breaks)?;
     }
     Ok(())
 }

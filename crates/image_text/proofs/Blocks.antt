@@ -6,7 +6,7 @@ use Rattle.std.proofs.lemmas.List.Elements.{All-nil, All-cons, All-head, All-tai
 use Rattle.memory_areas.specs.Areas.{Ascend, IsSized, block_of, bytes_in, numbers_of, with_block}
 use Rattle.memory_areas.specs.declared.data_block.DataBlock.{DataBlock}
 use Rattle.memory_areas.specs.declared.sizes.TheConstants.{MOST_BLOCK_BYTES}
-use Rattle.image_text.specs.Reading.{IsBlock}
+use Rattle.image_text.specs.inner.Fields.{IsBlock}
 
 -- the block after a write has the bytes that were written
 found_step : (n : ℕ) (x bytes : List ℕ) (b : DataBlock) (rest : List DataBlock) (t : Bool) → (b.number == n) ≡ t

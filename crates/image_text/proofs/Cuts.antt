@@ -1,7 +1,7 @@
 -- The pieces of a text, one after another.
 use Rattle.std.proofs.Common.{◌≡◌, ℕ, suc, ◌+◌, Bool, true, false, not, cond, List, [], ◌∷◌, take, drop, refl, sym, ap, ◌∙◌, subst, arith}
 use Rattle.std.specs.List.{slice_split, onto_first, prefix_len}
-use Rattle.image_text.specs.Reading.{pieces_left}
+use Rattle.image_text.specs.inner.Fields.{pieces_left}
 
 -- one byte more before a separator
 onto : (p : ℕ → Bool) (b : ℕ) (rest : List ℕ) (n m : ℕ) → m ≡ suc n → onto_first b (take n rest ∷ pieces_left p (drop n rest)) ≡ take m (b ∷ rest) ∷ pieces_left p (drop m (b ∷ rest))

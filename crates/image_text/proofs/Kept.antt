@@ -4,7 +4,7 @@ use Rattle.std.specs.List.{slice_split, list_any}
 use Rattle.digit_texts.specs.Digits.{kept}
 use Rattle.memory_areas.specs.declared.place.Area.{Area}
 use Rattle.image_text.specs.Image.{area_of, byte_number, is_blank, is_empty, shape_of, shaped}
-use Rattle.image_text.specs.Reading.{area_kept, pieces_left, shape_kept}
+use Rattle.image_text.specs.inner.Fields.{area_kept, pieces_left, shape_kept}
 use Rattle.image_text.proofs.Cuts.{has_first}
 
 choose : (t : Bool) (a : Area) (n : ℕ) (fields : List (List ℕ)) →

@@ -11,8 +11,9 @@ use Rattle.memory_areas.specs.Areas.{Contents, bytes_in, bytes_of}
 use Rattle.memory_areas.specs.declared.place.Area.{Area}
 use Rattle.memory_areas.specs.declared.place.Area.TheVariants as area
 use Rattle.memory_areas.specs.declared.sizes.TheConstants.{MOST_BLOCK_BYTES}
-use Rattle.image_text.specs.Image.{Shape, and_then, bytes_at, has_room, is_blank, line_on, line_said, lines_on, nothing, says_nothing, shape_of, shape_said, values_of, values_said, written}
-use Rattle.image_text.specs.Reading.{IsNamed, IsUsable, LineDoes, area_kept, pieces_left, shape_kept}
+use Rattle.memory_areas.specs.Access.{and_then}
+use Rattle.image_text.specs.Image.{Shape, bytes_at, has_room, is_blank, line_on, line_said, lines_on, nothing, says_nothing, shape_of, shape_said, values_of, values_said, written}
+use Rattle.image_text.specs.inner.Fields.{IsNamed, IsUsable, LineDoes, area_kept, pieces_left, shape_kept}
 use Rattle.image_text.specs.declared.refusal.ImageRefusal.{ImageRefusal}
 use Rattle.image_text.specs.declared.refusal.ImageRefusal.TheVariants.{OutsideArea}
 use Rattle.image_text.proofs.Blocks.{missing_zero, missing_past}

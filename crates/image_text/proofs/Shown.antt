@@ -5,7 +5,7 @@ use Rattle.std.proofs.lemmas.Bool.Decides.{nat_tests}
 use Rattle.memory_areas.specs.Access.{or_none}
 use Rattle.memory_areas.specs.Areas.{Ascend, Contents, block_of, bytes_in, numbers_of}
 use Rattle.memory_areas.specs.declared.data_block.DataBlock.{DataBlock}
-use Rattle.image_text.specs.Reading.{numbered_text}
+use Rattle.image_text.specs.inner.Fields.{numbered_text}
 use Rattle.image_text.specs.Report.{block_text}
 
 under : (n : ℕ) (m : Contents) (b : DataBlock) → b.number ≡ n → block_of n m.areas.blocks ≡ Some b → numbered_text m n ≡ block_text b

@@ -10,7 +10,7 @@ use Rattle.memory_areas.specs.declared.place.Area.{Area}
 use Rattle.memory_areas.specs.declared.place.Area.TheVariants as area
 use Rattle.memory_areas.specs.declared.sizes.TheConstants.{MOST_BLOCK_BYTES}
 use Rattle.image_text.specs.Image.{has_room, is_blank, values_of, written}
-use Rattle.image_text.specs.Reading.{IsNamed, IsUsable, pieces_left}
+use Rattle.image_text.specs.inner.Fields.{IsNamed, IsUsable, pieces_left}
 use Rattle.image_text.proofs.Blocks.{are_blocks, blocks_written, found_written, missing_zero, small_block, written_same, written_twice}
 use Rattle.image_text.proofs.Replaced.{length_replaced, replaced_further, replaced_none}
 

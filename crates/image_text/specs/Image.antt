@@ -5,7 +5,7 @@ use Rattle.std.specs.Str.Lines.{strip_carriage_return}
 use Rattle.s7_base.specs.Tokens.{line_after}
 use Rattle.s7_base.specs.declared.reason.Line.{Line}
 use Rattle.digit_texts.specs.Digits.{hex_value, is_digit, written_from}
-use Rattle.memory_areas.specs.Access.{bytes_there}
+use Rattle.memory_areas.specs.Access.{and_then, bytes_there}
 use Rattle.memory_areas.specs.Areas.{Contents, bytes_of, with_bytes, replaced, fresh}
 use Rattle.memory_areas.specs.declared.data_block.DataBlock.{DataBlock}
 use Rattle.memory_areas.specs.declared.place.Area.{Area}
@@ -142,12 +142,6 @@ line_on line misshapen m = Err (BadLine line)
 line_on line miswritten m = Err (BadByte line)
 line_on line (bytes_at a byte values) m =
     if has_room (bytes_of a m) byte (length values) then Ok (written a byte values m) else Err (OutsideArea line)
-
--- what comes of a memory, where no line was refused
-abbrev pub and_then : Result Contents ImageRefusal → (Contents → Result Contents ImageRefusal)
-    → Result Contents ImageRefusal
-and_then (Ok m) next = next m
-and_then (Err refused) next = Err refused
 
 -- the memory after lines, the first of them at a number, or the first refusal
 abbrev pub lines_on : ℕ → List (List ℕ) → Contents → Result Contents ImageRefusal

@@ -1,3 +1,4 @@
 pub mod Image
 pub mod Reading
 pub mod Report
+pub mod inner

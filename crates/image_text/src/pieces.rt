@@ -3,7 +3,7 @@ ghost use Rattle.std.specs.Prelude.{◌≡◌, ◌<◌, ◌≤◌, ◌==◌, ◌
 ghost use Rattle.std.specs.List.{prefix_len, slice_split};
 ghost use Rattle.std.specs.Str.Lines.{strip_carriage_return};
 ghost use Rattle.image_text.specs.Image.{is_blank};
-ghost use Rattle.image_text.specs.Reading.{pieces_left};
+ghost use Rattle.image_text.specs.inner.Fields.{pieces_left};
 
 /// What is left of a text after its first bytes.
 pub fn rest_after(text: &[u8], size: usize) -> &[u8]

@@ -3,7 +3,8 @@ ghost use Rattle.std.specs.Prelude.{◌≡◌, ◌∷◌, [], ◌+◌, ◌<◌, 
 ghost use Rattle.memory_areas.specs.Access.{is_closed};
 ghost use Rattle.memory_areas.specs.Areas.{AreBlocks, IsMemoryOf, bytes_of, fresh};
 ghost use Rattle.image_text.specs.Image.{has_room, image_of, is_blank, line_on, line_said, says_nothing, shape_said, values_of, written};
-ghost use Rattle.image_text.specs.Reading.{IsNamed, IsUsable, LineDoes, MemoryStays, Reads, pieces_left, values_left, view};
+ghost use Rattle.image_text.specs.inner.Fields.{IsNamed, IsUsable, LineDoes, MemoryStays, pieces_left, values_left, view};
+ghost use Rattle.image_text.specs.Reading.{Reads};
 
 use crate::number::byte_of;
 use crate::pieces::{cut_line, next_piece, rest_after, strip_return};

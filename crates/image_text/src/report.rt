@@ -1,9 +1,9 @@
 //! Writes a report.
-ghost use Rattle.std.specs.Prelude.{◌≡◌, ◌++◌, ◌<◌, ◌||◌, ◌∷◌, codes, decimal, drop, flat_map, length, take, IfOk, OnOk};
+ghost use Rattle.std.specs.Prelude.{◌≡◌, ◌++◌, ◌<◌, ◌||◌, codes, decimal, drop, flat_map, length, take, IfOk, OnOk};
 ghost use Rattle.std.specs.List.{list_any};
 ghost use Rattle.memory_areas.specs.Access.{bytes_there};
 ghost use Rattle.memory_areas.specs.Memory.{IsActivation};
-ghost use Rattle.image_text.specs.Reading.{numbered_text};
+ghost use Rattle.image_text.specs.inner.Fields.{numbered_text};
 ghost use Rattle.image_text.specs.Report.{area_text, block_text, byte_text, end_text, fault_name, is_set, memory_text, report, row_shown, row_text};
 
 use crate::pieces::rest_after;

@@ -1,8 +1,8 @@
 //! The shape of a line: an area, a byte number and fields.
-ghost use Rattle.std.specs.Prelude.{◌≡◌, ◌≤◌, length, option_map, IfSome};
+ghost use Rattle.std.specs.Prelude.{◌≡◌, length, option_map, IfSome};
 ghost use Rattle.std.specs.List.{list_any, slice_split};
 ghost use Rattle.image_text.specs.Image.{area_of_letter, area_of, is_blank, is_empty, shape_of, shaped, values_of};
-ghost use Rattle.image_text.specs.Reading.{IsNamed, area_kept, block_kept, pieces_left, shape_kept, view};
+ghost use Rattle.image_text.specs.inner.Fields.{IsNamed, area_kept, block_kept, pieces_left, shape_kept, view};
 
 use crate::number::{byte_number, byte_of, image_number};
 use crate::pieces::{cut_piece, next_piece};

@@ -106,7 +106,7 @@ all_same n r s (q ∷ rest) h = (still_same n r s q h.0, all_same n r s rest h.1
 module _ (now : Now) (s : RegisterValues) (effect : Place → Now → Effect) where
   -- an aim
   at_aim : (aim : Aim) → ((p : Place) → DoesAlike now s (effect p)) → DoesAlike now s (λ n. with_value (found_at aim n) (λ f. effect f.place f.after))
-  at_aim aim h = by (place_aimed aim.area aim.byte aim.bit)
+  at_aim aim h = by (place_aimed aim)
     where
       by : (r : Result Place Fault)
           → DoesAlike now s (λ n. with_value (and_then r (λ p. Ok (record { place = p; after = n }))) (λ (f : Found). effect f.place f.after))

@@ -190,21 +190,21 @@ module _ (o : Operand) (now : Now) (s : RegisterValues) (h : AreSame (found_by o
       (λ m. next (record n { memory = m; registers = with_bits (after_store s.status.rlo) (beside n.registers s) })) k.0
       (λ m. record { memory = refl; brackets = refl; activations = refl; registers = stores n.registers.status.rlo s.status.rlo n.registers (beside n.registers s) k.0 }))
 
-  pub stored_alike : (stands : Bool → Bool → Bool) → DoesAlike now s (stored stands o)
-  stored_alike stands =
-      by_rlo (λ p n. with_value (read_bit p n.memory) (λ b. with_memory (write_bit p (stands b n.registers.status.rlo) n.memory) n (on_status (after_store (stands b n.registers.status.rlo)))))
+  pub stored_alike : (value : Bool) → DoesAlike now s (stored value o)
+  stored_alike value =
+      by_rlo (λ p n. with_value (read_bit p n.memory) (λ b. with_memory (write_bit p (if n.registers.status.rlo then value else b) n.memory) n (on_status (after_store (if n.registers.status.rlo then value else b)))))
       (λ p n k. by_value n.registers (beside n.registers s)
-      (λ b. with_memory (write_bit p (stands b n.registers.status.rlo) n.memory) n (on_status (after_store (stands b n.registers.status.rlo))))
-      (λ b. with_memory (write_bit p (stands b s.status.rlo) n.memory) (next_to n s) (on_status (after_store (stands b s.status.rlo)))) (read_bit p n.memory)
-      (λ b. let written : stands b n.registers.status.rlo ≡ stands b s.status.rlo = λ i. stands b (k.0 i) in
-      by_one_value n.registers (beside n.registers s) (λ b. write_bit p b n.memory) (stands b n.registers.status.rlo) (stands b s.status.rlo)
-      (λ m. next (record n { memory = m; registers = with_bits (after_store (stands b n.registers.status.rlo)) n.registers }))
-      (λ m. next (record n { memory = m; registers = with_bits (after_store (stands b s.status.rlo)) (beside n.registers s) })) written
+      (λ b. with_memory (write_bit p (if n.registers.status.rlo then value else b) n.memory) n (on_status (after_store (if n.registers.status.rlo then value else b))))
+      (λ b. with_memory (write_bit p (if s.status.rlo then value else b) n.memory) (next_to n s) (on_status (after_store (if s.status.rlo then value else b)))) (read_bit p n.memory)
+      (λ b. let written : (if n.registers.status.rlo then value else b) ≡ (if s.status.rlo then value else b) = λ i. if k.0 i then value else b in
+      by_one_value n.registers (beside n.registers s) (λ b. write_bit p b n.memory) (if n.registers.status.rlo then value else b) (if s.status.rlo then value else b)
+      (λ m. next (record n { memory = m; registers = with_bits (after_store (if n.registers.status.rlo then value else b)) n.registers }))
+      (λ m. next (record n { memory = m; registers = with_bits (after_store (if s.status.rlo then value else b)) (beside n.registers s) })) written
       (λ m. record {
         memory = refl;
         brackets = refl;
         activations = refl;
-        registers = stores (stands b n.registers.status.rlo) (stands b s.status.rlo) n.registers (beside n.registers s) written;
+        registers = stores (if n.registers.status.rlo then value else b) (if s.status.rlo then value else b) n.registers (beside n.registers s) written;
       })))
 
   pub edge_alike : (rising : Bool) → DoesAlike now s (at_edge rising o)

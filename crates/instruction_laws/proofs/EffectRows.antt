@@ -4,7 +4,7 @@ use Rattle.s7_base.specs.declared.register.Reg.{Reg}
 use Rattle.s7_base.specs.declared.register.Reg.TheVariants as reg
 use Rattle.s7_base.specs.declared.word.Width.TheVariants as width
 use Rattle.status_word.specs.StatusBits.{after_clear, after_not, after_or, after_save, after_set}
-use Rattle.stl_tree.specs.Accumulators.{accu_popped, accu_pushed, accus_exchanged, decreased, increased, loaded, part, status_loaded, status_stored}
+use Rattle.stl_tree.specs.Accumulators.{accu_popped, accu_pushed, accus_exchanged, counted_down, counted_up, increased, loaded, part, status_loaded, status_stored}
 use Rattle.stl_tree.specs.AddressRegisters.{accu1_pointed, other_loaded, other_stored, pointer_in, pointer_loaded, pointer_moved, pointers_exchanged, with_pointer}
 use Rattle.stl_tree.specs.Arithmetic.{calculated, compared}
 use Rattle.stl_tree.specs.DataBlocks.{db_number_loaded, db_opened, dbs_exchanged, di_number_loaded, di_opened}
@@ -70,8 +70,8 @@ module _ (now : Now) (s : RegisterValues) where
   does_alike (op.Bracket c) small_r small_t h = bracket_alike c now s h
   does_alike op.Close small_r small_t h = close_alike now.brackets now s h
   does_alike (op.Assign o) small_r small_t h = assign_alike o now s h
-  does_alike (op.Set o) small_r small_t h = stored_alike o now s h (λ b rlo. b || rlo)
-  does_alike (op.Reset o) small_r small_t h = stored_alike o now s h (λ b rlo. b && not rlo)
+  does_alike (op.Set o) small_r small_t h = stored_alike o now s h true
+  does_alike (op.Reset o) small_r small_t h = stored_alike o now s h false
   does_alike op.SetRlo small_r small_t h = goes_on (with_bits after_set) now s (set_alike r t)
   does_alike op.ClearRlo small_r small_t h = goes_on (with_bits after_clear) now s (clear_alike r t)
   does_alike op.NotRlo small_r small_t h = goes_on (with_bits after_not) now s (not_alike r t h)
@@ -89,8 +89,8 @@ module _ (now : Now) (s : RegisterValues) where
   does_alike (op.Arith a) small_r small_t h = goes_on (calculated a) now s (calculate_alike a r t h)
   does_alike (op.AddWord n) small_r small_t h = goes_on (increased width.Word n) now s (add_word_alike n r t h)
   does_alike (op.AddDword n) small_r small_t h = goes_on (increased width.Dword n) now s (add_dword_alike n r t h)
-  does_alike (op.Inc n) small_r small_t h = goes_on (increased width.Byte (pos n)) now s (inc_alike (pos n) r t h)
-  does_alike (op.Dec n) small_r small_t h = goes_on (decreased width.Byte (pos n)) now s (dec_alike (pos n) r t h)
+  does_alike (op.Inc n) small_r small_t h = goes_on (counted_up n) now s (inc_alike n r t h)
+  does_alike (op.Dec n) small_r small_t h = goes_on (counted_down n) now s (dec_alike n r t h)
   does_alike (op.Compare c w) small_r small_t h = goes_on (compared c w) now s (compare_alike c w r t h)
   does_alike (op.Shift k count) small_r small_t h = goes_on (after_shift k count) now s (shift_alike k count r t h)
   does_alike op.Rlda small_r small_t h = goes_on around_left_through_cc1 now s (left_around_alike r t h)

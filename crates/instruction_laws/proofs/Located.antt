@@ -21,7 +21,7 @@ use Rattle.instruction_laws.specs.Located.{OperandAim, aimed_and_located, found_
 -- At a place, by the fault that the tests give
 
 tested : (fault : Option Fault) (p : Place) (bytes : List ℕ)
-    → and_then (unless fault bytes) (λ (there : List ℕ). Ok p) ≡ and_then (unless fault (aimed p)) (λ (a : Aim). place_aimed a.area a.byte a.bit)
+    → and_then (unless fault bytes) (λ (there : List ℕ). Ok p) ≡ and_then (unless fault (aimed p)) place_aimed
 tested None p bytes = refl
 tested (Some f) p bytes = refl
 
@@ -46,7 +46,7 @@ located_at w after aim = and_then (located aim w after.memory) (λ (p : Place). 
 
 tested_after : (fault : Option Fault) (p : Place) (bytes : List ℕ) (after : Now)
     → and_then (unless fault bytes) (λ (there : List ℕ). Ok (found_there p after))
-    ≡ and_then (and_then (unless fault (aimed p)) (λ (a : Aim). place_aimed a.area a.byte a.bit)) (λ (q : Place). Ok (found_there q after))
+    ≡ and_then (and_then (unless fault (aimed p)) place_aimed) (λ (q : Place). Ok (found_there q after))
 tested_after None p bytes after = refl
 tested_after (Some f) p bytes after = refl
 

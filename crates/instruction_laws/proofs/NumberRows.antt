@@ -11,7 +11,8 @@ use Rattle.s7_base.specs.declared.word.Width.TheVariants as width
 use Rattle.status_word.specs.Flags.{bits_of, word_of}
 use Rattle.status_word.specs.Results.{after_signed, after_zero_divisor}
 use Rattle.status_word.specs.declared.test.Test.{Test}
-use Rattle.stl_tree.specs.Accumulators.{accu_popped, accu_pushed, accus_exchanged, bits_wide, loaded, signed_part, status_loaded, status_stored, with_number}
+use Rattle.memory_areas.specs.Access.{bits_wide}
+use Rattle.stl_tree.specs.Accumulators.{accu_popped, accu_pushed, accus_exchanged, loaded, signed_part, status_loaded, status_stored, with_number}
 use Rattle.stl_tree.specs.AddressRegisters.{accu1_pointed, added, other_loaded, other_of as other_ar, other_stored, pointer_in, pointer_loaded, pointer_moved, pointers_exchanged, with_pointer}
 use Rattle.stl_tree.specs.Arithmetic.{both_in_words, calculated, compared, compared_numbers, quotient_in_dword, remainder_in_dword, result_in, row_of_numbers, width_of as width_of_arith}
 use Rattle.stl_tree.specs.DataBlocks.{db_number_loaded, db_opened, dbs_exchanged, di_number_loaded, di_opened}

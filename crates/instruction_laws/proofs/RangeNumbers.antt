@@ -13,7 +13,8 @@ use Rattle.s7_base.specs.declared.word.Width.TheVariants as width
 use Rattle.st_tree.proofs.FittingValues.{pattern_below}
 use Rattle.status_word.specs.Flags.{word_of}
 use Rattle.status_word.specs.StatusBits.{StatusBits}
-use Rattle.stl_tree.specs.Accumulators.{bits_wide, part, with_number, with_part}
+use Rattle.memory_areas.specs.Access.{bits_wide}
+use Rattle.stl_tree.specs.Accumulators.{part, with_number, with_part}
 use Rattle.stl_tree.specs.Shifts.{bottom, left, right, step, times, top, width_of as shift_width}
 use Rattle.stl_tree.specs.WordLogic.{combined, width_of as logic_width}
 use Rattle.stl_tree.specs.declared.accumulator.LogicRow.{LogicRow}

@@ -5,7 +5,7 @@ use Rattle.std.specs.Int.{from_bool}
 use Rattle.std.specs.Ordering.{int_eq}
 use Rattle.std.proofs.lemmas.List.Elements.{All-head, All-tail}
 use Rattle.bcd_words.specs.Bcd.{bcd_value}
-use Rattle.memory_areas.specs.Access.{Aim, aimed, and_then, bytes_there, fault_of, place_aimed, read_bit, read_dword, unless, write_bit}
+use Rattle.memory_areas.specs.Access.{Aim, HoldsBytes, aimed, and_then, bits_wide, bytes_there, fault_of, place_aimed, read_bit, read_dword, unless, write_bit}
 use Rattle.memory_areas.specs.Areas.{Contents, byte_at, dword_at, word_at}
 use Rattle.memory_areas.specs.Pointers.{moved, with_offset}
 use Rattle.memory_areas.specs.declared.place.AreaName.TheVariants as area
@@ -18,7 +18,7 @@ use Rattle.status_word.specs.Flags.{word_of}
 use Rattle.status_word.specs.Results.{after_shifted, after_zero_divisor}
 use Rattle.status_word.specs.StatusBits.{StatusBits, after_check, after_close, after_edge, after_store}
 use Rattle.stl_tree.specs.Accepted.{IsLoadable, IsOpenArg, IsOperand, IsPointerLoad, IsPointerStore}
-use Rattle.stl_tree.specs.Accumulators.{bits_wide, loaded, part, read_number, signed_part, with_part, write_number}
+use Rattle.stl_tree.specs.Accumulators.{loaded, part, read_number, signed_part, with_part, write_number}
 use Rattle.stl_tree.specs.AddressRegisters.{added, other_of, pointer_in, with_pointer}
 use Rattle.stl_tree.specs.Arithmetic.{both_in_words, calculated, quotient_in_dword, remainder_in_dword, row_of_numbers, width_of as arith_width}
 use Rattle.stl_tree.specs.Brackets.{closed_with}
@@ -52,7 +52,6 @@ use Rattle.stl_tree.specs.declared.program.Operand.{Operand}
 use Rattle.stl_tree.specs.declared.program.Operand.TheVariants as operand
 use Rattle.st_tree.proofs.FittingMemory.{AfterHolds, place_holds}
 use Rattle.st_tree.proofs.FittingValues.{pattern_below}
-use Rattle.st_tree.specs.Fitting.{HoldsBytes}
 use Rattle.st_tree.specs.Values.{flag, is_set}
 use Rattle.st_tree.specs.declared.expr.StType.TheVariants as type
 use Rattle.instruction_laws.specs.InstructionLaws.{RangesAreKept}
@@ -261,7 +260,7 @@ by_memory (Err f) effect holds h = tt
 
 module _ (now : Now) (h : IsInRange now) (effect : Place → Now → Effect) where
   at_aim : (aim : Aim) → ((p : Place) → LeavesInRange (effect p now)) → LeavesInRange (with_value (found_at aim now) (λ f. effect f.place f.after))
-  at_aim aim does = by (place_aimed aim.area aim.byte aim.bit)
+  at_aim aim does = by (place_aimed aim)
     where
       by : (p : Result Place Fault) → LeavesInRange (with_value (and_then p (λ p. Ok (record { place = p; after = now }))) (λ (f : Found). effect f.place f.after))
       by (Ok p) = does p
@@ -312,13 +311,13 @@ assigns o now is h =
     (λ p after. with_memory (write_bit p after.registers.status.rlo after.memory) after (λ done. next (with_status (after_store done.registers.status.rlo) done))) is h
     (λ p n k. writes_bit p n.registers.status.rlo (after_store n.registers.status.rlo n.registers.status) n k)
 
-stores : (stands : Bool → Bool → Bool) (o : Operand) (now : Now) → IsOperand width.Bit o → IsInRange now → LeavesInRange (stored stands o now)
-stores stands o now is h =
+stores : (value : Bool) (o : Operand) (now : Now) → IsOperand width.Bit o → IsInRange now → LeavesInRange (stored value o now)
+stores value o now is h =
     at_place o width.Bit now
-    (λ p n. with_value (read_bit p n.memory) (λ b. with_memory (write_bit p (stands b n.registers.status.rlo) n.memory) n (on_status (after_store (stands b n.registers.status.rlo))))) is h
+    (λ p n. with_value (read_bit p n.memory) (λ b. with_memory (write_bit p (if n.registers.status.rlo then value else b) n.memory) n (on_status (after_store (if n.registers.status.rlo then value else b))))) is h
     (λ p n k. by_bit (read_bit p n.memory)
-    (λ b. with_memory (write_bit p (stands b n.registers.status.rlo) n.memory) n (on_status (after_store (stands b n.registers.status.rlo))))
-    (λ b. writes_bit p (stands b n.registers.status.rlo) (after_store (stands b n.registers.status.rlo) n.registers.status) n k))
+    (λ b. with_memory (write_bit p (if n.registers.status.rlo then value else b) n.memory) n (on_status (after_store (if n.registers.status.rlo then value else b))))
+    (λ b. writes_bit p (if n.registers.status.rlo then value else b) (after_store (if n.registers.status.rlo then value else b) n.registers.status) n k))
 
 edges : (rising : Bool) (o : Operand) (now : Now) → IsOperand width.Bit o → IsInRange now → LeavesInRange (at_edge rising o now)
 edges rising o now is h =
@@ -362,8 +361,8 @@ ranges_kept op.OrAlone now is h = flags_kept _ now h
 ranges_kept (op.Bracket c) now is h = record { registers = any_status now.registers _ h.registers; memory = h.memory }
 ranges_kept op.Close now is h = closes now.brackets now h
 ranges_kept (op.Assign o) now is h = assigns o now is h
-ranges_kept (op.Set o) now is h = stores (λ b rlo. b || rlo) o now is h
-ranges_kept (op.Reset o) now is h = stores (λ b rlo. b && not rlo) o now is h
+ranges_kept (op.Set o) now is h = stores true o now is h
+ranges_kept (op.Reset o) now is h = stores false o now is h
 ranges_kept op.SetRlo now is h = flags_kept _ now h
 ranges_kept op.ClearRlo now is h = flags_kept _ now h
 ranges_kept op.NotRlo now is h = flags_kept _ now h
@@ -385,9 +384,9 @@ ranges_kept (op.AddWord n) now is h =
 ranges_kept (op.AddDword n) now is h =
     goes_on _ now h (accu1_kept _ _ now.registers h.registers (with_number_below width.Dword now.registers.accu1 (signed_part width.Dword now.registers.accu1 +ℤ n) h.registers.accu1))
 ranges_kept (op.Inc n) now is h =
-    goes_on _ now h (accu1_kept _ _ now.registers h.registers (with_number_below width.Byte now.registers.accu1 (signed_part width.Byte now.registers.accu1 +ℤ pos n) h.registers.accu1))
+    let a : now.registers.accu1 < 2 ^ 32 = h.registers.accu1 in goes_on _ now h (accu1_kept _ _ now.registers h.registers (omega arith))
 ranges_kept (op.Dec n) now is h =
-    goes_on _ now h (accu1_kept _ _ now.registers h.registers (with_number_below width.Byte now.registers.accu1 (signed_part width.Byte now.registers.accu1 -ℤ pos n) h.registers.accu1))
+    let a : now.registers.accu1 < 2 ^ 32 = h.registers.accu1 in goes_on _ now h (accu1_kept _ _ now.registers h.registers (omega arith))
 ranges_kept (op.Compare t w) now is h = flags_kept _ now h
 ranges_kept (op.Shift k count) now is h =
     goes_on (after_shift k count now.registers) now h (shift_kept k (count_of count now.registers) now.registers h.registers)

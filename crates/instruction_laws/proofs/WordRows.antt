@@ -1,6 +1,6 @@
 -- The rows on ACCU1 that some operands leave as it is: sums with a constant, shifts, word logic; and conversions.
 use Rattle.std.proofs.Common.{◌≡◌, ℕ, ◌+◌, ◌-◌, ◌*◌, ◌/◌, ◌%◌, ◌^◌, ◌<◌, ◌≤◌, ◌==◌, pos, Bool, true, false, not, ◌||◌, if◌then◌else◌, [], ◌∷◌, Option, Some, None, Result, Ok, Err, refl, sym, ap, subst, ◌∙◌, eqb-true, arith}
-use Rattle.std.specs.Prelude.{ℤ, neg_ℤ, ◌+ℤ◌, ◌-ℤ◌, bit_and, bit_or}
+use Rattle.std.specs.Prelude.{reverse, ℤ, neg_ℤ, ◌+ℤ◌, ◌-ℤ◌, bit_and, bit_or}
 use Rattle.std.specs.Int.{from_bool}
 use Rattle.std.specs.Int.Bits.{and_zero_r}
 use Rattle.std.specs.Ordering.{int_eq}
@@ -13,7 +13,9 @@ use Rattle.s7_base.specs.declared.register.Reg.TheVariants as reg
 use Rattle.s7_base.specs.declared.word.Width.{Width}
 use Rattle.s7_base.specs.declared.word.Width.TheVariants as width
 use Rattle.status_word.specs.Results.{after_converted, after_shifted}
-use Rattle.stl_tree.specs.Accumulators.{decreased, increased, part, signed_part, with_number, with_part}
+use Rattle.memory_areas.specs.Areas.{bytes_of_dword, bytes_of_word, dword_at, word_at}
+use Rattle.stl_tree.proofs.RowForms.{down_in_byte, up_in_byte}
+use Rattle.stl_tree.specs.Accumulators.{counted_down, counted_up, increased, part, signed_part, with_number, with_part}
 use Rattle.stl_tree.specs.Arithmetic.{negated, result_in}
 use Rattle.stl_tree.specs.Conversions.{from_digits, to_digits, with_digits, with_value_of_digits}
 use Rattle.stl_tree.specs.Instructions.{on_accu1}
@@ -65,11 +67,18 @@ add_word_alike n r s h = sum_alike (λ a m. with_number width.Word a (signed_par
 pub add_dword_alike : (n : ℤ) (r s : RegisterValues) → AreSame (increased_by n) r s → RowAlike (increased width.Dword n) r s
 add_dword_alike n r s h = sum_alike (λ a m. with_number width.Dword a (signed_part width.Dword a +ℤ m)) (λ a. grind (arith, ints)) n r s h
 
-pub inc_alike : (n : ℤ) (r s : RegisterValues) → AreSame (increased_by n) r s → RowAlike (increased width.Byte n) r s
-inc_alike n r s h = sum_alike (λ a m. with_number width.Byte a (signed_part width.Byte a +ℤ m)) (λ a. grind (arith, ints)) n r s h
+row_is : (row other : RegisterValues → RegisterValues) → ((r : RegisterValues) → row r ≡ other r) → (r s : RegisterValues) → RowAlike other r s → RowAlike row r s
+row_is row other same r s h = subst (λ a. Alike r s a (row s)) (sym (same r)) (subst (λ b. Alike r s (other r) b) (sym (same s)) h)
 
-pub dec_alike : (n : ℤ) (r s : RegisterValues) → AreSame (increased_by n) r s → RowAlike (decreased width.Byte n) r s
-dec_alike n r s h = sum_alike (λ a m. with_number width.Byte a (signed_part width.Byte a -ℤ m)) (λ a. grind (arith, ints)) n r s h
+pub inc_alike : (n : ℕ) (r s : RegisterValues) → AreSame (increased_by (pos n)) r s → RowAlike (counted_up n) r s
+inc_alike n r s h =
+    row_is (counted_up n) _ (up_in_byte n) r s
+    (sum_alike (λ a m. with_number width.Byte a (signed_part width.Byte a +ℤ m)) (λ a. grind (arith, ints)) (pos n) r s h)
+
+pub dec_alike : (n : ℕ) (r s : RegisterValues) → AreSame (increased_by (pos n)) r s → RowAlike (counted_down n) r s
+dec_alike n r s h =
+    row_is (counted_down n) _ (down_in_byte n) r s
+    (sum_alike (λ a m. with_number width.Byte a (signed_part width.Byte a -ℤ m)) (λ a. grind (arith, ints)) (pos n) r s h)
 
 -- Shifts
 
@@ -225,8 +234,8 @@ convert_alike row.Dtb now s h = goes_on (to_digits width.Dword 7) now s (digits_
 convert_alike row.Itd now s h = accu1_alike (λ a. pattern 32 (signed_part width.Word a)) now s h.0
 convert_alike row.Invi now s h = accu1_alike (λ a. with_part width.Word a (2 ^ 16 - 1 - part width.Word a)) now s h.0
 convert_alike row.Invd now s h = accu1_alike (λ a. with_part width.Dword a (2 ^ 32 - 1 - part width.Dword a)) now s h.0
-convert_alike row.Caw now s h = accu1_alike (λ a. with_part width.Word a (a % 2 ^ 8 * 2 ^ 8 + a / 2 ^ 8 % 2 ^ 8)) now s h.0
+convert_alike row.Caw now s h = accu1_alike (λ a. with_part width.Word a (word_at (reverse (bytes_of_word (part width.Word a))) 0)) now s h.0
 convert_alike row.Cad now s h =
-    accu1_alike (λ a. with_part width.Dword a (a % 2 ^ 8 * 2 ^ 24 + a / 2 ^ 8 % 2 ^ 8 * 2 ^ 16 + a / 2 ^ 16 % 2 ^ 8 * 2 ^ 8 + a / 2 ^ 24 % 2 ^ 8)) now s h.0
+    accu1_alike (λ a. with_part width.Dword a (dword_at (reverse (bytes_of_dword (part width.Dword a))) 0)) now s h.0
 convert_alike row.Negi now s h = goes_on (negated width.Word) now s (negates width.Word now.registers (beside now.registers s) h)
 convert_alike row.Negd now s h = goes_on (negated width.Dword) now s (negates width.Dword now.registers (beside now.registers s) h)

@@ -1,6 +1,6 @@
 -- The ranges of registers and of memory, and what an instruction leaves in them.
 use Rattle.std.specs.Prelude.{◌^◌, ◌<◌}
-use Rattle.st_tree.specs.Fitting.{HoldsBytes}
+use Rattle.memory_areas.specs.Access.{HoldsBytes}
 use Rattle.stl_tree.specs.Now.{Now, Effect, next, go, enter, leave, fault}
 use Rattle.stl_tree.specs.Registers.{RegisterValues}
 

@@ -1,8 +1,8 @@
 //! Laws of instructions: what an instruction does depends on no register but those that it reads, it keeps registers
 //! and memory in their ranges, and its accesses go by the tests of `located`.
 //!
-//! Stands on `stl_tree`, whose instruction table these laws are about; of `st_tree` it names when a memory holds
-//! bytes, and that writes keep it so. It computes nothing: the contracts of its functions are the laws.
+//! Stands on `stl_tree`, whose instruction table these laws are about, and on `st_tree`, whose proofs show that writes
+//! keep a memory of bytes one. It computes nothing: the contracts of its functions are the laws.
 #![tactic(auto)]
 
 ghost use Rattle.instruction_laws.specs.InstructionLaws.{AccessesAreLocated, EffectsDependOnReads, RangesAreKept};

@@ -1,6 +1,6 @@
 -- Checks, and what is stored in a bit: their statements do what their rows do. What they do once an operand was found
 -- is said of any bit at a place, in the state in which it was found.
-use Rattle.std.proofs.Common.{◌≡◌, ℕ, ◌+◌, ◌≤◌, pos, Bool, true, false, not, ◌&&◌, ◌||◌, List, [], ◌∷◌, length, Result, Ok, Err, refl, sym, ap, ◌∙◌}
+use Rattle.std.proofs.Common.{◌≡◌, ℕ, ◌+◌, ◌≤◌, pos, Bool, true, false, not, if◌then◌else◌, List, [], ◌∷◌, length, Result, Ok, Err, refl, sym, ap, ◌∙◌}
 use Rattle.std.specs.Prelude.{ℤ}
 use Rattle.memory_areas.specs.Access.{and_then, read_bit, write_bit}
 use Rattle.memory_areas.specs.Areas.{Contents}
@@ -12,6 +12,7 @@ use Rattle.s7_base.specs.declared.outcome.Fault.{Fault}
 use Rattle.s7_base.specs.declared.register.Reg.{Reg}
 use Rattle.s7_base.specs.declared.register.Reg.TheVariants as reg
 use Rattle.s7_base.specs.declared.word.Width.TheVariants as width
+use Rattle.stl_tree.proofs.RowForms.{reset_by_and, set_by_or}
 use Rattle.stl_tree.specs.Accepted.{IsOperand}
 use Rattle.stl_tree.specs.Instructions.{effect_of}
 use Rattle.stl_tree.specs.Now.{Activation, Now, fault, next, with_memory, with_status, with_value}
@@ -183,18 +184,21 @@ module _ (g : List Located) (calls : Calls) (units : ℕ) (acts : List Activatio
 
   set_does : (e : Expr) (bit : Result Bool Fault) → value g e s ≡ and_then bit (λ b. Ok (flag b))
       → DoesRow (body_meaning g calls (storing (set_value e)) units s) units used acts s now.memory
-      (with_value bit (λ b. with_memory (write_bit p (b || rlo) now.memory) now (λ done. next (with_status (after_store (b || rlo)) done))))
+      (with_value bit (λ b. with_memory (write_bit p (if rlo then true else b) now.memory) now (λ done. next (with_status (after_store (if rlo then true else b)) done))))
   set_does e (Ok b) h =
-      store_goes (set_value e) (b || rlo) (or_worth g s e (read_of reg.Rlo) b rlo h (rlo_worth g acts now s related)) (write_bit p (b || rlo) now.memory) refl
+      store_goes (set_value e) (if rlo then true else b)
+      (or_worth g s e (read_of reg.Rlo) b rlo h (rlo_worth g acts now s related) ∙ ap (λ v. Ok (flag v)) (sym (set_by_or rlo b)))
+      (write_bit p (if rlo then true else b) now.memory) refl
   set_does e (Err f) h = store_stops (set_value e) f (left_stops g s binary.Or e (read_of reg.Rlo) f h)
 
   reset_does : (e : Expr) (bit : Result Bool Fault) → value g e s ≡ and_then bit (λ b. Ok (flag b))
       → DoesRow (body_meaning g calls (storing (reset_value e)) units s) units used acts s now.memory
-      (with_value bit (λ b. with_memory (write_bit p (b && not rlo) now.memory) now (λ done. next (with_status (after_store (b && not rlo)) done))))
+      (with_value bit (λ b. with_memory (write_bit p (if rlo then false else b) now.memory) now (λ done. next (with_status (after_store (if rlo then false else b)) done))))
   reset_does e (Ok b) h =
-      store_goes (reset_value e) (b && not rlo)
-      (and_worth g s e (not_of (read_of reg.Rlo)) b (not rlo) h (not_worth g s (read_of reg.Rlo) rlo (rlo_worth g acts now s related)))
-      (write_bit p (b && not rlo) now.memory) refl
+      store_goes (reset_value e) (if rlo then false else b)
+      (and_worth g s e (not_of (read_of reg.Rlo)) b (not rlo) h (not_worth g s (read_of reg.Rlo) rlo (rlo_worth g acts now s related))
+      ∙ ap (λ v. Ok (flag v)) (sym (reset_by_and rlo b)))
+      (write_bit p (if rlo then false else b) now.memory) refl
   reset_does e (Err f) h = store_stops (reset_value e) f (left_stops g s binary.And e (not_of (read_of reg.Rlo)) f h)
 
 -- Rows
@@ -229,7 +233,7 @@ module _ (g : List Located) (calls : Calls) (units : ℕ) (acts : List Activatio
   pub set_row : HasRoom → DoesRow (body_meaning g calls (statements_of (spot_at first) (op.Set o)) units s) units first acts s now.memory (effect_of (op.Set o) now)
   set_row room =
       fetched_row g calls units acts now s related first o width.Bit lies {A = Bool} read_bit flag bit_shown
-      (λ p after b. with_memory (write_bit p (b || after.registers.status.rlo) after.memory) after (λ done. next (with_status (after_store (b || after.registers.status.rlo)) done)))
+      (λ p after b. with_memory (write_bit p (if after.registers.status.rlo then true else b) after.memory) after (λ done. next (with_status (after_store (if after.registers.status.rlo then true else b)) done)))
       (store_of first o (set_value bit)) room
       (λ f is t done.
       set_does g calls units acts f.after t done.related later (writing_of first o width.Bit) f.place (done.writes t (keeps_itself later t)) bit (read_bit f.place f.after.memory) done.here)
@@ -237,7 +241,7 @@ module _ (g : List Located) (calls : Calls) (units : ℕ) (acts : List Activatio
   pub reset_row : HasRoom → DoesRow (body_meaning g calls (statements_of (spot_at first) (op.Reset o)) units s) units first acts s now.memory (effect_of (op.Reset o) now)
   reset_row room =
       fetched_row g calls units acts now s related first o width.Bit lies {A = Bool} read_bit flag bit_shown
-      (λ p after b. with_memory (write_bit p (b && not after.registers.status.rlo) after.memory) after (λ done. next (with_status (after_store (b && not after.registers.status.rlo)) done)))
+      (λ p after b. with_memory (write_bit p (if after.registers.status.rlo then false else b) after.memory) after (λ done. next (with_status (after_store (if after.registers.status.rlo then false else b)) done)))
       (store_of first o (reset_value bit)) room
       (λ f is t done.
       reset_does g calls units acts f.after t done.related later (writing_of first o width.Bit) f.place (done.writes t (keeps_itself later t)) bit (read_bit f.place f.after.memory) done.here)

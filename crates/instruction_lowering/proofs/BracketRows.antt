@@ -97,13 +97,13 @@ module _ (g : List Located) (calls : Calls) (units : ℕ) (acts : List Activatio
   two = with_own (p.used + 1) (flag bits.orb) one
 
   abbrev three : State
-  three = with_own (p.used + 2) (flag bits.fc) two
+  three = with_own (p.used + 2) (flag bits.nfc) two
 
-  own_three : own_of three.activations ≡ three_set own p.used (flag bits.rlo) (flag bits.orb) (flag bits.fc)
+  own_three : own_of three.activations ≡ three_set own p.used (flag bits.rlo) (flag bits.orb) (flag bits.nfc)
   own_three =
-      own_set (p.used + 2) (flag bits.fc) two
-      ∙ ap (λ xs. slice_set xs (p.used + 2) (flag bits.fc)) (own_set (p.used + 1) (flag bits.orb) one)
-      ∙ ap (λ xs. slice_set (slice_set xs (p.used + 1) (flag bits.orb)) (p.used + 2) (flag bits.fc)) (own_set p.used (flag bits.rlo) s)
+      own_set (p.used + 2) (flag bits.nfc) two
+      ∙ ap (λ xs. slice_set xs (p.used + 2) (flag bits.nfc)) (own_set (p.used + 1) (flag bits.orb) one)
+      ∙ ap (λ xs. slice_set (slice_set xs (p.used + 1) (flag bits.orb)) (p.used + 2) (flag bits.nfc)) (own_set p.used (flag bits.rlo) s)
 
   as_long_one : length (own_of one.activations) ≡ length own
   as_long_one = ap length (own_set p.used (flag bits.rlo) s) ∙ set_length own p.used (flag bits.rlo)
@@ -113,30 +113,30 @@ module _ (g : List Located) (calls : Calls) (units : ℕ) (acts : List Activatio
 
   deep : length three.activations ≡ length s.activations
   deep =
-      as_deep two.activations _ (p.used + 2) (flag bits.fc)
+      as_deep two.activations _ (p.used + 2) (flag bits.nfc)
       ∙ as_deep one.activations _ (p.used + 1) (flag bits.orb) ∙ as_deep s.activations _ p.used (flag bits.rlo)
 
   opened_keeps : (c : Check) → p.used + 3 ≤ total → Keeps total (behind (op.Bracket c) p) (entry_of c bits ∷ now.brackets) three.activations
   opened_keeps c room =
       let long : length own ≡ total = keeps.0 in
-      let xs : List Value = three_set own p.used (flag bits.rlo) (flag bits.orb) (flag bits.fc) in
+      let xs : List Value = three_set own p.used (flag bits.rlo) (flag bits.orb) (flag bits.nfc) in
       let kept : KeepsBracket (p.used + 3) (record { check = c; kept = chain_at p.used }) (entry_of c bits) xs =
       record {
         first = p.used;
         kept = refl;
         below = omega arith;
         check = refl;
-        rlo = first_got own p.used (flag bits.rlo) (flag bits.orb) (flag bits.fc) (omega arith);
-        orb = second_got own p.used (flag bits.rlo) (flag bits.orb) (flag bits.fc) (omega arith);
-        nfc = third_got own p.used (flag bits.rlo) (flag bits.orb) (flag bits.fc) (omega arith);
+        rlo = first_got own p.used (flag bits.rlo) (flag bits.orb) (flag bits.nfc) (omega arith);
+        orb = second_got own p.used (flag bits.rlo) (flag bits.orb) (flag bits.nfc) (omega arith);
+        nfc = third_got own p.used (flag bits.rlo) (flag bits.orb) (flag bits.nfc) (omega arith);
       } in
       subst (λ (ys : List Value). (length ys ≡ total) × KeepBrackets (p.used + 3) (record { check = c; kept = chain_at p.used } ∷ p.brackets) (entry_of c bits ∷ now.brackets) ys)
       (sym own_three) (
-        three_length own p.used (flag bits.rlo) (flag bits.orb) (flag bits.fc) ∙ long,
+        three_length own p.used (flag bits.rlo) (flag bits.orb) (flag bits.nfc) ∙ long,
         (
           kept,
           kept_below p.used (p.used + 3) p.brackets now.brackets own xs (omega arith)
-              (λ i below. three_other own p.used i (flag bits.rlo) (flag bits.orb) (flag bits.fc) below) keeps.1,
+              (λ i below. three_other own p.used i (flag bits.rlo) (flag bits.orb) (flag bits.nfc) below) keeps.1,
         ),
       )
 
@@ -159,7 +159,7 @@ module _ (g : List Located) (calls : Calls) (units : ℕ) (acts : List Activatio
         u,
         keeps_value g calls units p.used reg.Rlo bits.rlo (keep_of (p.used + 1) reg.Orb ∷ keep_of (p.used + 2) reg.Nfc ∷ cleared false) s (omega arith) refl (related.registers reg.Rlo tt)
             ∙ keeps_value g calls units (p.used + 1) reg.Orb bits.orb (keep_of (p.used + 2) reg.Nfc ∷ cleared false) one (omega arith) refl (related.registers reg.Orb tt)
-            ∙ keeps_value g calls units (p.used + 2) reg.Nfc bits.fc (cleared false) two (omega arith) refl (related.registers reg.Nfc tt)
+            ∙ keeps_value g calls units (p.used + 2) reg.Nfc bits.nfc (cleared false) two (omega arith) refl (related.registers reg.Nfc tt)
             ∙ clears g calls units false three,
         keep_bits IsKept acts (record now { brackets = entry_of c bits ∷ now.brackets }) three
             (keep_activations IsKept acts (record now { brackets = entry_of c bits ∷ now.brackets }) s (keep_brackets IsKept acts now s related (entry_of c bits ∷ now.brackets)) three.activations deep)
@@ -196,7 +196,7 @@ module _ (g : List Located) (calls : Calls) (units : ℕ) (acts : List Activatio
   goes_behind check.Xn v orb t h = clears g calls units true t
 
   abbrev closing : Check → Entry → StatusBits
-  closing c e = record bits { rlo = rlo_after c bits.rlo (restored e bits); orb = orb_after c (restored e bits); sta = true; fc = true }
+  closing c e = record bits { rlo = rlo_after c bits.rlo (restored e bits); orb = orb_after c (restored e bits); sta = true; nfc = true }
 
   orb_back : (c : Check) (e : Entry) → orb_after c (restored e bits) ≡ e.orb
       → AreAlike IsKept (record now.registers { status = closing c e }) (with_register reg.Nfc (pos 1) (with_register reg.Orb (number_of e.orb) (with_register reg.Rlo (number_of (rlo_after c bits.rlo (restored e bits))) s.registers)))

@@ -23,42 +23,42 @@ module _ (g : List Located) (s : State) where
   -- a chain keeps these bits
   pub record IsChain (chain : Chain) (bits : StatusBits) : Type 0 where
     pub rlo : IsWorth g s (expr.Read chain.rlo) bits.rlo
-    pub nfc : IsWorth g s (expr.Read chain.nfc) bits.fc
+    pub nfc : IsWorth g s (expr.Read chain.nfc) bits.nfc
     pub orb : IsWorth g s (expr.Read chain.orb) bits.orb
 
   module _ (chain : Chain) (bits : StatusBits) (kept : IsChain chain bits) where
-    before_and : IsWorth g s (rlo_before_and chain) (bits.rlo || not bits.fc)
-    before_and = or_worth g s (expr.Read chain.rlo) (not_of (expr.Read chain.nfc)) bits.rlo (not bits.fc) kept.rlo (not_worth g s (expr.Read chain.nfc) bits.fc kept.nfc)
+    before_and : IsWorth g s (rlo_before_and chain) (bits.rlo || not bits.nfc)
+    before_and = or_worth g s (expr.Read chain.rlo) (not_of (expr.Read chain.nfc)) bits.rlo (not bits.nfc) kept.rlo (not_worth g s (expr.Read chain.nfc) bits.nfc kept.nfc)
 
-    before_or : IsWorth g s (rlo_before_or chain) (bits.rlo && bits.fc)
-    before_or = and_worth g s (expr.Read chain.rlo) (expr.Read chain.nfc) bits.rlo bits.fc kept.rlo kept.nfc
+    before_or : IsWorth g s (rlo_before_or chain) (bits.rlo && bits.nfc)
+    before_or = and_worth g s (expr.Read chain.rlo) (expr.Read chain.nfc) bits.rlo bits.nfc kept.rlo kept.nfc
 
-    joined : (e : Expr) (b : Bool) → IsWorth g s e b → IsWorth g s (and_joined chain e) (((bits.rlo || not bits.fc) && b) || bits.orb)
+    joined : (e : Expr) (b : Bool) → IsWorth g s e b → IsWorth g s (and_joined chain e) (((bits.rlo || not bits.nfc) && b) || bits.orb)
     joined e b h =
-        or_worth g s (and_of (rlo_before_and chain) e) (expr.Read chain.orb) ((bits.rlo || not bits.fc) && b) bits.orb
-        (and_worth g s (rlo_before_and chain) e (bits.rlo || not bits.fc) b before_and h) kept.orb
+        or_worth g s (and_of (rlo_before_and chain) e) (expr.Read chain.orb) ((bits.rlo || not bits.nfc) && b) bits.orb
+        (and_worth g s (rlo_before_and chain) e (bits.rlo || not bits.nfc) b before_and h) kept.orb
 
-    or_row : (rlo fc b : Bool) → ((rlo && fc) || b) ≡ (if fc then rlo || b else b)
+    or_row : (rlo nfc b : Bool) → ((rlo && nfc) || b) ≡ (if nfc then rlo || b else b)
     or_row true true b = refl
     or_row true false b = refl
     or_row false true b = refl
     or_row false false b = refl
 
-    xor_row : (rlo fc b : Bool) → (if rlo && fc then not b else b) ≡ (if fc then (if rlo then not b else b) else b)
+    xor_row : (rlo nfc b : Bool) → (if rlo && nfc then not b else b) ≡ (if nfc then (if rlo then not b else b) else b)
     xor_row true true b = refl
     xor_row true false b = refl
     xor_row false true b = refl
     xor_row false false b = refl
 
-    or_else : (e : Expr) (b : Bool) → IsWorth g s e b → IsWorth g s (or_of (rlo_before_or chain) e) (if bits.fc then bits.rlo || b else b)
+    or_else : (e : Expr) (b : Bool) → IsWorth g s e b → IsWorth g s (or_of (rlo_before_or chain) e) (if bits.nfc then bits.rlo || b else b)
     or_else e b h =
-        or_worth g s (rlo_before_or chain) e (bits.rlo && bits.fc) b before_or h ∙ ap (λ x. Ok (flag x)) (or_row bits.rlo bits.fc b)
+        or_worth g s (rlo_before_or chain) e (bits.rlo && bits.nfc) b before_or h ∙ ap (λ x. Ok (flag x)) (or_row bits.rlo bits.nfc b)
 
-    xor_else : (e : Expr) (b : Bool) → IsWorth g s e b → IsWorth g s (xor_of (rlo_before_or chain) e) (if bits.fc then (if bits.rlo then not b else b) else b)
+    xor_else : (e : Expr) (b : Bool) → IsWorth g s e b → IsWorth g s (xor_of (rlo_before_or chain) e) (if bits.nfc then (if bits.rlo then not b else b) else b)
     xor_else e b h =
-        xor_worth g s (rlo_before_or chain) e (bits.rlo && bits.fc) b before_or h ∙ ap (λ x. Ok (flag x)) (xor_row bits.rlo bits.fc b)
+        xor_worth g s (rlo_before_or chain) e (bits.rlo && bits.nfc) b before_or h ∙ ap (λ x. Ok (flag x)) (xor_row bits.rlo bits.nfc b)
 
-    twice : (fc rlo b : Bool) → (if fc then (if rlo then not (not b) else not b) else not b) ≡ (if fc then (if rlo then b else not b) else not b)
+    twice : (nfc rlo b : Bool) → (if nfc then (if rlo then not (not b) else not b) else not b) ≡ (if nfc then (if rlo then b else not b) else not b)
     twice true true true = refl
     twice true true false = refl
     twice true false b = refl
@@ -71,21 +71,21 @@ module _ (g : List Located) (s : State) where
     checked_worth check.O e b h = or_else e b h
     checked_worth check.On e b h = or_else (not_of e) (not b) (not_worth g s e b h)
     checked_worth check.X e b h = xor_else e b h
-    checked_worth check.Xn e b h = xor_else (not_of e) (not b) (not_worth g s e b h) ∙ ap (λ x. Ok (flag x)) (twice bits.fc bits.rlo b)
+    checked_worth check.Xn e b h = xor_else (not_of e) (not b) (not_worth g s e b h) ∙ ap (λ x. Ok (flag x)) (twice bits.nfc bits.rlo b)
 
     joined_stops : (e : Expr) (f : Fault) → Stops g s e f → Stops g s (and_joined chain e) f
     joined_stops e f h =
         left_stops g s binary.Or (and_of (rlo_before_and chain) e) (expr.Read chain.orb) f
-        (right_stops g s binary.And (rlo_before_and chain) e (bits.rlo || not bits.fc) f before_and h)
+        (right_stops g s binary.And (rlo_before_and chain) e (bits.rlo || not bits.nfc) f before_and h)
 
     -- it faults where what is checked does
     pub checked_stops : (c : Check) (e : Expr) (f : Fault) → Stops g s e f → Stops g s (next_rlo chain c e) f
     checked_stops check.A e f h = joined_stops e f h
     checked_stops check.An e f h = joined_stops (not_of e) f (not_stops g s e f h)
-    checked_stops check.O e f h = right_stops g s binary.Or (rlo_before_or chain) e (bits.rlo && bits.fc) f before_or h
-    checked_stops check.On e f h = right_stops g s binary.Or (rlo_before_or chain) (not_of e) (bits.rlo && bits.fc) f before_or (not_stops g s e f h)
-    checked_stops check.X e f h = right_stops g s binary.Xor (rlo_before_or chain) e (bits.rlo && bits.fc) f before_or h
-    checked_stops check.Xn e f h = right_stops g s binary.Xor (rlo_before_or chain) (not_of e) (bits.rlo && bits.fc) f before_or (not_stops g s e f h)
+    checked_stops check.O e f h = right_stops g s binary.Or (rlo_before_or chain) e (bits.rlo && bits.nfc) f before_or h
+    checked_stops check.On e f h = right_stops g s binary.Or (rlo_before_or chain) (not_of e) (bits.rlo && bits.nfc) f before_or (not_stops g s e f h)
+    checked_stops check.X e f h = right_stops g s binary.Xor (rlo_before_or chain) e (bits.rlo && bits.nfc) f before_or h
+    checked_stops check.Xn e f h = right_stops g s binary.Xor (rlo_before_or chain) (not_of e) (bits.rlo && bits.nfc) f before_or (not_stops g s e f h)
 
 module _ (g : List Located) (acts : List Activation) (now : Now) (s : State) (related : Related acts now s) where
   -- the registers keep the chain

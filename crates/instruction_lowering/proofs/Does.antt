@@ -96,7 +96,7 @@ left_at_place entries (operand.ByMemory a pointer_area byte) now effect e h = by
     by (Err x) = tt
 left_at_place entries (operand.ByRegister a r offset) now effect e h = h (aimed_place a (with_offset (pointer_in r now.registers) offset) now) now e
 left_at_place entries (operand.Crossing r offset) now effect e h =
-    let aim : Aim = aimed_by (with_offset (pointer_in r now.registers) offset) now in by (place_aimed aim.area aim.byte aim.bit)
+    let aim : Aim = aimed_by (with_offset (pointer_in r now.registers) offset) now in by (place_aimed aim)
   where
     by : (r : Result Place Fault) → LeavesBrackets entries (with_value (and_then r (λ p. is_found p now)) (λ f. effect f.place f.after))
     by (Ok p) = h p now e

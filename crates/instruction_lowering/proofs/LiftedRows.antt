@@ -1,6 +1,6 @@
 -- Instructions on bits, in the accumulators and the address registers and on the numbers of data blocks, which open and
 -- close no bracket: their statements do what their rows do.
-use Rattle.std.proofs.Common.{◌≡◌, ℕ, ◌+◌, ◌≤◌, Bool, true, false, not, ◌&&◌, ◌||◌, List, [], ◌∷◌, length, Option, Result, Ok, refl, arith}
+use Rattle.std.proofs.Common.{◌≡◌, ℕ, ◌+◌, ◌≤◌, Bool, true, false, if◌then◌else◌, List, [], ◌∷◌, length, Option, Result, Ok, refl, arith}
 use Rattle.std.specs.Prelude.{ℤ}
 use Rattle.std.proofs.lemmas.List.{length-append}
 use Rattle.memory_areas.specs.Access.{read_bit, write_bit}
@@ -110,20 +110,20 @@ module _ (g : List Located) (calls : Calls) (units : ℕ) (acts : List Activatio
       (λ q after same. left_by_write after (write_bit q after.registers.status.rlo after.memory) after_store same))
       (assign_row g calls units acts now s related p.used o lies (in_unit (length (types_of (op.Assign o))) room))
 
-  left_by_store : (o : Operand) (stands : Bool → Bool → Bool) → LeavesBrackets now.brackets (stored stands o now)
-  left_by_store o stands =
+  left_by_store : (o : Operand) (value : Bool) → LeavesBrackets now.brackets (stored value o now)
+  left_by_store o value =
       left_at_place now.brackets o now
-      (λ q after. with_value (read_bit q after.memory) (λ b. with_memory (write_bit q (stands b after.registers.status.rlo) after.memory) after (on_status (after_store (stands b after.registers.status.rlo))))) refl
-      (λ q after same. left_by_value {A = Bool} now.brackets (λ (b : Bool). with_memory (write_bit q (stands b after.registers.status.rlo) after.memory) after (on_status (after_store (stands b after.registers.status.rlo)))) (read_bit q after.memory)
-      (λ b. left_by_write after (write_bit q (stands b after.registers.status.rlo) after.memory) (λ rlo. after_store (stands b after.registers.status.rlo)) same))
+      (λ q after. with_value (read_bit q after.memory) (λ b. with_memory (write_bit q (if after.registers.status.rlo then value else b) after.memory) after (on_status (after_store (if after.registers.status.rlo then value else b))))) refl
+      (λ q after same. left_by_value {A = Bool} now.brackets (λ (b : Bool). with_memory (write_bit q (if after.registers.status.rlo then value else b) after.memory) after (on_status (after_store (if after.registers.status.rlo then value else b)))) (read_bit q after.memory)
+      (λ b. left_by_write after (write_bit q (if after.registers.status.rlo then value else b) after.memory) (λ rlo. after_store (if after.registers.status.rlo then value else b)) same))
 
   pub set_does : (o : Operand) → IsOperand width.Bit o → (behind (op.Set o) p).used ≤ total → DoesHere (op.Set o)
   set_does o lies room =
-      lifted (op.Set o) refl (omega arith) (left_by_store o (λ b rlo. b || rlo)) (set_row g calls units acts now s related p.used o lies (in_unit (length (types_of (op.Set o))) room))
+      lifted (op.Set o) refl (omega arith) (left_by_store o true) (set_row g calls units acts now s related p.used o lies (in_unit (length (types_of (op.Set o))) room))
 
   pub reset_does : (o : Operand) → IsOperand width.Bit o → (behind (op.Reset o) p).used ≤ total → DoesHere (op.Reset o)
   reset_does o lies room =
-      lifted (op.Reset o) refl (omega arith) (left_by_store o (λ b rlo. b && not rlo)) (reset_row g calls units acts now s related p.used o lies (in_unit (length (types_of (op.Reset o))) room))
+      lifted (op.Reset o) refl (omega arith) (left_by_store o false) (reset_row g calls units acts now s related p.used o lies (in_unit (length (types_of (op.Reset o))) room))
 
   left_by_edge : (o : Operand) (rising : Bool) → LeavesBrackets now.brackets (at_edge rising o now)
   left_by_edge o rising =

@@ -12,7 +12,8 @@ use Rattle.std.proofs.lemmas.Fmt.{decimal_by_steps, decimal_injective}
 use Rattle.std.proofs.lemmas.List.{map-append}
 use Rattle.std.proofs.lemmas.Slice.Eq.{bytes_eq-Decides}
 use Rattle.stl_tree.specs.Accepted.{IsAcceptedBlock, IsBlockNumber}
-use Rattle.stl_tree.specs.StlRun.{block_named, greatest, is_same_name}
+use Rattle.s7_base.specs.Numbers.{greatest}
+use Rattle.stl_tree.specs.StlRun.{block_named, is_same_name}
 use Rattle.stl_tree.specs.declared.program.Block.{Block}
 use Rattle.memory_areas.specs.declared.call.BlockName.{BlockName}
 use Rattle.memory_areas.specs.declared.call.BlockName.TheVariants as name

@@ -6,7 +6,7 @@ use Rattle.std.proofs.lemmas.List.Elements.{All-cons, All-head, All-nil, All-tai
 use Rattle.memory_areas.specs.declared.sizes.TheConstants.{ACTIVATIONS}
 use Rattle.st_tree.proofs.FittingCalls.{at_position}
 use Rattle.st_tree.specs.Chains.{chain_of, chain_to, unit_chain}
-use Rattle.st_tree.specs.Depth.{greatest}
+use Rattle.s7_base.specs.Numbers.{greatest}
 use Rattle.st_tree.specs.Parts.{calls_in}
 use Rattle.st_tree.specs.Naming.{are_apart, key_of}
 use Rattle.st_tree.specs.Plain.{IsGivenOn, IsOnlyEnd, IsPlainNode, IsPlainUnit, Plain, listed, listed_text}

@@ -121,7 +121,7 @@ module _ (program : Program) (formed : All IsAcceptedBlock program.blocks) (call
       ∙ ap (option_map unit_of) found
 
   abbrev first : Activation
-  first = record { block = i; at = 0; db = 0; di = 0; formals = [] }
+  first = record { block = i; at = 0; instance = 0; db = 0; di = 0; formals = [] }
 
   abbrev now : Areas → Now
   now memory = record { registers = start; brackets = []; memory = with_areas memory; activations = first ∷ [] }

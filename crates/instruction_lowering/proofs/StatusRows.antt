@@ -124,7 +124,7 @@ module _ (g : List Located) (calls : Calls) (units : ℕ) (acts : List Activatio
 
   -- OR
 
-  or_alike : AreAlike IsKept (record now.registers { status = after_or bits }) (with_register reg.Nfc (pos 0) (with_register reg.Orb (number_of (bits.rlo && bits.fc)) s.registers))
+  or_alike : AreAlike IsKept (record now.registers { status = after_or bits }) (with_register reg.Nfc (pos 0) (with_register reg.Orb (number_of (bits.rlo && bits.nfc)) s.registers))
   or_alike reg.Nfc asked = refl
   or_alike reg.Orb asked = refl
   or_alike reg.Sta asked = elim asked [ ]
@@ -132,11 +132,11 @@ module _ (g : List Located) (calls : Calls) (units : ℕ) (acts : List Activatio
 
   pub or_does : Does (body_meaning g calls (statements_of p op.OrAlone) units s) units total p acts now.memory (next (with_status after_or now))
   or_does =
-      let t : State = record s { registers = with_register reg.Orb (number_of (bits.rlo && bits.fc)) s.registers } in
+      let t : State = record s { registers = with_register reg.Orb (number_of (bits.rlo && bits.nfc)) s.registers } in
       let u : State = record t { registers = with_register reg.Nfc (pos 0) t.registers } in (
         u,
-        sets g calls units reg.Orb (and_of (read_of reg.Rlo) (read_of reg.Nfc)) (bits.rlo && bits.fc) (set_of reg.Nfc (literal_of false) ∷ []) s
-            (and_worth g s (read_of reg.Rlo) (read_of reg.Nfc) bits.rlo bits.fc (rlo_worth g acts now s related) (nfc_worth g acts now s related))
+        sets g calls units reg.Orb (and_of (read_of reg.Rlo) (read_of reg.Nfc)) (bits.rlo && bits.nfc) (set_of reg.Nfc (literal_of false) ∷ []) s
+            (and_worth g s (read_of reg.Rlo) (read_of reg.Nfc) bits.rlo bits.nfc (rlo_worth g acts now s related) (nfc_worth g acts now s related))
             ∙ sets g calls units reg.Nfc (literal_of false) false [] t (literal_worth g t false),
         keep_bits IsKept acts now s related IsKept (after_or bits) u.registers or_alike,
         keeps,

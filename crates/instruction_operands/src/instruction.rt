@@ -4,21 +4,22 @@ ghost use Rattle.s7_base.specs.declared.word.Width.TheVariants as wide;
 ghost use Rattle.stl_rules.specs.Programs.{adding, combining, comparing, is_compared, loading_pointer, moving_pointer, op_by, op_or_rule, op_with, or_bad_operand, outside_rule, pointed, shifting, some_place, some_pointer, storing_pointer, with_number, within};
 ghost use Rattle.stl_rules.specs.declared.given.Given.TheVariants as behind;
 ghost use Rattle.stl_tree.specs.Accepted.{is_of_pointers};
-ghost use Rattle.stl_tree.specs.Accumulators.{bits_wide, signed_part};
+ghost use Rattle.memory_areas.specs.Access.{bits_wide};
+ghost use Rattle.stl_tree.specs.Accumulators.{signed_part};
 ghost use Rattle.stl_tree.specs.Arithmetic.{is_comparison};
 ghost use Rattle.stl_tree.specs.declared.program.Op.{Op};
 ghost use Rattle.stl_tree.specs.declared.program.Op.TheVariants as op;
 ghost use Rattle.stl_tree.specs.declared.program.Operand.{Operand};
 
-use crate::pointer::{may_hold_pointers, pointer_constant};
+use crate::pointer::pointer_constant;
 use memory_areas::AreaName;
 use s7_base::{Check, Reason, Width};
 use status_word::Test;
-use stl_constants::fits;
 use stl_rules::Given;
-use stl_statements::Mnemonic;
+use stl_statements::{Mnemonic, fits};
 use stl_tree::{
     Ar, ArLoad, ArStore, BitArg, Constant, LoadArg, LogicRow, Op, OpenArg, Operand, ShiftRow,
+    may_hold_pointers,
 };
 use symbol_layout::value_in;
 

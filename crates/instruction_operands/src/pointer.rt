@@ -6,24 +6,13 @@ ghost use Rattle.stl_rules.specs.Raw.{given_held, given_if, given_pointer, may_s
 ghost use Rattle.stl_rules.specs.declared.given.Given.TheVariants as behind;
 ghost use Rattle.stl_statements.specs.Constants.{constant};
 ghost use Rattle.stl_statements.specs.Pointers.{is_in_reach, offset_of};
-ghost use Rattle.stl_tree.specs.Accepted.{may_hold_pointers};
 ghost use Rattle.stl_tree.specs.declared.program.Operand.TheVariants as operand;
 
 use memory_areas::{AreaName, is_byte_in};
 use s7_base::Width;
 use stl_places::{offset_value, pointer_value};
 use stl_rules::Given;
-use stl_tree::{Ar, Constant, Operand, RawPlace, RawPointer};
-
-/// The areas that a pointer may stand in.
-pub fn may_hold_pointers(area: AreaName) -> bool
-    ensures { result ≡ may_hold_pointers area }
-{
-    match area {
-        AreaName::I | AreaName::Q => false,
-        AreaName::M | AreaName::L | AreaName::Db | AreaName::Di => true,
-    }
-}
+use stl_tree::{Ar, Constant, Operand, RawPlace, RawPointer, may_hold_pointers};
 
 /// A pointer, or the number of a data block, of a width may stand at a written place.
 fn may_stand(width: Width, place: RawPlace) -> bool

@@ -3,7 +3,7 @@ use Rattle.std.proofs.Common.{◌≡◌, refl, sym, ◌∙◌, ℕ, ◌<◌, Boo
 use Rattle.std.proofs.lemmas.List.{length-replicate}
 use Rattle.std.proofs.lemmas.List.Elements.{All-cons, All-nil, All-replicate}
 use Rattle.memory_areas.specs.Areas.{AreBlocks, Areas, Ascend, Contents, IsArea, IsMemoryOf, IsSized, Match, block_of, bit_of_byte, bytes_of, bytes_of_dword, bytes_of_word, byte_at, byte_with, cleared, dword_at, fresh, numbers_of, replaced, with_block, with_bytes, word_at}
-use Rattle.memory_areas.specs.Memory.{joined, position_of}
+use Rattle.memory_areas.specs.inner.Stored.{joined, position_of}
 use Rattle.memory_areas.specs.declared.data_block.DataBlock.{DataBlock}
 use Rattle.memory_areas.specs.declared.place.Area.TheVariants as area
 

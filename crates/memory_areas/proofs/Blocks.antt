@@ -11,7 +11,7 @@ use Rattle.std.proofs.lemmas.Bool.Decides.{nat_tests}
 use Rattle.memory_areas.specs.Access.{or_none}
 use Rattle.memory_areas.specs.Areas.{Ascend, Contents, block_of, bytes_in, fresh, no_locals, numbers_of, replaced, with_block}
 use Rattle.memory_areas.specs.declared.sizes.TheConstants.{INPUT_BYTES, OUTPUT_BYTES, MARKER_BYTES}
-use Rattle.memory_areas.specs.Memory.{HasRoom, joined, one_further, position_of}
+use Rattle.memory_areas.specs.inner.Stored.{HasRoom, joined, one_further, position_of}
 use Rattle.memory_areas.specs.declared.data_block.DataBlock.{DataBlock}
 
 -- Ascending numbers

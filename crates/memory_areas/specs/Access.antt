@@ -1,5 +1,5 @@
 -- The access to a place in memory: which place it reaches, or which fault it meets.
-use Rattle.std.specs.Prelude.{ℕ, ◌+◌, Bool, false, ◌==◌, nat_lt, nat_le, if◌then◌else◌, List, [], ◌∷◌, length, Option, Some, None, is_none, Result, Ok, Err}
+use Rattle.std.specs.Prelude.{ℕ, ◌+◌, ◌<◌, Bool, false, ◌==◌, nat_lt, nat_le, if◌then◌else◌, List, [], ◌∷◌, length, All, Option, Some, None, is_none, Result, Ok, Err}
 use Rattle.s7_base.specs.declared.outcome.Fault.{Fault}
 use Rattle.s7_base.specs.declared.outcome.Fault.TheVariants.{DbNotOpen, DbMissing, AreaCode, Alignment, AreaLength}
 use Rattle.s7_base.specs.declared.word.Width.{Width}
@@ -32,6 +32,13 @@ bytes_wide width.Byte = 1
 bytes_wide width.Word = 2
 bytes_wide width.Dword = 4
 
+-- how many bits a width has
+abbrev pub bits_wide : Width → ℕ
+bits_wide width.Bit = 1
+bits_wide width.Byte = 8
+bits_wide width.Word = 16
+bits_wide width.Dword = 32
+
 -- the bytes that an operand of this width names, from this one on, lie in its area; the length of a data
 -- block is judged at run time, so there the byte number alone is held to 65,535, whatever the width
 abbrev pub is_byte_in : AreaName → Width → ℕ → Bool
@@ -52,6 +59,15 @@ name_of_code code =
     else if code == 133 then Some name.Di
     else if code == 134 then Some name.L
     else None
+
+-- and the code of a name
+abbrev pub code_of : AreaName → ℕ
+code_of name.I = 129
+code_of name.Q = 130
+code_of name.M = 131
+code_of name.Db = 132
+code_of name.Di = 133
+code_of name.L = 134
 
 -- what an access is aimed at: an area, if there is one of that code, a byte and a bit
 pub record Aim : Type 0 where
@@ -115,6 +131,10 @@ abbrev pub bytes_there : Option Area → Contents → List ℕ
 bytes_there None m = []
 bytes_there (Some a) m = or_none (bytes_of a m)
 
+-- each area holds bytes, 0 to 255
+abbrev pub HoldsBytes : Contents → Type 0
+HoldsBytes m = (a : Area) → All (λ b. b < 256) (bytes_there (Some a) m)
+
 -- the tests of an access in their order, each with its fault
 abbrev pub tests : Aim → Width → Contents → List (Bool × Fault)
 tests aim w m =
@@ -136,19 +156,23 @@ abbrev pub unless : {A : Type 0} → Option Fault → A → Result A Fault
 unless None x = Ok x
 unless (Some f) x = Err f
 
--- what comes of a value, where no fault stands in its place
-abbrev pub and_then : {A B : Type 0} → Result A Fault → (A → Result B Fault) → Result B Fault
+-- what comes of a value, where no fault or refusal stands in its place
+abbrev pub and_then : {A B E : Type 0} → Result A E → (A → Result B E) → Result B E
 and_then (Ok x) next = next x
 and_then (Err f) next = Err f
 
--- the place that an access is aimed at, where its code has an area
-abbrev pub place_aimed : Option Area → ℕ → ℕ → Result Place Fault
-place_aimed None byte x = Err AreaCode
-place_aimed (Some a) byte x = Ok (record { area = a; byte = byte; bit = x })
+-- the place in an area, where the code has one
+abbrev pub place_if_named : Option Area → ℕ → ℕ → Result Place Fault
+place_if_named None byte x = Err AreaCode
+place_if_named (Some a) byte x = Ok (record { area = a; byte = byte; bit = x })
+
+-- the place that an access is aimed at, or that its code has no area; nothing else is tested
+abbrev pub place_aimed : Aim → Result Place Fault
+place_aimed aim = place_if_named aim.area aim.byte aim.bit
 
 -- the place that an access reaches, or its fault
 abbrev pub located : Aim → Width → Contents → Result Place Fault
-located aim w m = and_then (unless (fault_of aim w m) aim) (λ (a : Aim). place_aimed a.area a.byte a.bit)
+located aim w m = and_then (unless (fault_of aim w m) aim) place_aimed
 
 -- Reading and writing at a place
 

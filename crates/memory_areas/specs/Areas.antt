@@ -1,5 +1,5 @@
 -- What the memory of a controller is seen as: areas, which are lists of bytes.
-use Rattle.std.specs.Prelude.{◌≡◌, ℕ, ◌+◌, ◌*◌, ◌/◌, ◌%◌, ◌^◌, ◌<◌, ◌≤◌, Bool, ◌==◌, if◌then◌else◌, List, [], ◌∷◌, ◌++◌, length, map, find, take, drop, get_or, slice_get, slice_set, replicate, All, Option, Some, None}
+use Rattle.std.specs.Prelude.{◌≡◌, ℕ, ◌+◌, ◌*◌, ◌/◌, ◌%◌, ◌^◌, ◌<◌, ◌≤◌, Bool, ◌==◌, nat_lt, if◌then◌else◌, List, [], ◌∷◌, ◌++◌, length, map, find, take, drop, get_or, slice_get, slice_set, replicate, All, Option, Some, option_map}
 use Rattle.memory_areas.specs.declared.data_block.DataBlock.{DataBlock}
 use Rattle.memory_areas.specs.declared.place.Area.{Area}
 use Rattle.memory_areas.specs.declared.place.Area.TheVariants as area
@@ -94,10 +94,14 @@ with_block number bytes [] = []
 with_block number bytes (b ∷ bs) =
     if b.number == number then record b { bytes = bytes } ∷ bs else b ∷ with_block number bytes bs
 
+-- data blocks in ascending order of their numbers, and one more, before those that have its number or a greater one
+abbrev pub inserted : DataBlock → List DataBlock → List DataBlock
+inserted b [] = b ∷ []
+inserted b (c ∷ cs) = if nat_lt c.number b.number then c ∷ inserted b cs else b ∷ c ∷ cs
+
 -- the bytes of a data block that is there
 abbrev pub bytes_in : Option DataBlock → Option (List ℕ)
-bytes_in None = None
-bytes_in (Some b) = Some b.bytes
+bytes_in block = option_map (λ (b : DataBlock). b.bytes) block
 
 -- the bytes of an area; none where its data block is not there
 abbrev pub bytes_of : Area → Contents → Option (List ℕ)

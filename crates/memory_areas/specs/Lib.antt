@@ -4,3 +4,4 @@ pub mod Areas
 pub mod End
 pub mod Memory
 pub mod Pointers
+pub mod inner

@@ -1,5 +1,5 @@
 -- How the calls of a memory answer.
-use Rattle.std.specs.Prelude.{◌≡◌, ℕ, ◌+◌, ◌<◌, ◌≤◌, ◌==◌, if◌then◌else◌, List, [], ◌∷◌, length, All, Option, Some, None, Result, Ok, Err}
+use Rattle.std.specs.Prelude.{◌≡◌, ◌<◌, length, All, None, Result, Ok, Err}
 use Rattle.s7_base.specs.declared.outcome.Fault.{Fault}
 use Rattle.memory_areas.specs.Areas.{Contents, block_of}
 use Rattle.memory_areas.specs.declared.data_block.DataBlock.{DataBlock}
@@ -22,11 +22,6 @@ abbrev pub IsMissing : Area → Contents → Type 0
 IsMissing (area.Db n) m = block_of n m.areas.blocks ≡ None
 IsMissing other m = ⊥
 
--- an area that is there has room for some bytes from byte i on
-abbrev pub HasRoom : Option (List ℕ) → ℕ → ℕ → Type 0
-HasRoom None i count = ⊥
-HasRoom (Some bytes) i count = i + count ≤ length bytes
-
 -- a write gave the memory that it should; one that is refused leaves the memory as it was
 abbrev pub Writes : Result Contents Fault → Result (Unit {0}) Fault → Contents → Contents → Type 0
 Writes defined (Ok done) before after = defined ≡ Ok after
@@ -35,19 +30,3 @@ Writes defined (Err f) before after = (defined ≡ Err f) × (after ≡ before)
 -- the bytes of a data block are bytes
 abbrev pub HasBytes : DataBlock → Type 0
 HasBytes block = All (λ b. b < 256) block.bytes
-
--- data blocks from their numbers and their bytes
-abbrev pub joined : List ℕ → List (List ℕ) → List DataBlock
-joined [] bytes = []
-joined (n ∷ ns) [] = []
-joined (n ∷ ns) (b ∷ bs) = record { number = n; bytes = b } ∷ joined ns bs
-
--- one place further
-abbrev pub one_further : Option ℕ → Option ℕ
-one_further None = None
-one_further (Some i) = Some (i + 1)
-
--- the place of a number in a list, counted from 0
-abbrev pub position_of : ℕ → List ℕ → Option ℕ
-position_of n [] = None
-position_of n (m ∷ ms) = if m == n then Some 0 else one_further (position_of n ms)

@@ -3,7 +3,8 @@
 ghost use Rattle.std.specs.Prelude.{ℕ, ◌≡◌, ◌+◌, ◌^◌, ◌<◌, ◌≤◌, All, [], length, get_or, slice_get, slice_set, Some, None, Ok, Err, is_some, MatchOption, MatchResult, IfOk, OnOk, map, replicate};
 ghost use Rattle.memory_areas.specs.Access.{aimed, bytes_wide, bytes_there, fault_of, unless, reached, put, read_bit, read_byte, read_word, read_dword, write_bit, write_byte, write_word, write_dword};
 ghost use Rattle.memory_areas.specs.Areas.{AreBlocks, Ascend, IsMemoryOf, block_of, bytes_in, bytes_of, cleared, fresh, no_locals, numbers_of, replaced, with_areas};
-ghost use Rattle.memory_areas.specs.Memory.{IsActivation, IsMissing, HasBytes, HasActivations, HasRoom, Writes, joined, position_of};
+ghost use Rattle.memory_areas.specs.Memory.{IsActivation, IsMissing, HasBytes, HasActivations, Writes};
+ghost use Rattle.memory_areas.specs.inner.Stored.{HasRoom, joined, position_of};
 
 use crate::data_block::{DataBlock, copied};
 use crate::parts::{
@@ -36,7 +37,7 @@ pub struct Memory {
 impl Model for Memory {
     ghost use Rattle.std.specs.Prelude.{◌≡◌, length, map};
     ghost use Rattle.memory_areas.specs.Areas.{Ascend, Contents};
-    ghost use Rattle.memory_areas.specs.Memory.{joined};
+    ghost use Rattle.memory_areas.specs.inner.Stored.{joined};
 
     ghost Value = { Contents };
 

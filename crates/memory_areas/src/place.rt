@@ -1,6 +1,6 @@
 //! Places in the memory of a controller.
 ghost use Rattle.std.specs.Prelude.{◌≡◌, ◌<◌};
-ghost use Rattle.memory_areas.specs.Access.{area_named, is_byte_in};
+ghost use Rattle.memory_areas.specs.Access.{area_named, code_of, is_byte_in, name_of_code};
 ghost use Rattle.memory_areas.specs.Memory.{IsActivation};
 ghost use Rattle.memory_areas.specs.declared.sizes.TheConstants.{ACTIVATIONS};
 
@@ -47,6 +47,35 @@ impl AreaName {
             AreaName::L => Area::Local(activation),
             AreaName::Db => Area::Db(db),
             AreaName::Di => Area::Db(di),
+        }
+    }
+
+    /// The code of the area in a pointer.
+    pub fn code(self) -> u8
+        ensures { result ≡ code_of self }
+    {
+        match self {
+            AreaName::I => 0x81,
+            AreaName::Q => 0x82,
+            AreaName::M => 0x83,
+            AreaName::Db => 0x84,
+            AreaName::Di => 0x85,
+            AreaName::L => 0x86,
+        }
+    }
+
+    /// The area that has a code in pointers; no other code has one.
+    pub fn of_code(code: u8) -> Option<AreaName>
+        ensures { result ≡ name_of_code code }
+    {
+        match code {
+            0x81 => Some(AreaName::I),
+            0x82 => Some(AreaName::Q),
+            0x83 => Some(AreaName::M),
+            0x84 => Some(AreaName::Db),
+            0x85 => Some(AreaName::Di),
+            0x86 => Some(AreaName::L),
+            _ => None,
         }
     }
 }

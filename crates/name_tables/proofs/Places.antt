@@ -1,20 +1,24 @@
--- Where names and numbers stand first.
-use Rattle.std.proofs.Common.{◌≡◌, ◌<◌, ℕ, zero, suc, ◌+◌, Bool, true, false, cond, ◌||◌, ◌==◌, nat_eq, List, [], ◌∷◌, ◌++◌, length, take, get_or, map, slice_get, Option, Some, None, option_map, option_and_then, Result, Ok, Err, refl, sym, ap, subst, ◌∙◌, arith, eqb-true}
+-- Where names and blocks stand first.
+use Rattle.std.proofs.Common.{◌≡◌, ◌<◌, ℕ, zero, suc, ◌+◌, Bool, true, false, cond, ◌&&◌, ◌||◌, ◌==◌, nat_eq, List, [], ◌∷◌, ◌++◌, length, take, get_or, map, slice_get, Option, Some, None, option_map, option_and_then, Result, Ok, Err, refl, sym, ap, subst, ◌∙◌, arith, eqb-true}
 use Rattle.std.specs.Cmp.Lexicographic.{pointwise}
 use Rattle.std.specs.List.{find, fold, list_any}
+use Rattle.std.specs.Prelude.{IfSome}
+use Rattle.std.proofs.lemmas.Bool.{and_parts}
 use Rattle.std.proofs.lemmas.List.{length-take-le, take_more}
+use Rattle.std.proofs.lemmas.Option.{slice_get_read}
 use Rattle.first_places.specs.Places.{first_place}
 use Rattle.first_places.proofs.Firsts.{name_sound, no_key, same_words, with_key}
 use Rattle.s7_base.specs.Tokens.{is_same_word}
 use Rattle.s7_base.specs.declared.reason.Reason.{Reason}
 use Rattle.stl_rules.specs.DeclarationRules.{is_named, key_of, with_name}
-use Rattle.stl_rules.specs.Names.{block_number, db_numbered, is_number, symbol_named}
-use Rattle.stl_rules.specs.Stages.{is_among, with_block_number}
+use Rattle.stl_rules.specs.Names.{block_number, db_numbered, is_number, is_same_kind, symbol_named}
+use Rattle.stl_rules.specs.Stages.{is_among}
+use Rattle.stl_tree.specs.declared.raw.BlockKind.{BlockKind}
 use Rattle.stl_tree.specs.declared.raw.BlockKind.TheVariants as block
 use Rattle.stl_tree.specs.declared.raw.RawData.{RawData}
 use Rattle.stl_tree.specs.declared.raw.SymbolLine.{SymbolLine}
-use Rattle.name_tables.specs.Before.{db_numbers, names_before, numbers_before}
-use Rattle.name_tables.specs.inner.Places.{AreNumberPlaces, has_key, is_before, with_number_place}
+use Rattle.name_tables.specs.Before.{db_numbers, is_block, names_before, number_of_db, numbers_before, with_block}
+use Rattle.name_tables.specs.inner.Places.{AreNumberPlaces, has_key, is_before, is_same_block, with_number_place}
 
 -- First places
 
@@ -73,45 +77,75 @@ named_at lines name =
     ∙ ap (option_and_then (λ n. slice_get lines n))
     (first_same (λ (line : SymbolLine). is_same_word line.name name) (has_key (key_of name)) (λ line. same_words line.name name) lines))
 
--- Numbers
+-- Blocks
 
-pub is_number_sound : (k q : ℕ) → nat_eq k q ≡ true → k ≡ q
-is_number_sound k q h = eqb-true k q h
+kind_sound : (a b : BlockKind) → is_same_kind a b ≡ true → a ≡ b
+kind_sound block.Ob block.Ob h = refl
+kind_sound block.Fc block.Fc h = refl
+kind_sound block.Fb block.Fb h = refl
+kind_sound block.Db block.Db h = refl
+kind_sound a b h = absurd cc
+
+block_sound : (k q : BlockKind × ℕ) → is_same_block k q ≡ true → k ≡ q
+block_sound k q h =
+    let parts = and_parts (is_same_kind k.0 q.0) (nat_eq k.1 q.1) h in
+    ap (λ kind. (kind, k.1)) (kind_sound k.0 q.0 parts.0) ∙ ap (λ n. (q.0, n)) (eqb-true k.1 q.1 parts.1)
 
 same_either : (n m : ℕ) → (m == n) ≡ nat_eq n m
 same_either n m = grind arith
 
-number_step : (table : List (ℕ × ℕ)) (xs : List (Result ℕ Reason)) (x : Result ℕ Reason) → AreNumberPlaces xs table
-    → AreNumberPlaces (xs ++ x ∷ []) (with_number_place x (length xs) table)
-number_step table xs (Ok m) h = with_key nat_eq is_number_sound is_number table xs (Ok m) m (λ n. same_either n m) h
-number_step table xs (Err reason) h = no_key nat_eq is_number_sound is_number table xs (Err reason) (λ n. refl) h
+and_false : (b : Bool) → (b && false) ≡ false
+and_false true = refl
+and_false false = refl
 
--- one number more of a loop
-pub number_turn : (numbers : List (Result ℕ Reason)) (i : ℕ) (d : Result ℕ Reason) (table : List (ℕ × ℕ)) → i < length numbers
-    → AreNumberPlaces (take i numbers) table → AreNumberPlaces (take (i + 1) numbers) (with_number_place (get_or numbers i d) i table)
-number_turn numbers i d table before h =
-    let step = number_step table (take i numbers) (get_or numbers i d) h in
-    let taken : length (take i numbers) ≡ i = length-take-le i numbers (omega (arith, before)) in
-    subst (λ l. AreNumberPlaces l (with_number_place (get_or numbers i d) i table)) (sym (take_more numbers i d before))
-    (subst (λ n. AreNumberPlaces (take i numbers ++ get_or numbers i d ∷ []) (with_number_place (get_or numbers i d) n table)) taken step)
+abbrev is_at : BlockKind × ℕ → BlockKind × Result ℕ Reason → Bool
+is_at key b = is_block key.0 key.1 b
 
--- a number among some and one more
-among_more : (n m : ℕ) (before : List ℕ) → is_among n (before ++ m ∷ []) ≡ (is_among n before || (m == n))
-among_more n m [] = sym (or_false (m == n))
-among_more n m (x ∷ before) =
-    ap (λ b. (x == n) || b) (among_more n m before) ∙ sym (or_assoc (x == n) (is_among n before) (m == n))
+block_step : (table : List ((BlockKind × ℕ) × ℕ)) (xs : List (BlockKind × Result ℕ Reason)) (kind : BlockKind) (number : Result ℕ Reason) → AreNumberPlaces xs table
+    → AreNumberPlaces (xs ++ (kind, number) ∷ []) (with_number_place kind number (length xs) table)
+block_step table xs kind (Ok m) h =
+    with_key is_same_block block_sound is_at table xs (kind, Ok m) (kind, m) (λ k. ap (λ b. is_same_kind k.0 kind && b) (same_either k.1 m)) h
+block_step table xs kind (Err reason) h =
+    no_key is_same_block block_sound is_at table xs (kind, Err reason) (λ k. and_false (is_same_kind k.0 kind)) h
 
-among_all : (n : ℕ) (before : List ℕ) (xs : List (Result ℕ Reason))
-    → is_among n (fold with_block_number before xs) ≡ (is_among n before || list_any (is_number n) xs)
-among_all n before [] = or_false (is_among n before)
-among_all n before (Err reason ∷ xs) = among_all n before xs
-among_all n before (Ok m ∷ xs) =
-    among_all n (before ++ m ∷ []) xs ∙ ap (λ b. b || list_any (is_number n) xs) (among_more n m before)
-    ∙ or_assoc (is_among n before) (m == n) (list_any (is_number n) xs)
+-- one block more of a loop
+pub block_turn : (blocks : List (BlockKind × Result ℕ Reason)) (i : ℕ) (d : BlockKind × Result ℕ Reason) (table : List ((BlockKind × ℕ) × ℕ))
+    → i < length blocks → AreNumberPlaces (take i blocks) table
+    → AreNumberPlaces (take (i + 1) blocks) (with_number_place (get_or blocks i d).0 (get_or blocks i d).1 i table)
+block_turn blocks i d table before h =
+    let b = get_or blocks i d in
+    let step = block_step table (take i blocks) b.0 b.1 h in
+    let taken : length (take i blocks) ≡ i = length-take-le i blocks (omega (arith, before)) in
+    subst (λ l. AreNumberPlaces l (with_number_place b.0 b.1 i table)) (sym (take_more blocks i d before))
+    (subst (λ n. AreNumberPlaces (take i blocks ++ b ∷ []) (with_number_place b.0 b.1 n table)) taken step)
 
-pub number_repeated : (n i : ℕ) (numbers : List (Result ℕ Reason))
-    → is_among n (numbers_before (take i numbers)) ≡ is_before i (first_place (is_number n) numbers)
-number_repeated n i numbers = among_all n [] (take i numbers) ∙ any_taken (is_number n) i numbers
+-- what is read at a place
+pub read_number : (blocks : List (BlockKind × Result ℕ Reason)) (i : ℕ) (b : BlockKind × Result ℕ Reason) → i < length blocks → b ≡ get_or blocks i b
+    → IfSome (slice_get blocks i) (λ x. b.1 ≡ x.1)
+read_number blocks i b before is =
+    subst (λ o. IfSome o (λ x. b.1 ≡ x.1)) (sym (slice_get_read blocks (length blocks) i b refl before is)) refl
+
+-- a block among some and one more
+among_more : (kind : BlockKind) (n : ℕ) (b : BlockKind × ℕ) (before : List (BlockKind × ℕ))
+    → is_among kind n (before ++ b ∷ []) ≡ (is_among kind n before || (is_same_kind kind b.0 && b.1 == n))
+among_more kind n b [] = sym (or_false (is_same_kind kind b.0 && b.1 == n))
+among_more kind n b (x ∷ before) =
+    ap (λ t. (is_same_kind kind x.0 && x.1 == n) || t) (among_more kind n b before)
+    ∙ sym (or_assoc (is_same_kind kind x.0 && x.1 == n) (is_among kind n before) (is_same_kind kind b.0 && b.1 == n))
+
+among_all : (kind : BlockKind) (n : ℕ) (before : List (BlockKind × ℕ)) (xs : List (BlockKind × Result ℕ Reason))
+    → is_among kind n (fold with_block before xs) ≡ (is_among kind n before || list_any (is_block kind n) xs)
+among_all kind n before [] = or_false (is_among kind n before)
+among_all kind n before ((its, Err reason) ∷ xs) =
+    among_all kind n before xs
+    ∙ ap (λ b. is_among kind n before || (b || list_any (is_block kind n) xs)) (sym (and_false (is_same_kind kind its)))
+among_all kind n before ((its, Ok m) ∷ xs) =
+    among_all kind n (before ++ (its, m) ∷ []) xs ∙ ap (λ b. b || list_any (is_block kind n) xs) (among_more kind n (its, m) before)
+    ∙ or_assoc (is_among kind n before) (is_same_kind kind its && m == n) (list_any (is_block kind n) xs)
+
+pub number_repeated : (kind : BlockKind) (n i : ℕ) (blocks : List (BlockKind × Result ℕ Reason))
+    → is_among kind n (numbers_before (take i blocks)) ≡ is_before i (first_place (is_block kind n) blocks)
+number_repeated kind n i blocks = among_all kind n [] (take i blocks) ∙ any_taken (is_block kind n) i blocks
 
 -- a name among some and one more
 named_with : (key more : List ℕ) (names : List (List ℕ)) → is_named key (with_name more names) ≡ (is_named key names || pointwise nat_eq key more)
@@ -150,8 +184,8 @@ first_map test f [] = refl
 first_map test f (x ∷ xs) = ap (λ o. cond (test (f x)) (Some 0) (option_map (λ n. suc n) o)) (first_map test f xs)
 
 pub db_at : (symbols : List SymbolLine) (dbs : List RawData) (n : ℕ)
-    → option_and_then (λ place. slice_get dbs place) (first_place (is_number n) (db_numbers symbols dbs))
+    → option_and_then (λ place. slice_get dbs place) (first_place (is_block block.Db n) (db_numbers symbols dbs))
     ≡ db_numbered symbols dbs n
 db_at symbols dbs n =
-    ap (option_and_then (λ place. slice_get dbs place)) (first_map (is_number n) (λ (d : RawData). block_number symbols block.Db d.name) dbs)
+    ap (option_and_then (λ place. slice_get dbs place)) (first_map (is_block block.Db n) (number_of_db symbols) dbs)
     ∙ sym (find_first (λ (d : RawData). is_number n (block_number symbols block.Db d.name)) dbs)

@@ -1,25 +1,41 @@
--- The numbers of the blocks of a text, and the names of its symbols, that stand before others.
-use Rattle.std.specs.Prelude.{ℕ, List, [], map, Result}
+-- The blocks of a text by kind and number, and the names of its symbols, that stand before others.
+use Rattle.std.specs.Prelude.{ℕ, Bool, ◌&&◌, List, [], map, Result}
 use Rattle.std.specs.List.{fold}
 use Rattle.s7_base.specs.declared.reason.Reason.{Reason}
 use Rattle.stl_rules.specs.DeclarationRules.{key_of, with_name}
-use Rattle.stl_rules.specs.Names.{block_number}
+use Rattle.stl_rules.specs.Names.{block_number, is_number, is_same_kind}
 use Rattle.stl_rules.specs.Stages.{with_block_number}
+use Rattle.stl_tree.specs.declared.raw.BlockKind.{BlockKind}
 use Rattle.stl_tree.specs.declared.raw.BlockKind.TheVariants as block
 use Rattle.stl_tree.specs.declared.raw.RawBlock.{RawBlock}
 use Rattle.stl_tree.specs.declared.raw.RawData.{RawData}
 use Rattle.stl_tree.specs.declared.raw.SymbolLine.{SymbolLine}
 
--- the numbers of data blocks, and of the other blocks
-abbrev pub db_numbers : List SymbolLine → List RawData → List (Result ℕ Reason)
-db_numbers symbols dbs = map (λ (d : RawData). block_number symbols block.Db d.name) dbs
+-- a data block by its kind and its number, and another block
+abbrev pub number_of_db : List SymbolLine → RawData → BlockKind × Result ℕ Reason
+number_of_db symbols d = (block.Db, block_number symbols block.Db d.name)
 
-abbrev pub block_numbers : List SymbolLine → List RawBlock → List (Result ℕ Reason)
-block_numbers symbols blocks = map (λ (raw : RawBlock). block_number symbols raw.kind raw.name) blocks
+abbrev pub number_of_block : List SymbolLine → RawBlock → BlockKind × Result ℕ Reason
+number_of_block symbols raw = (raw.kind, block_number symbols raw.kind raw.name)
 
--- the numbers that blocks have
-abbrev pub numbers_before : List (Result ℕ Reason) → List ℕ
-numbers_before numbers = fold with_block_number [] numbers
+-- data blocks by kind and number, and other blocks
+abbrev pub db_numbers : List SymbolLine → List RawData → List (BlockKind × Result ℕ Reason)
+db_numbers symbols dbs = map (number_of_db symbols) dbs
+
+abbrev pub block_numbers : List SymbolLine → List RawBlock → List (BlockKind × Result ℕ Reason)
+block_numbers symbols blocks = map (number_of_block symbols) blocks
+
+-- a block has a kind and a number
+abbrev pub is_block : BlockKind → ℕ → BlockKind × Result ℕ Reason → Bool
+is_block kind n b = is_same_kind kind b.0 && is_number n b.1
+
+-- some blocks by kind and number with one more
+abbrev pub with_block : List (BlockKind × ℕ) → BlockKind × Result ℕ Reason → List (BlockKind × ℕ)
+with_block before b = with_block_number b.0 before b.1
+
+-- those of some blocks that have a number
+abbrev pub numbers_before : List (BlockKind × Result ℕ Reason) → List (BlockKind × ℕ)
+numbers_before blocks = fold with_block [] blocks
 
 -- the keys of lines of the symbol table
 abbrev pub names_before : List SymbolLine → List (List ℕ)

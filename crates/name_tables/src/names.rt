@@ -16,12 +16,13 @@ pub struct Names<'t> {
     text: &'t RawProgram,
     symbols: Symbols<'t>,
     dbs: Numbers,
+    blocks: Numbers,
 }
 
 impl<'t> Model for Names<'t> {
     ghost use Rattle.std.specs.Prelude.{◌≡◌};
     ghost use Rattle.stl_tree.specs.declared.raw.RawProgram.{RawProgram};
-    ghost use Rattle.name_tables.specs.Before.{db_numbers};
+    ghost use Rattle.name_tables.specs.Before.{block_numbers, db_numbers};
     ghost use Rattle.std.specs.Coded.{codes};
     ghost use Rattle.stl_tree.specs.contracts.raw.DeclType as declared;
     ghost use Rattle.stl_tree.specs.contracts.raw.Declaration as declaration;
@@ -34,30 +35,31 @@ impl<'t> Model for Names<'t> {
     ghost view = { λ n. n.text.now };
 
     ghost invariant = { λ n. (n.symbols ≡ n.text.now.symbols)
-        × (n.dbs ≡ db_numbers n.text.now.symbols n.text.now.dbs) };
+        × (n.dbs ≡ db_numbers n.text.now.symbols n.text.now.dbs)
+        × (n.blocks ≡ block_numbers n.text.now.symbols n.text.now.blocks) };
 }
 
-/// The number of one more block.
+/// One more block by kind and number.
 fn put_number(
     alloc: Global,
     symbols: &Symbols<'_>,
     kind: BlockKind,
     name: &RawName,
-    numbers: &mut Vec<Result<u32, Reason>>,
+    numbers: &mut Vec<(BlockKind, Result<u32, Reason>)>,
 ) -> Result<(), NoMemory>
-    ensures { OnOk result (numbers.new.items ≡ numbers.old.items ++ block_number symbols.now kind name.now ∷ []) }
+    ensures { OnOk result (numbers.new.items ≡ numbers.old.items ++ (kind, block_number symbols.now kind name.now) ∷ []) }
 {
     let number = symbols.block_number(alloc, kind, name)?;
-    numbers.push(number)?;
+    numbers.push((kind, number))?;
     Ok(())
 }
 
-/// The numbers of data blocks.
+/// Data blocks by kind and number.
 fn numbers_of_dbs(
     alloc: Global,
     symbols: &Symbols<'_>,
     dbs: &[RawData],
-) -> Result<Vec<Result<u32, Reason>>, NoMemory>
+) -> Result<Vec<(BlockKind, Result<u32, Reason>)>, NoMemory>
     ensures { IfOk result (λ numbers. numbers.items ≡ db_numbers symbols.now dbs.now) }
 {
     let mut numbers = Vec::with_capacity(alloc, dbs.len())?;
@@ -67,12 +69,12 @@ fn numbers_of_dbs(
     Ok(numbers)
 }
 
-/// The numbers of the other blocks.
-pub fn numbers_of_blocks(
+/// The other blocks by kind and number.
+fn numbers_of_blocks(
     alloc: Global,
     symbols: &Symbols<'_>,
     blocks: &[RawBlock],
-) -> Result<Vec<Result<u32, Reason>>, NoMemory>
+) -> Result<Vec<(BlockKind, Result<u32, Reason>)>, NoMemory>
     ensures { IfOk result (λ numbers. numbers.items ≡ block_numbers symbols.now blocks.now) }
 {
     let mut numbers = Vec::with_capacity(alloc, blocks.len())?;
@@ -90,7 +92,14 @@ impl<'t> Names<'t> {
         let symbols = Symbols::new(alloc, text.symbols.as_slice())?;
         let numbers = numbers_of_dbs(alloc, &symbols, text.dbs.as_slice())?;
         let dbs = Numbers::new(alloc, numbers)?;
-        Ok(Names { text, symbols, dbs })
+        let numbers = numbers_of_blocks(alloc, &symbols, text.blocks.as_slice())?;
+        let blocks = Numbers::new(alloc, numbers)?;
+        Ok(Names {
+            text,
+            symbols,
+            dbs,
+            blocks,
+        })
     }
 
     /// The text.
@@ -107,18 +116,24 @@ impl<'t> Names<'t> {
         &self.symbols
     }
 
-    /// The numbers of its data blocks.
+    /// Its data blocks by kind and number.
     pub fn dbs(&self) -> &Numbers
         ensures { result.now ≡ db_numbers self.now.symbols self.now.dbs }
     {
         &self.dbs
     }
 
+    /// Its other blocks by kind and number.
+    pub fn blocks(&self) -> &Numbers
+        ensures { result.now ≡ block_numbers self.now.symbols self.now.blocks }
+    {
+        &self.blocks
+    }
+
     /// The place of the data block of a number.
-    #[tactic(auto, using(crate::proofs::Places::db_at))]
     pub fn place_of_db(&self, number: u32) -> Option<usize>
         ensures { option_and_then (λ place. slice_get self.now.dbs place) result ≡ db_numbered self.now.symbols self.now.dbs number }
     {
-        self.dbs.place_of(number)
+        self.dbs.place_of(BlockKind::Db, number)
     }
 }

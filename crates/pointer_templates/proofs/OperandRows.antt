@@ -1,6 +1,6 @@
 -- The rows on operands: an address register takes a double word, or is written to one.
 use Rattle.std.proofs.Common.{◌≡◌, ℕ, ◌+◌, ◌%◌, ◌^◌, ◌<◌, ◌≤◌, pos, List, [], length, Option, Some, None, Result, Ok, Err, refl, sym, ap, subst, ◌∙◌, arith}
-use Rattle.memory_areas.specs.Access.{and_then, place_aimed, read_dword}
+use Rattle.memory_areas.specs.Access.{and_then, place_if_named, read_dword}
 use Rattle.memory_areas.specs.Pointers.{with_offset}
 use Rattle.memory_areas.specs.declared.place.Area.{Area}
 use Rattle.memory_areas.specs.declared.place.AreaName.{AreaName}
@@ -57,7 +57,7 @@ module _ (a : Ar) (now : Now) where
   abbrev Stays : Found → Type 0
   Stays f = pointer_in a f.after.registers ≡ pointer_in a now.registers
 
-  aimed_stays : (o : Option Area) (byte x : ℕ) → Where Stays (and_then (place_aimed o byte x) (λ p. Ok (record { place = p; after = now })))
+  aimed_stays : (o : Option Area) (byte x : ℕ) → Where Stays (and_then (place_if_named o byte x) (λ p. Ok (record { place = p; after = now })))
   aimed_stays None byte x = tt
   aimed_stays (Some there) byte x = refl
 

@@ -2,13 +2,12 @@
 use Rattle.std.proofs.Common.{◌≡◌, ℕ, zero, suc, ◌+◌, ◌%◌, ◌^◌, ◌<◌, pos, List, [], ◌∷◌, Option, Some, None, Result, Ok, ap, ◌∙◌, arith}
 use Rattle.std.specs.Prelude.{All}
 use Rattle.std.proofs.lemmas.List.Elements.{All-head, All-tail}
-use Rattle.memory_areas.specs.Access.{aimed, and_then, bytes_there, fault_of, read_dword, unless}
+use Rattle.memory_areas.specs.Access.{HoldsBytes, aimed, and_then, bytes_there, fault_of, read_dword, unless}
 use Rattle.memory_areas.specs.Areas.{Contents, byte_at, dword_at}
 use Rattle.memory_areas.specs.declared.place.Place.{Place}
 use Rattle.row_templates.proofs.Pointers.{dword}
 use Rattle.s7_base.specs.declared.outcome.Fault.{Fault}
 use Rattle.s7_base.specs.declared.word.Width.TheVariants as width
-use Rattle.st_tree.specs.Fitting.{HoldsBytes}
 use Rattle.st_tree.specs.Values.{typed}
 use Rattle.st_tree.specs.declared.expr.StType.TheVariants as type
 

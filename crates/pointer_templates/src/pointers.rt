@@ -1,6 +1,5 @@
 //! The address registers: loading, storing and exchanging them, and adding to them.
 ghost use Rattle.std.specs.Prelude.{◌≡◌, ◌+◌, ◌++◌, ◌<◌, ◌^◌, IfOk, OnOk};
-ghost use Rattle.stl_tree.specs.AddressRegisters.{other_of};
 ghost use Rattle.stl_tree.specs.Reads.{register_of};
 ghost use Rattle.row_templates.specs.Builders.{read_of};
 ghost use Rattle.pointer_templates.specs.Pointers.{area_code_of, low_number, moved_number_of, moved_of, moved_sum_of, pointed_of, pointer_exchange_of, pointer_load_of, pointer_move_of, pointer_store_of, types_of_pointer_exchange, types_of_pointer_load, types_of_pointer_store};
@@ -34,15 +33,6 @@ fn held(register: Ar) -> Expr
     read(register_of(register))
 }
 
-fn other_of(register: Ar) -> Ar
-    ensures { result ≡ other_of register }
-{
-    match register {
-        Ar::One => Ar::Two,
-        Ar::Two => Ar::One,
-    }
-}
-
 /// `LAR1` and `LAR2`, whose first local has this number.
 pub fn push_pointer_load(
     alloc: Global,
@@ -61,7 +51,7 @@ pub fn push_pointer_load(
             push_fetch(alloc, steps, first, &operand, Width::Dword)?;
             fetched(first, &operand, Width::Dword)
         }
-        ArLoad::OtherAr => held(other_of(register)),
+        ArLoad::OtherAr => held(register.other()),
     };
     push_pointed(steps, register, pointer)
 }
@@ -97,7 +87,7 @@ pub fn push_pointer_store(
             let step = writing(alloc, first, &operand, Width::Dword, held(register))?;
             steps.push(step)
         }
-        ArStore::OtherAr => push_pointed(steps, other_of(register), held(register)),
+        ArStore::OtherAr => push_pointed(steps, register.other(), held(register)),
     }
 }
 

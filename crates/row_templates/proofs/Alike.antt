@@ -2,7 +2,7 @@
 use Rattle.std.proofs.Common.{◌≡◌, ℕ, ◌+◌, ◌-◌, ◌^◌, ◌<◌, pos, List, [], ◌∷◌, length, refl, sym, ap, ◌∙◌, arith}
 use Rattle.std.specs.Prelude.{ℤ}
 use Rattle.memory_areas.specs.Areas.{Contents}
-use Rattle.memory_areas.specs.Access.{area_named}
+use Rattle.memory_areas.specs.Access.{HoldsBytes, area_named}
 use Rattle.memory_areas.specs.declared.place.AreaName.{AreaName}
 use Rattle.memory_areas.specs.declared.place.Place.{Place}
 use Rattle.status_word.specs.StatusBits.{StatusBits}
@@ -14,7 +14,6 @@ use Rattle.stl_tree.specs.Registers.{RegisterValues}
 use Rattle.stl_tree.specs.StlRun.{going_on}
 pub use Rattle.instruction_laws.proofs.RangeRows.{any_status}
 pub use Rattle.instruction_laws.specs.Ranges.{AreInRange}
-use Rattle.st_tree.specs.Fitting.{HoldsBytes}
 use Rattle.st_tree.specs.State.{Activation as StActivation, State, db_number, di_number, depth as depth_of_state, place_of}
 use Rattle.st_tree.specs.Values.{number_of, pattern}
 
@@ -28,7 +27,7 @@ number_in r reg.Ar1 = pos r.ar1
 number_in r reg.Ar2 = pos r.ar2
 number_in r reg.DbNo = pos r.db
 number_in r reg.DiNo = pos r.di
-number_in r reg.Nfc = number_of r.status.fc
+number_in r reg.Nfc = number_of r.status.nfc
 number_in r reg.Rlo = number_of r.status.rlo
 number_in r reg.Sta = number_of r.status.sta
 number_in r reg.Orb = number_of r.status.orb
@@ -43,7 +42,7 @@ abbrev pub IsKept : Reg → Type 0
 IsKept reg.Sta = ⊥
 IsKept q = Unit {0}
 
--- where a block has ended FC, OR and OS have none either: the statements of an end word don't clear them yet
+-- where a block has ended /FC, OR and OS have none either: the statements of an end word don't clear them yet
 abbrev pub IsHandedOn : Reg → Type 0
 IsHandedOn reg.Sta = ⊥
 IsHandedOn reg.Nfc = ⊥

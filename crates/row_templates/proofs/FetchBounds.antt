@@ -11,7 +11,7 @@ use Rattle.s7_base.specs.declared.register.Reg.TheVariants as reg
 use Rattle.s7_base.specs.declared.word.Width.{Width}
 use Rattle.s7_base.specs.declared.word.Width.TheVariants as width
 use Rattle.stl_tree.specs.Accepted.{IsOperand}
-use Rattle.stl_tree.specs.AddressRegisters.{code_of}
+use Rattle.memory_areas.specs.Access.{code_of}
 use Rattle.stl_tree.specs.Reads.{found_by, register_of}
 use Rattle.stl_tree.specs.declared.program.Ar.{Ar}
 use Rattle.stl_tree.specs.declared.program.Ar.TheVariants as ar

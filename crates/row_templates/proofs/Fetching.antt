@@ -11,7 +11,7 @@ use Rattle.std.proofs.Common.{◌≡◌, ℕ, ◌+◌, ◌<◌, ◌≤◌, pos, 
 use Rattle.std.specs.Prelude.{slice_get, Some}
 use Rattle.std.specs.Int.{from_bool}
 use Rattle.std.proofs.lemmas.List.{append_assoc, length-append}
-use Rattle.memory_areas.specs.Access.{and_then, read_bit}
+use Rattle.memory_areas.specs.Access.{HoldsBytes, and_then, read_bit}
 use Rattle.memory_areas.specs.Areas.{Contents}
 use Rattle.memory_areas.specs.declared.place.Place.{Place}
 use Rattle.s7_base.specs.declared.outcome.Fault.{Fault}
@@ -23,7 +23,6 @@ use Rattle.stl_tree.specs.Accumulators.{read_number}
 use Rattle.stl_tree.specs.Now.{Activation, Effect, Now, enter, fault, go, leave, next, with_memory, with_value}
 use Rattle.stl_tree.specs.Operands.{Found, found, with_place}
 use Rattle.stl_tree.specs.declared.program.Operand.{Operand}
-use Rattle.st_tree.specs.Fitting.{HoldsBytes}
 use Rattle.st_tree.specs.Meaning.{Calls, Out, body_meaning}
 use Rattle.st_tree.specs.State.{Activation as StActivation, State, depth, read_place, write_place}
 use Rattle.st_tree.specs.Value.{value}

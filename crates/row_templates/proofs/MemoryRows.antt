@@ -1,16 +1,14 @@
 -- Rows that read or write a place of memory: what an access does there, by a direct variable or by a pointer in a local.
 use Rattle.std.proofs.Common.{◌≡◌, ℕ, ◌^◌, ◌<◌, pos, List, ◌∷◌, length, Result, Ok, Err, Some, refl, ap, subst, ◌∙◌, arith}
 use Rattle.std.specs.Prelude.{slice_get}
-use Rattle.memory_areas.specs.Access.{and_then}
+use Rattle.memory_areas.specs.Access.{HoldsBytes, and_then, place_aimed, pointed}
 use Rattle.memory_areas.specs.Areas.{Contents}
 use Rattle.memory_areas.specs.declared.place.AreaName.{AreaName}
 use Rattle.memory_areas.specs.declared.place.Place.{Place}
-use Rattle.address_registers.specs.Pointers.{resolved}
 use Rattle.s7_base.specs.declared.outcome.Fault.{Fault}
 use Rattle.s7_base.specs.declared.register.Reg.TheVariants as reg
 use Rattle.s7_base.specs.declared.word.Width.{Width}
 use Rattle.stl_tree.specs.Now.{Activation, Effect, Now, depth, with_value}
-use Rattle.st_tree.specs.Fitting.{HoldsBytes}
 use Rattle.st_tree.specs.Meaning.{Calls, Faults, Out, body_meaning, changed, then_do}
 use Rattle.st_tree.specs.State.{State, area_read, area_write, place_of, pointed_at, read_place, write_at, write_place}
 use Rattle.st_tree.specs.Value.{value}
@@ -124,7 +122,7 @@ module _ (g : List Located) (acts : List Activation) (now : Now) (t : State) (re
 
   -- by a pointer in one of the locals
   module _ (q i : ℕ) (small : q < 2 ^ 32) (kept : i < many) (there : slice_get (own_of t.activations) i ≡ Some (dword q))
-      (target : Result Place Fault) (means : resolved q now.registers.db now.registers.di (depth now.activations) ≡ target) where
+      (target : Result Place Fault) (means : place_aimed (pointed q now.registers.db now.registers.di (depth now.activations)) ≡ target) where
     pointer_read : value g (local_of i) u ≡ Ok (dword q)
     pointer_read = local_read g i (dword q) u (keeps.locals i kept ∙ there)
 
@@ -132,7 +130,7 @@ module _ (g : List Located) (acts : List Activation) (now : Now) (t : State) (re
     same_pointed =
         let whole : pattern 32 (pos q) ≡ q = omega arith in
         let here : pointed_at (dword q) u ≡ pointed_at (dword q) t = rw (keeps.db, keeps.di, keeps.deep) refl in
-        let same : pointed_at (dword q) t ≡ resolved q now.registers.db now.registers.di (depth now.activations) =
+        let same : pointed_at (dword q) t ≡ place_aimed (pointed q now.registers.db now.registers.di (depth now.activations)) =
         rw (whole, same_db acts now t related, same_di acts now t related, as_deep_as acts now t related) refl in
         here ∙ same ∙ means
 

@@ -1,14 +1,13 @@
 -- What is read and written: bits and registers.
 use Rattle.std.proofs.Common.{◌≡◌, ℕ, pos, Bool, true, false, List, [], ◌∷◌, Result, Ok, refl, ap, subst, ◌∙◌}
 use Rattle.std.specs.Prelude.{ℤ}
-use Rattle.memory_areas.specs.Access.{write_bit}
+use Rattle.memory_areas.specs.Access.{HoldsBytes, write_bit}
 use Rattle.memory_areas.specs.Areas.{Contents}
 use Rattle.memory_areas.specs.declared.place.Place.{Place}
 use Rattle.s7_base.specs.declared.outcome.Fault.{Fault}
 use Rattle.s7_base.specs.declared.register.Reg.{Reg}
 use Rattle.s7_base.specs.declared.register.Reg.TheVariants as reg
 use Rattle.stl_tree.specs.Now.{Activation, Now}
-use Rattle.st_tree.specs.Fitting.{HoldsBytes}
 use Rattle.st_tree.specs.Meaning.{Calls, Normal, body_meaning}
 use Rattle.st_tree.specs.State.{State, with_register}
 use Rattle.st_tree.specs.Value.{value}
@@ -38,8 +37,8 @@ module _ (g : List Located) (acts : List Activation) (now : Now) (s : State) (re
   pub rlo_worth : value g (read_of reg.Rlo) s ≡ Ok (flag now.registers.status.rlo)
   rlo_worth = register_worth g s reg.Rlo now.registers.status.rlo refl (related.registers reg.Rlo tt)
 
-  pub nfc_worth : value g (read_of reg.Nfc) s ≡ Ok (flag now.registers.status.fc)
-  nfc_worth = register_worth g s reg.Nfc now.registers.status.fc refl (related.registers reg.Nfc tt)
+  pub nfc_worth : value g (read_of reg.Nfc) s ≡ Ok (flag now.registers.status.nfc)
+  nfc_worth = register_worth g s reg.Nfc now.registers.status.nfc refl (related.registers reg.Nfc tt)
 
 -- Registers, set
 

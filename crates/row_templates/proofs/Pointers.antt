@@ -5,15 +5,14 @@ use Rattle.std.specs.Int.Bits.{or_shifted_r}
 use Rattle.std.proofs.lemmas.Int.{ints}
 use Rattle.std.proofs.lemmas.Nat.{and_mask, or_shifted}
 use Rattle.std.proofs.lemmas.Nat.Bits.{and_high_mask}
-use Rattle.memory_areas.specs.Access.{and_then, area_named, name_of_code}
+use Rattle.memory_areas.specs.Access.{and_then, area_named, code_of, name_of_code, place_aimed, pointed}
 use Rattle.memory_areas.specs.Pointers.{bit_of_pointer, byte_of_pointer, code_of_pointer, with_offset}
 use Rattle.memory_areas.specs.declared.place.AreaName.{AreaName}
 use Rattle.memory_areas.specs.declared.place.AreaName.TheVariants as area
 use Rattle.memory_areas.specs.declared.place.Place.{Place}
-use Rattle.address_registers.specs.Pointers.{resolved}
 use Rattle.s7_base.specs.SignedNumbers.{number, pattern}
 use Rattle.s7_base.specs.declared.register.Reg.TheVariants as reg
-use Rattle.stl_tree.specs.AddressRegisters.{code_of, pointer_in}
+use Rattle.stl_tree.specs.AddressRegisters.{pointer_in}
 use Rattle.stl_tree.specs.Now.{Activation, Now}
 use Rattle.stl_tree.specs.Reads.{register_of}
 use Rattle.stl_tree.specs.declared.program.Ar.{Ar}
@@ -161,11 +160,11 @@ abbrev pub place_pointed : AreaName → ℕ → ℕ → ℕ → ℕ → Place
 place_pointed a p db di activation = record { area = area_named a db di activation; byte = byte_of_pointer p; bit = bit_of_pointer p }
 
 by_parts : (q db di activation byte x : ℕ) (a : AreaName) → name_of_code (code_of_pointer q) ≡ Some a → byte_of_pointer q ≡ byte → bit_of_pointer q ≡ x
-    → resolved q db di activation ≡ Ok (record { area = area_named a db di activation; byte = byte; bit = x })
+    → place_aimed (pointed q db di activation) ≡ Ok (record { area = area_named a db di activation; byte = byte; bit = x })
 by_parts q db di activation byte x a e f h = rw (e, f, h) refl
 
 -- a pointer with the code of an area names a place in it, wherever its byte and bit come from
-pub in_area_resolved : (a : AreaName) (p x db di activation : ℕ) → x ≡ p % 2 ^ 19 → resolved (code_of a * 2 ^ 24 + x) db di activation ≡ Ok (place_pointed a p db di activation)
+pub in_area_resolved : (a : AreaName) (p x db di activation : ℕ) → x ≡ p % 2 ^ 19 → place_aimed (pointed (code_of a * 2 ^ 24 + x) db di activation) ≡ Ok (place_pointed a p db di activation)
 in_area_resolved a p x db di activation e =
     let c : ℕ = code_of a in
     let code : (c * 2 ^ 24 + x) / 2 ^ 24 ≡ c = omega arith in

@@ -3,19 +3,18 @@
 -- fault that stands in its place: a pointer may name no area.
 use Rattle.std.proofs.Common.{◌≡◌, ℕ, ◌+◌, ◌*◌, ◌%◌, ◌^◌, ◌<◌, ◌≤◌, pos, true, List, [], ◌∷◌, ◌++◌, length, Result, Ok, Err, ◌⊎◌, inl, inr, refl, ap, ◌∙◌, arith}
 use Rattle.std.specs.Prelude.{slice_get, Some}
-use Rattle.memory_areas.specs.Access.{and_then, read_dword}
+use Rattle.memory_areas.specs.Access.{and_then, code_of, place_aimed, pointed, read_dword}
 use Rattle.memory_areas.specs.Areas.{Contents}
 use Rattle.memory_areas.specs.Pointers.{with_offset}
 use Rattle.memory_areas.specs.declared.place.AreaName.{AreaName}
 use Rattle.memory_areas.specs.declared.place.AreaName.TheVariants as area
 use Rattle.memory_areas.specs.declared.place.Place.{Place}
-use Rattle.address_registers.specs.Pointers.{resolved}
 use Rattle.s7_base.specs.declared.outcome.Fault.{Fault}
 use Rattle.s7_base.specs.declared.register.Reg.TheVariants as reg
 use Rattle.s7_base.specs.declared.word.Width.{Width}
 use Rattle.s7_base.specs.declared.word.Width.TheVariants as width
 use Rattle.stl_tree.specs.Accepted.{IsOperand}
-use Rattle.stl_tree.specs.AddressRegisters.{code_of, pointer_in}
+use Rattle.stl_tree.specs.AddressRegisters.{pointer_in}
 use Rattle.stl_tree.specs.DataBlocks.{db_opened}
 use Rattle.stl_tree.specs.Now.{Activation, Now, depth, with_registers}
 use Rattle.stl_tree.specs.Operands.{Found, aimed_in, found, found_at}
@@ -180,7 +179,7 @@ module _ (g : List Located) (calls : Calls) (units : ℕ) (acts : List Activatio
             let small : inside < 2 ^ 32 = in_area_small a total in
             let there : slice_get (own_of t.activations) first ≡ Some (dword inside) = own_same first (dword inside) s (omega arith) in
             let target : Result Place Fault = Ok (named a (with_offset register offset)) in
-            let means : resolved inside now.registers.db now.registers.di (depth now.activations) ≡ target =
+            let means : place_aimed (pointed inside now.registers.db now.registers.di (depth now.activations)) ≡ target =
             in_area_resolved a (with_offset register offset) (total % 2 ^ 19) now.registers.db now.registers.di (depth now.activations) (same_offset register offset) in
             record {
               to = t;
@@ -209,7 +208,7 @@ module _ (g : List Located) (calls : Calls) (units : ℕ) (acts : List Activatio
           let relates : Related acts now t = still_related first (dword crossed) s related in
           let small : crossed < 2 ^ 32 = offset_small register offset least in
           let there : slice_get (own_of t.activations) first ≡ Some (dword crossed) = own_same first (dword crossed) s (omega arith) in
-          let target : Result Place Fault = resolved crossed now.registers.db now.registers.di (depth now.activations) in
+          let target : Result Place Fault = place_aimed (pointed crossed now.registers.db now.registers.di (depth now.activations)) in
           record {
             to = t;
             after = now;
@@ -293,7 +292,7 @@ module _ (g : List Located) (calls : Calls) (units : ℕ) (acts : List Activatio
             let many : length (own_of taken.activations) ≡ length (own_of s.activations) = as_many_taken in
             let there : slice_get (own_of t.activations) (first + 1) ≡ Some (dword put_inside) = own_same (first + 1) (dword put_inside) taken (omega arith) in
             let target : Result Place Fault = Ok (named a p) in
-            let means : resolved put_inside now.registers.db now.registers.di (depth now.activations) ≡ target =
+            let means : place_aimed (pointed put_inside now.registers.db now.registers.di (depth now.activations)) ≡ target =
             in_area_resolved a p (kept % 2 ^ 19) now.registers.db now.registers.di (depth now.activations) same_place_in in
             record {
               to = t;

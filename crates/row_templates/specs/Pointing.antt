@@ -1,7 +1,7 @@
 -- Pointers as a row takes them: with the code of its operand's area put in, or with that of an address register.
 use Rattle.std.specs.Prelude.{ℕ, ◌*◌, ◌^◌, pos}
 use Rattle.memory_areas.specs.declared.place.AreaName.{AreaName}
-use Rattle.stl_tree.specs.AddressRegisters.{code_of}
+use Rattle.memory_areas.specs.Access.{code_of}
 use Rattle.stl_tree.specs.Reads.{register_of}
 use Rattle.stl_tree.specs.declared.program.Ar.{Ar}
 use Rattle.st_tree.specs.declared.expr.BinaryOp.TheVariants as binary

@@ -1,6 +1,5 @@
 //! Pointers as a row takes them: with the code of its operand's area put in, or with that of an address register.
 ghost use Rattle.std.specs.Prelude.{◌≡◌, ◌<◌, IfOk};
-ghost use Rattle.stl_tree.specs.AddressRegisters.{code_of};
 ghost use Rattle.stl_tree.specs.Reads.{register_of};
 ghost use Rattle.row_templates.specs.Pointing.{crossing_of, in_area_of, place_in_of, sum_of};
 
@@ -26,7 +25,7 @@ pub fn in_area(alloc: Global, area: AreaName, pointer: Expr) -> Result<Expr, NoM
     ensures { IfOk result (λ value. value ≡ in_area_of area pointer) }
 {
     let place = place_in(alloc, pointer)?;
-    let code = i64::from(code_of(area) * 0x0100_0000);
+    let code = i64::from(area.code()) * 0x0100_0000;
     or(alloc, place, constant(StType::Dword, code))
 }
 
@@ -55,19 +54,4 @@ fn place_in(alloc: Global, pointer: Expr) -> Result<Expr, NoMemory>
     ensures { IfOk result (λ value. value ≡ place_in_of pointer) }
 {
     and(alloc, pointer, constant(StType::Dword, 0x0007_FFFF))
-}
-
-/// The code of an area in a pointer.
-fn code_of(area: AreaName) -> u32
-    ensures code { result ≡ code_of area }
-    ensures small { result < 256 }
-{
-    match area {
-        AreaName::I => 0x81,
-        AreaName::Q => 0x82,
-        AreaName::M => 0x83,
-        AreaName::Db => 0x84,
-        AreaName::Di => 0x85,
-        AreaName::L => 0x86,
-    }
 }

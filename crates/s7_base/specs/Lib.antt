@@ -1,6 +1,7 @@
 pub mod Answers
 pub mod Broken
 pub mod BrokenLaws
+pub mod Numbers
 pub mod Reason
 pub mod RegSet
 pub mod SignedNumbers

@@ -58,7 +58,8 @@ fn comes_before(a: Break, b: Break) -> bool
     a.line.0 < b.line.0 || a.line.0 == b.line.0 && rule_number(a.rule) < rule_number(b.rule)
 }
 
-fn sooner(first: Option<Break>, other: Break) -> Option<Break>
+/// The first of a broken rule, if there is one, and another.
+pub fn sooner(first: Option<Break>, other: Break) -> Option<Break>
     ensures { result ≡ sooner first other }
 {
     match first {

@@ -7,7 +7,7 @@
 
 pub use boxed::Boxed;
 pub use break_laws::first_of_all_is_first;
-pub use broken::{Break, first_of_all, note};
+pub use broken::{Break, first_of_all, note, sooner};
 pub use check::{Check, Entry};
 pub use list::List;
 pub use memory::NoMemory;

@@ -25,7 +25,8 @@ use Rattle.st_tree.specs.declared.program.Located.{Located}
 use Rattle.st_tree.specs.declared.state.Value.{Value}
 use Rattle.status_word.specs.Results.{after_shifted}
 use Rattle.status_word.specs.StatusBits.{StatusBits}
-use Rattle.stl_tree.specs.Accumulators.{bits_wide, part, with_part}
+use Rattle.memory_areas.specs.Access.{bits_wide}
+use Rattle.stl_tree.specs.Accumulators.{part, with_part}
 use Rattle.stl_tree.specs.Registers.{RegisterValues}
 use Rattle.stl_tree.specs.Shifts.{around_left, around_right, bottom, left, right, right_signed, shifted, times, top}
 use Rattle.stl_tree.specs.declared.accumulator.ShiftRow.{ShiftRow}

@@ -23,7 +23,8 @@ use Rattle.st_tree.specs.declared.expr.ShiftOp.TheVariants as shift
 use Rattle.st_tree.specs.declared.program.Located.{Located}
 use Rattle.st_tree.specs.declared.state.Value.{Value}
 use Rattle.status_word.specs.Results.{after_shifted}
-use Rattle.stl_tree.specs.Accumulators.{bits_wide, part, with_part}
+use Rattle.memory_areas.specs.Access.{bits_wide}
+use Rattle.stl_tree.specs.Accumulators.{part, with_part}
 use Rattle.stl_tree.specs.Registers.{RegisterValues}
 use Rattle.stl_tree.specs.Shifts.{around_left, around_right, bottom, leaving, left, right, right_signed, step, times, top, width_of}
 use Rattle.stl_tree.specs.declared.accumulator.ShiftRow.{ShiftRow}

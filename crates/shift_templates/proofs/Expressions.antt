@@ -28,7 +28,8 @@ use Rattle.st_tree.specs.declared.expr.StType.TheVariants as type
 use Rattle.st_tree.specs.declared.expr.UnaryOp.TheVariants as unary
 use Rattle.st_tree.specs.declared.program.Located.{Located}
 use Rattle.st_tree.specs.declared.state.Value.{Value}
-use Rattle.stl_tree.specs.Accumulators.{bits_wide, part, with_part}
+use Rattle.memory_areas.specs.Access.{bits_wide}
+use Rattle.stl_tree.specs.Accumulators.{part, with_part}
 use Rattle.stl_tree.specs.Shifts.{bottom, right, right_signed, times, top}
 
 -- Numbers

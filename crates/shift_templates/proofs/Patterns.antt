@@ -19,7 +19,7 @@ use Rattle.st_tree.specs.declared.expr.ShiftOp.TheVariants as shift
 use Rattle.st_tree.specs.declared.expr.UnaryOp.TheVariants as unary
 use Rattle.st_tree.specs.declared.state.Value.{Value}
 use Rattle.stl_tree.proofs.ShiftForms.{around_left_times, around_left_times_below, around_right_times, around_right_times_left, left_times, left_times_gone, right_signed_times_high, right_signed_times_low, right_times, right_times_gone}
-use Rattle.stl_tree.specs.Accumulators.{bits_wide}
+use Rattle.memory_areas.specs.Access.{bits_wide}
 use Rattle.stl_tree.specs.Shifts.{around_left, around_right, bottom, left, right, right_signed, times, top}
 
 -- Patterns as values

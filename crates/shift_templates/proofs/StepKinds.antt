@@ -12,7 +12,7 @@ use Rattle.shift_templates.specs.ShiftParts.{shown_bit}
 use Rattle.st_tree.specs.declared.expr.ShiftOp.{ShiftOp}
 use Rattle.st_tree.specs.declared.expr.ShiftOp.TheVariants as shift
 use Rattle.stl_tree.proofs.ShiftForms.{times-add}
-use Rattle.stl_tree.specs.Accumulators.{bits_wide}
+use Rattle.memory_areas.specs.Access.{bits_wide}
 use Rattle.stl_tree.specs.Shifts.{around_left, around_right, bottom, left, right, right_signed, times, top}
 
 -- the operation makes these steps of a width, and its bit shows this of a pattern

@@ -1,6 +1,6 @@
 //! Levels of nesting.
 ghost use Rattle.std.specs.Prelude.{◌≡◌, ◌+◌, nat_lt};
-ghost use Rattle.st_grammar.specs.Levels.{deepest};
+ghost use Rattle.st_tree.specs.Depth.{deepest};
 ghost use Rattle.st_grammar.specs.inner.Machine.{code};
 ghost use Rattle.st_grammar.specs.inner.Steps.{level_at};
 ghost use Rattle.st_bodies.specs.inner.BodyStates.{place_of, stack_of};

@@ -3,7 +3,7 @@ use Rattle.std.specs.Prelude.{◌≡◌, ℕ, Bool, true, false, not, ◌&&◌, 
 use Rattle.std.specs.List.{AllByRecursion, list_all}
 use Rattle.s7_base.specs.Tokens.{is_word_byte}
 use Rattle.st_lexer.specs.Spelled.{has_value, is_byte, is_decimal, is_place}
-use Rattle.st_lexer.specs.StTokens.{is_letter}
+use Rattle.st_tree.specs.Naming.{is_letter}
 use Rattle.st_grammar.specs.Forms.{Source}
 use Rattle.st_grammar.specs.Grammar.{spell_source}
 use Rattle.st_grammar.specs.Kinds.{word_named, conversion_named, conversion_between}

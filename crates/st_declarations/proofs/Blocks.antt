@@ -1,6 +1,6 @@
 -- Where a data block goes among others.
 use Rattle.st_tree.proofs.Common.{◌≡◌, ℕ, ◌+◌, Bool, true, false, cond, nat_lt, List, [], ◌∷◌, suc, refl, ap, ◌∙◌, arith, insert, prefix_len, DataBlock}
-use Rattle.st_rules.specs.Globals.{inserted}
+use Rattle.memory_areas.specs.Areas.{inserted}
 
 further : (n : ℕ) (c b : DataBlock) (cs : List DataBlock) → insert (c ∷ cs) (1 + n) b ≡ c ∷ insert cs n b
 further n c b cs = let e : 1 + n ≡ suc n = omega arith in ap (λ k. insert (c ∷ cs) k b) e

@@ -4,7 +4,8 @@ ghost use Rattle.std.specs.List.{flat_map, prefix_len};
 ghost use Rattle.st_tree.specs.declared.raw.RawGlobalType.TheVariants as RawGlobalType;
 ghost use Rattle.s7_base.specs.Broken.{broken};
 ghost use Rattle.st_rules.specs.Judged.{listed};
-ghost use Rattle.st_rules.specs.Globals.{all_blocks, all_global_breaks, all_located, area_of, block_at, block_breaks, block_number, block_of, contents, fills, fits_type, global_breaks, has_address, has_block_address, has_block_form, inserted, is_small_enough, is_start_of, located_at, located_in, located_of, number_from, number_in, total, unless, with_block};
+ghost use Rattle.memory_areas.specs.Areas.{inserted};
+ghost use Rattle.st_rules.specs.Globals.{all_blocks, all_global_breaks, all_located, area_of, block_at, block_breaks, block_number, block_of, contents, fills, fits_type, global_breaks, has_address, has_block_address, has_block_form, is_small_enough, is_start_of, located_at, located_in, located_of, number_from, number_in, total, unless, with_block};
 
 use memory_areas::{Area, AreaName, DataBlock, MOST_BLOCK_BYTES, MOST_BLOCKS, Place};
 use s7_base::{Break, Line, List, NoMemory, Reason, Width, note, rest_after};

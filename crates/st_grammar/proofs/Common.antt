@@ -3,7 +3,8 @@ pub use Rattle.st_grammar.specs.Forms.{Actuals, Arms, CaseArms, Form, GlobalType
 pub use Rattle.st_grammar.specs.Grammar.{AllFit, ArmsFit, Binds, CasesFit, Fits, FormalsFit, GlobalsFit, HasArm, HasCase, HeadFits, IfPresent, LabelsFit, LocalsFit, SourceFits, UnitsFit, arm_word, comma_behind, comma_past, end_word, held, is_direct, is_formal_type, is_global, is_value, label_tree, level, literal_tree, may_jump, on_line, prefix_kind, prefix_level, raw_tree, spell, spell_actuals, spell_all, spell_arms, spell_cases, spell_formals, spell_globals, spell_head, spell_initial, spell_items, spell_labels, spell_locals, spell_one, spell_section, spell_source, spell_temps, spell_type, spell_units, tree, tree_actuals, tree_all, tree_arms, tree_cases, tree_globals, tree_items, tree_labels, tree_locals, tree_one, tree_type, tree_units, unit_word}
 pub use Rattle.st_grammar.specs.Kinds.{are_two_digits, conversion_between, conversion_named, conversion_of_types, direct_kind, fixed_text, kind_of, lead_text, literal_kind, name_kind, number_kind, size_before_line, text_kind, typed_kind, word_kind}
 unfoldable pub use Rattle.st_grammar.specs.Kinds.{sign_named, word_named, word_text}
-pub use Rattle.st_grammar.specs.Levels.{deepest, height, levels, levels_actuals, levels_all, levels_arms, levels_cases, levels_globals, levels_items, levels_labels, levels_locals, levels_one, levels_section, levels_source, levels_type, levels_units}
+pub use Rattle.st_tree.specs.Depth.{deepest}
+pub use Rattle.st_grammar.specs.Levels.{height, levels, levels_actuals, levels_all, levels_arms, levels_cases, levels_globals, levels_items, levels_labels, levels_locals, levels_one, levels_section, levels_source, levels_type, levels_units}
 pub use Rattle.st_grammar.specs.Syntax.{AllWithin, Begins, FirstDeep, FirstWrong, HasRawTree, IsSyntaxRefused, Lined, Reads, all_lined, kinds}
 pub use Rattle.st_grammar.specs.inner.Judge.{judge_tokens, judged, on_good, raw_of, text_in, tree_at, verdict, verdict_on}
 unfoldable pub use Rattle.st_grammar.specs.inner.Judge.{after_token, level_reached}

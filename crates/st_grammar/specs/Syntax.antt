@@ -11,7 +11,8 @@ use Rattle.st_tree.specs.declared.token.StToken.{StToken}
 use Rattle.st_grammar.specs.Forms.{Source}
 use Rattle.st_grammar.specs.Grammar.{SourceFits, spell_source, raw_tree}
 use Rattle.st_grammar.specs.Kinds.{kind_of}
-use Rattle.st_grammar.specs.Levels.{deepest, levels_source}
+use Rattle.st_tree.specs.Depth.{deepest}
+use Rattle.st_grammar.specs.Levels.{levels_source}
 use Rattle.st_grammar.specs.declared.kind.Fixed.TheVariants as fixed
 use Rattle.st_grammar.specs.declared.kind.Kind.{Kind}
 use Rattle.st_grammar.specs.declared.kind.Kind.TheVariants as kind

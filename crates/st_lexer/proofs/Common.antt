@@ -4,7 +4,8 @@ pub use Rattle.st_lexer.specs.Literals.{base_at, begins_with_digit, digits_behin
 pub use Rattle.st_lexer.specs.Pieces.{token_seen}
 pub use Rattle.st_lexer.specs.Spelled.{ends_word, has_value, is_bit_of, is_block_of, is_byte, is_decimal, is_kept}
 pub use Rattle.st_lexer.specs.SpellingLaws.{IsLiteral, place_in}
-pub use Rattle.st_lexer.specs.StTokens.{Cut, Piece, answer, answer_to, comment_size, cut_from, direct_piece, first_bad, gap, great_from, is_blank, is_double_sign, is_great, is_letter, is_sign, line_behind, mark_piece, number_piece, other_piece, piece_at, piece_size, prepend_tokens, ranged_piece, sign_piece, token, token_of, with_piece, word_piece}
+pub use Rattle.st_tree.specs.Naming.{is_letter}
+pub use Rattle.st_lexer.specs.StTokens.{Cut, Piece, answer, answer_to, comment_size, cut_from, direct_piece, first_bad, gap, great_from, is_blank, is_double_sign, is_great, is_sign, line_behind, mark_piece, number_piece, other_piece, piece_at, piece_size, prepend_tokens, ranged_piece, sign_piece, token, token_of, with_piece, word_piece}
 unfoldable pub use Rattle.st_lexer.specs.StTokens.{tokens_of}
 pub use Rattle.st_lexer.specs.TokenFacts.{HasPlace, HasValue, IsOfItsSort, IsOfSort, is_word}
 pub use Rattle.st_lexer.specs.TokenGrammar.{Cuts, here, line_past, next}

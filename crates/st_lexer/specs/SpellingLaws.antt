@@ -8,7 +8,8 @@ use Rattle.s7_base.specs.declared.word.Width.{Width}
 use Rattle.st_lexer.specs.Direct.{direct_of}
 use Rattle.st_lexer.specs.Literals.{base_at, begins_with_digit, literal_at}
 use Rattle.st_lexer.specs.Spelled.{ends_word, has_value, is_byte, is_decimal, is_place}
-use Rattle.st_lexer.specs.StTokens.{is_letter, token}
+use Rattle.st_tree.specs.Naming.{is_letter}
+use Rattle.st_lexer.specs.StTokens.{token}
 use Rattle.st_lexer.specs.TokenGrammar.{Stands}
 use Rattle.st_lexer.specs.declared.number.Base.TheVariants as base
 use Rattle.st_tree.specs.declared.token.StKind.{StKind}

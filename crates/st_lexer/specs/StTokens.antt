@@ -4,7 +4,7 @@
 use Rattle.std.specs.Prelude.{ℕ, suc, zero, ◌+◌, ◌-◌, Bool, false, not, ◌==◌, ◌&&◌, ◌||◌, if◌then◌else◌, List, [], ◌∷◌, ◌++◌, take, drop, codes, Option, Some, None, option_map, Result, Ok, Err, nat_eq}
 use Rattle.std.specs.Cmp.Lexicographic.{pointwise}
 use Rattle.std.specs.List.{list_any}
-use Rattle.s7_base.specs.Tokens.{is_between, begins_with, line_size, line_after}
+use Rattle.s7_base.specs.Tokens.{begins_with, line_size, line_after}
 use Rattle.s7_base.specs.declared.reason.Line.{Line}
 use Rattle.s7_base.specs.declared.reason.Reason.TheVariants.{BadToken}
 use Rattle.s7_base.specs.declared.reason.Rejection.{Rejection}
@@ -13,6 +13,7 @@ use Rattle.st_lexer.specs.Direct.{direct_at}
 use Rattle.st_lexer.specs.Literals.{word_size, type_at, literal_at, is_in_range, is_digit_to, base_at}
 use Rattle.st_lexer.specs.declared.direct.Direct.{Direct}
 use Rattle.st_lexer.specs.declared.literal.Literal.{Literal}
+use Rattle.st_tree.specs.Naming.{is_letter}
 use Rattle.st_tree.specs.declared.expr.StType.{StType}
 use Rattle.st_lexer.specs.declared.number.Base.{Base}
 use Rattle.st_lexer.specs.declared.number.Base.TheVariants.{Ten}
@@ -25,10 +26,6 @@ use Rattle.st_tree.specs.declared.token.StToken.{StToken}
 -- space, TAB, CR and LF
 abbrev pub is_blank : ℕ → Bool
 is_blank b = b == 32 || b == 9 || b == 13 || b == 10
-
--- a letter or `_`
-abbrev pub is_letter : ℕ → Bool
-is_letter b = is_between 65 90 b || is_between 97 122 b || b == 95
 
 -- a sign of one character
 abbrev pub is_sign : ℕ → Bool

@@ -6,7 +6,8 @@ use Rattle.s7_base.specs.Tokens.{is_word_byte}
 use Rattle.st_lexer.specs.Direct.{direct_of}
 use Rattle.st_lexer.specs.Literals.{literal_at, is_in_range, signed}
 use Rattle.st_lexer.specs.Spelled.{has_value, is_place}
-use Rattle.st_lexer.specs.StTokens.{is_letter, tokens_of}
+use Rattle.st_tree.specs.Naming.{is_letter}
+use Rattle.st_lexer.specs.StTokens.{tokens_of}
 use Rattle.st_lexer.specs.declared.direct.Direct.{Direct}
 use Rattle.st_lexer.specs.declared.literal.Literal.{Literal}
 use Rattle.st_tree.specs.declared.token.StKind.{StKind}

@@ -7,7 +7,8 @@ ghost use Rattle.s7_base.specs.declared.reason.Rejection.TheVariants.{Refused};
 ghost use Rattle.st_lexer.specs.Direct.{direct_at};
 ghost use Rattle.st_lexer.specs.Literals.{type_at, base_at, literal_at};
 ghost use Rattle.st_lexer.specs.Pieces.{view, cut_view, token_seen};
-ghost use Rattle.st_lexer.specs.StTokens.{is_blank, is_letter, is_sign, is_double_sign, comment_size, sign_piece, mark_piece, ranged_piece, number_piece, word_piece, direct_piece, other_piece, piece_at, piece_size, line_behind, token_of, cut_from, is_great, has_text, begins_with_bracket, great_from, first_bad, tokens_of, gap};
+ghost use Rattle.st_tree.specs.Naming.{is_letter};
+ghost use Rattle.st_lexer.specs.StTokens.{is_blank, is_sign, is_double_sign, comment_size, sign_piece, mark_piece, ranged_piece, number_piece, word_piece, direct_piece, other_piece, piece_at, piece_size, line_behind, token_of, cut_from, is_great, has_text, begins_with_bracket, great_from, first_bad, tokens_of, gap};
 ghost use Rattle.st_lexer.specs.TokenGrammar.{line_past};
 ghost use Rattle.st_tree.specs.declared.token.StKind.TheVariants as sort;
 

@@ -3,7 +3,8 @@
 use Rattle.st_canonical.specs.Canonical.{source_of}
 use Rattle.st_canonical.specs.Spelled.{SourceSpelled}
 use Rattle.st_grammar.specs.Grammar.{SourceFits, raw_tree}
-use Rattle.st_grammar.specs.Levels.{deepest, levels_source}
+use Rattle.st_tree.specs.Depth.{deepest}
+use Rattle.st_grammar.specs.Levels.{levels_source}
 use Rattle.st_grammar.specs.Syntax.{AllWithin}
 use Rattle.st_rules.specs.Typed.{HasTree}
 use Rattle.st_tree.specs.Proper.{Proper}

@@ -2,7 +2,8 @@
 pub use Rattle.st_rules.specs.Calls.{all_calls, call_on, calls_of, calls_of_arm, calls_of_case_arm, joined}
 pub use Rattle.st_rules.specs.Declarations.{all_inside, all_outside, formals_of, keys_of, local_of, locals_of, meaning_of_unit, no_inside, no_outside, one_if, one_too_many, with_formal, with_global, with_local, with_unit}
 pub use Rattle.st_rules.specs.Expressions.{answered, expression, variable_on}
-pub use Rattle.st_rules.specs.Globals.{all_blocks, all_global_breaks, all_located, area_of, block_at, block_breaks, block_number, block_of, contents, fills, fits_type, global_breaks, has_block_address, has_block_form, inserted, is_small_enough, located_at, located_of, number_in, total, with_block}
+pub use Rattle.memory_areas.specs.Areas.{inserted}
+pub use Rattle.st_rules.specs.Globals.{all_blocks, all_global_breaks, all_located, area_of, block_at, block_breaks, block_number, block_of, contents, fills, fits_type, global_breaks, has_block_address, has_block_form, is_small_enough, located_at, located_of, number_in, total, with_block}
 pub use Rattle.st_rules.specs.Invocations.{Actual, Given, callee, formal_breaks, given_by, in_order, lacks, with_actual}
 pub use Rattle.st_rules.specs.Judged.{Judged, breaks_in, breaks_rule, found_in, listed, sound, twice}
 pub use Rattle.st_rules.specs.LongChains.{first_long_chain, long_chains}

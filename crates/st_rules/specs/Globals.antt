@@ -1,6 +1,7 @@
 -- Globals: what they are in the tree, and the rules that are broken in their locations and initial values.
 use Rattle.std.specs.Prelude.{ℕ, ◌+◌, ◌*◌, ◌-◌, ◌^◌, min, Bool, true, false, ◌&&◌, ◌==◌, nat_le, nat_lt, if◌then◌else◌, List, [], ◌∷◌, ◌++◌, drop, length, replicate, Option, Some, None, is_some}
 use Rattle.std.specs.List.{fold, flat_map}
+use Rattle.memory_areas.specs.Areas.{inserted}
 use Rattle.memory_areas.specs.declared.data_block.DataBlock.{DataBlock}
 use Rattle.memory_areas.specs.declared.place.Area.{Area}
 use Rattle.memory_areas.specs.declared.place.Area.TheVariants as place
@@ -126,11 +127,6 @@ block_at number at last list =
     if has_block_address number at && is_small_enough last && has_block_form number at last list
     then Some (record { number = number; bytes = contents last list })
     else None
-
--- data blocks by number, and one more
-abbrev pub inserted : DataBlock → List DataBlock → List DataBlock
-inserted b [] = b ∷ []
-inserted b (c ∷ cs) = if nat_lt c.number b.number then c ∷ inserted b cs else b ∷ c ∷ cs
 
 -- data blocks and one more, if it is there; a text with more than there may be is refused
 abbrev pub with_block : Option DataBlock → List DataBlock → List DataBlock

@@ -12,7 +12,7 @@ ghost use Rattle.st_grammar.specs.inner.Judge.{
   verdict,
 };
 ghost use Rattle.st_grammar.specs.Kinds.{kind_of};
-ghost use Rattle.st_grammar.specs.Levels.{deepest};
+ghost use Rattle.st_tree.specs.Depth.{deepest};
 ghost use Rattle.st_lexer.specs.Pieces.{token_seen};
 ghost use Rattle.st_syntax.specs.declared.state.State.TheVariants as state;
 ghost use Rattle.st_grammar.specs.Syntax.{all_lined};

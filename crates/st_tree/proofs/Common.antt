@@ -22,7 +22,7 @@ pub use Rattle.std.specs.Ordering.{int_eq}
 pub use Rattle.std.specs.Prelude.{All, Contains, IfOk, IfSome, IsSome, codes, decimal, flat_map, insert, int_lt, nat_eq, neg_ℤ, option_and_then, option_map, unsigned_abs, vec_capacity}
 pub use Rattle.std.specs.Str.{str_to_ascii_lowercase}
 pub use Rattle.digit_texts.specs.Digits.{are_digits, hex_digit, is_digit}
-pub use Rattle.memory_areas.specs.Access.{aimed, and_then, bytes_there, bytes_wide, fault_of, first_fault, is_closed, is_missing, or_none, unless}
+pub use Rattle.memory_areas.specs.Access.{HoldsBytes, aimed, and_then, bytes_there, bytes_wide, fault_of, first_fault, is_closed, is_missing, or_none, unless}
 pub use Rattle.memory_areas.specs.Areas.{Areas, Ascend, Contents, IsMemoryOf, IsSized, Match, block_of, bytes_in, fresh, numbers_of, zero_locals}
 pub use Rattle.memory_areas.specs.End.{End, Ended, Going}
 pub use Rattle.memory_areas.specs.Memory.{IsActivation}
@@ -45,8 +45,8 @@ pub use Rattle.s7_base.specs.declared.register.Reg.{Reg}
 pub use Rattle.s7_base.specs.declared.word.Width.{Width}
 pub use Rattle.st_tree.specs.Calls.{activation_of, after_unit, called, calls_to, entered, invoked, left, located_actual, located_actuals, unit_step, zero_of}
 pub use Rattle.st_tree.specs.Chains.{called_in, chain_of, chain_to, unit_chain}
-pub use Rattle.st_tree.specs.Depth.{greatest}
-pub use Rattle.st_tree.specs.Fitting.{ActivationFits, EndsFit, Fits, HoldsBytes, IsOf, Paired, RegistersFit, StandsFor}
+pub use Rattle.s7_base.specs.Numbers.{greatest}
+pub use Rattle.st_tree.specs.Fitting.{ActivationFits, EndsFit, Fits, IsOf, Paired, RegistersFit, StandsFor}
 pub use Rattle.st_tree.specs.Form.{Form, area_read, canon, canon_step, convert, infix_level, infix_of, level, literal, select, shift, unary_form, variable, weakest, wrap}
 pub use Rattle.st_tree.specs.Meaning.{Calls, Continues, Exits, Faults, Guarded, Labelled, NoUnits, Normal, Out, Returns, Sem, after_body, area_assigned, arm_meaning, assigned, body_meaning, case_meaning, changed, first_true, first_with, loop, meaning, then_do, turns, with_value}
 pub use Rattle.st_tree.specs.Naming.{are_apart, conversion_word, is_conversion, is_free, is_name, is_same, may_name_global, may_name_local, may_name_unit, names_block}

@@ -1,7 +1,7 @@
 -- Chains of calls: a unit, a unit that it calls, a unit that this one calls, and so on.
 use Rattle.std.specs.Prelude.{ℕ, zero, suc, List, map, Option, Some, None, slice_get}
 use Rattle.memory_areas.specs.declared.sizes.TheConstants.{ACTIVATIONS}
-use Rattle.st_tree.specs.Depth.{greatest}
+use Rattle.s7_base.specs.Numbers.{greatest}
 use Rattle.st_tree.specs.Parts.{calls_in}
 use Rattle.st_tree.specs.declared.expr.Var.{Var}
 use Rattle.st_tree.specs.declared.program.Pou.{Pou}

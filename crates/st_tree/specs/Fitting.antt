@@ -2,9 +2,8 @@
 -- typed expression has a value of its type in such a state, and well typed statements lead from one such state
 -- to others.
 use Rattle.std.specs.Prelude.{◌≡◌, ℕ, ◌<◌, true, Bool, ℤ, List, [], ◌∷◌, ◌++◌, map, slice_get, All, Contains, Option, Some, None, Ok}
-use Rattle.memory_areas.specs.Access.{bytes_there}
-use Rattle.memory_areas.specs.Areas.{Areas, Contents, IsMemoryOf}
-use Rattle.memory_areas.specs.declared.place.Area.{Area}
+use Rattle.memory_areas.specs.Access.{HoldsBytes}
+use Rattle.memory_areas.specs.Areas.{Areas, IsMemoryOf}
 use Rattle.s7_base.specs.declared.register.Reg.{Reg}
 use Rattle.memory_areas.specs.declared.call.Call.{Call}
 use Rattle.st_tree.specs.Calls.{calls_to}
@@ -35,10 +34,6 @@ pub record IsOf (ty : StType) (v : Value) : Type 0 where
 -- each register variable holds a number of its type
 abbrev pub RegistersFit : (Reg → ℤ) → Type 0
 RegistersFit registers = (r : Reg) → fit (type_of_register r) (registers r) ≡ registers r
-
--- each area holds bytes
-abbrev pub HoldsBytes : Contents → Type 0
-HoldsBytes memory = (a : Area) → All (λ b. b < 256) (bytes_there (Some a) memory)
 
 -- the locals that a unit declares; none where it is not there
 abbrev pub locals_declared : Option Pou → List Local

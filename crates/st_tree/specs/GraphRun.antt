@@ -7,7 +7,7 @@ use Rattle.memory_areas.specs.End.{End, Going}
 use Rattle.s7_base.specs.declared.outcome.Fault.{Fault}
 use Rattle.memory_areas.specs.declared.call.Call.{Call}
 use Rattle.st_tree.specs.Calls.{after_unit, called, entered, located_actuals}
-use Rattle.st_tree.specs.Depth.{greatest}
+use Rattle.s7_base.specs.Numbers.{greatest}
 use Rattle.st_tree.specs.Meaning.{Normal, Faults, NoUnits, Sem, Calls, body_meaning, then_do}
 use Rattle.st_tree.specs.StRun.{FitsSt, end_seen, is_meant, state_at_start}
 use Rattle.st_tree.specs.State.{State}

@@ -1,7 +1,7 @@
 -- How deep a text nests that spells a tree: IF, CASE, WHILE and brackets that are open, and `-` and NOT whose
 -- operand is not complete; and of an operator between operands also how high the tree to its left is.
 use Rattle.std.specs.Prelude.{ℕ, suc, max, List, map}
-use Rattle.st_tree.specs.Depth.{greatest}
+use Rattle.s7_base.specs.Numbers.{greatest}
 use Rattle.st_tree.specs.Form.{Form, area_read, canon, convert, digits_to, group, infix_of, literal, prefix, select, shift, variable}
 use Rattle.st_tree.specs.declared.expr.Expr.{Expr}
 use Rattle.st_tree.specs.declared.program.Arm.{Arm, Arm-F, fold-Arm}

@@ -1,7 +1,6 @@
 -- The state of a run: memory, registers and activations; and how variables are located, read and written.
 use Rattle.std.specs.Prelude.{ℕ, zero, suc, ◌-◌, ◌==◌, ℤ, pos, Bool, if◌then◌else◌, List, [], ◌∷◌, length, slice_get, slice_set, Option, Some, None, Result, Ok, Err}
-use Rattle.address_registers.specs.Pointers.{resolved}
-use Rattle.memory_areas.specs.Access.{and_then, area_named, read_bit, read_byte, read_word, read_dword, write_bit, write_byte, write_word, write_dword}
+use Rattle.memory_areas.specs.Access.{and_then, area_named, place_aimed, pointed, read_bit, read_byte, read_dword, read_word, write_bit, write_byte, write_dword, write_word}
 use Rattle.memory_areas.specs.Areas.{Contents}
 use Rattle.memory_areas.specs.declared.place.Area.TheVariants as area
 use Rattle.memory_areas.specs.declared.place.AreaName.{AreaName}
@@ -96,7 +95,7 @@ place_of a byte x s = record { area = area_named a (db_number s) (di_number s) (
 
 -- the place that a pointer names, a DWORD, with the area code of a place that there is
 abbrev pub pointed_at : Value → State → Result Place Fault
-pointed_at p s = resolved (pattern 32 p.n) (db_number s) (di_number s) (depth s)
+pointed_at p s = place_aimed (pointed (pattern 32 p.n) (db_number s) (di_number s) (depth s))
 
 -- the value that a place in memory holds, read in its type; a LINT has no place, and 4 bytes
 abbrev pub read_place : StType → Place → Contents → Result Value Fault

@@ -1,5 +1,6 @@
 -- The types of expressions by those of their operands; none where they do not fit.
 use Rattle.std.specs.Prelude.{ℕ, Bool, not, ◌&&◌, ◌||◌, ◌==◌, nat_lt, if◌then◌else◌, Option, Some, None}
+use Rattle.memory_areas.specs.Access.{bits_wide}
 use Rattle.s7_base.specs.declared.word.Width.{Width}
 use Rattle.s7_base.specs.declared.word.Width.TheVariants as width
 use Rattle.st_tree.specs.declared.expr.BinaryOp.{BinaryOp}
@@ -8,7 +9,7 @@ use Rattle.st_tree.specs.declared.expr.StType.{StType}
 use Rattle.st_tree.specs.declared.expr.StType.TheVariants as type
 use Rattle.st_tree.specs.declared.expr.UnaryOp.{UnaryOp}
 use Rattle.st_tree.specs.declared.expr.UnaryOp.TheVariants as unary
-use Rattle.st_tree.specs.Values.{type_of_width}
+use Rattle.st_tree.specs.Values.{type_of_width, width_of}
 
 -- the place of a type in the list of types: the four bit types, then the three number types
 abbrev pub place_of : StType → ℕ
@@ -84,23 +85,6 @@ type_of_read w pointer = where_true (is_type pointer type.Dword) (type_of_width 
 abbrev pub is_selector : StType → Bool
 is_selector ty = is_type ty type.Int || is_type ty type.Dint
 
--- how many bits a place of a width has
-abbrev pub bits_of_width : Width → ℕ
-bits_of_width width.Bit = 1
-bits_of_width width.Byte = 8
-bits_of_width width.Word = 16
-bits_of_width width.Dword = 32
-
--- how many bits a value of a type has; no place has the 64 of a LINT
-abbrev pub bits_of_type : StType → ℕ
-bits_of_type type.Bool = 1
-bits_of_type type.Byte = 8
-bits_of_type type.Word = 16
-bits_of_type type.Dword = 32
-bits_of_type type.Int = 16
-bits_of_type type.Dint = 32
-bits_of_type type.Lint = 64
-
 -- a location of this width has the type's width
 abbrev pub has_width : StType → Width → Bool
-has_width ty w = bits_of_type ty == bits_of_width w
+has_width ty w = width_of ty == bits_wide w

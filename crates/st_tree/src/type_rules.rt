@@ -1,6 +1,8 @@
 //! The types of expressions by those of their operands.
 ghost use Rattle.std.specs.Prelude.{◌≡◌};
-ghost use Rattle.st_tree.specs.TypeRules.{bits_of_type, bits_of_width, has_bits, has_numbers, has_width, is_selector, is_type, place_of, type_of_binary, type_of_choice, type_of_conversion, type_of_read, type_of_shift, type_of_unary, type_on_equals, where_true};
+ghost use Rattle.memory_areas.specs.Access.{bits_wide};
+ghost use Rattle.st_tree.specs.Values.{width_of};
+ghost use Rattle.st_tree.specs.TypeRules.{has_bits, has_numbers, has_width, is_selector, is_type, place_of, type_of_binary, type_of_choice, type_of_conversion, type_of_read, type_of_shift, type_of_unary, type_on_equals, where_true};
 
 use crate::expr::{BinaryOp, StType, UnaryOp};
 use crate::types::type_of_width;
@@ -111,8 +113,8 @@ pub fn is_selector(ty: StType) -> bool
     is_type(ty, StType::Int) || is_type(ty, StType::Dint)
 }
 
-fn bits_of_width(width: Width) -> u32
-    ensures { result ≡ bits_of_width width }
+fn bits_wide(width: Width) -> u32
+    ensures { result ≡ bits_wide width }
 {
     match width {
         Width::Bit => 1,
@@ -122,8 +124,8 @@ fn bits_of_width(width: Width) -> u32
     }
 }
 
-fn bits_of_type(ty: StType) -> u32
-    ensures { result ≡ bits_of_type ty }
+fn width_of(ty: StType) -> u32
+    ensures { result ≡ width_of ty }
 {
     match ty {
         StType::Bool => 1,
@@ -138,5 +140,5 @@ fn bits_of_type(ty: StType) -> u32
 pub fn has_width(ty: StType, width: Width) -> bool
     ensures { result ≡ has_width ty width }
 {
-    bits_of_type(ty) == bits_of_width(width)
+    width_of(ty) == bits_wide(width)
 }

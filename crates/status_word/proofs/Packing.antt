@@ -63,10 +63,10 @@ same_place f g e = sym (flag_at-place g) ∙ ap flag_at e ∙ flag_at-place f
 -- status bits whose flags are the same are the same
 pub same_flags : (s t : StatusBits) → ((f : Flag) → flag_of f s ≡ flag_of f t) → s ≡ t
 same_flags s t same =
-    ap (λ b. record s { fc = b }) (same flag.Nfc)
-    ∙ ap (λ b. record s { fc = t.fc; rlo = b }) (same flag.Rlo)
-    ∙ ap (λ b. record s { fc = t.fc; rlo = t.rlo; sta = b }) (same flag.Sta)
-    ∙ ap (λ b. record s { fc = t.fc; rlo = t.rlo; sta = t.sta; orb = b }) (same flag.Orb)
+    ap (λ b. record s { nfc = b }) (same flag.Nfc)
+    ∙ ap (λ b. record s { nfc = t.nfc; rlo = b }) (same flag.Rlo)
+    ∙ ap (λ b. record s { nfc = t.nfc; rlo = t.rlo; sta = b }) (same flag.Sta)
+    ∙ ap (λ b. record s { nfc = t.nfc; rlo = t.rlo; sta = t.sta; orb = b }) (same flag.Orb)
     ∙ ap (λ b. record t { os = b; ov = s.ov; cc0 = s.cc0; cc1 = s.cc1; br = s.br }) (same flag.Os)
     ∙ ap (λ b. record t { ov = b; cc0 = s.cc0; cc1 = s.cc1; br = s.br }) (same flag.Ov)
     ∙ ap (λ b. record t { cc0 = b; cc1 = s.cc1; br = s.br }) (same flag.Cc0)

@@ -5,9 +5,9 @@ use Rattle.status_word.specs.Flags.{bits_of, from_word, has_bit, word_of}
 use Rattle.status_word.specs.Results.{after_compared, after_converted, after_shifted, after_signed, after_zero_divisor}
 use Rattle.status_word.specs.StatusBits.{StatusBits, all_clear, after_check, after_close, after_edge, after_jump, after_open, after_or, after_store, after_end, entry_of}
 
--- the bits with FC, RLO, STA and OR as given, the others as they are where none is changed
+-- the bits with /FC, RLO, STA and OR as given, the others as they are where none is changed
 abbrev logic : Bool → Bool → Bool → Bool → StatusBits → StatusBits
-logic fc rlo sta orb s = record s { fc = fc; rlo = rlo; sta = sta; orb = orb }
+logic nfc rlo sta orb s = record s { nfc = nfc; rlo = rlo; sta = sta; orb = orb }
 
 -- a first check takes the bit alone, whatever the RLO is
 first_and : (s : StatusBits) → after_check check.A true (logic false false false false s) ≡ logic true true true false s
@@ -41,7 +41,7 @@ assigned : (s : StatusBits) → after_store true (logic true true false true s) 
 assigned s = refl
 
 -- the end of a block clears OS, and leaves the RLO and the condition codes
-ended : after_end (record all_clear { fc = true; rlo = true; orb = true; os = true; cc1 = true; br = true })
+ended : after_end (record all_clear { nfc = true; rlo = true; orb = true; os = true; cc1 = true; br = true })
     ≡ record all_clear { rlo = true; sta = true; cc1 = true; br = true }
 ended = refl
 
@@ -55,7 +55,7 @@ nothing_before_or s = refl
 taken_behind_or : (s : StatusBits) → after_check check.A false (logic false true true true s) ≡ logic true true false true s
 taken_behind_or s = refl
 
--- a bracket in which the RLO is 1 is checked as a bit that is 1, with RLO, OR and FC as they were before it
+-- a bracket in which the RLO is 1 is checked as a bit that is 1, with RLO, OR and /FC as they were before it
 opened : (s : StatusBits) → after_open (logic true true false true s) ≡ logic false true true false s
 opened s = refl
 

@@ -26,7 +26,7 @@ has_bit n f = bit_at n (place f) == 1
 unfoldable pub bits_of : ℕ → StatusBits
 bits_of n =
     record {
-      fc = has_bit n flag.Nfc;
+      nfc = has_bit n flag.Nfc;
       rlo = has_bit n flag.Rlo;
       sta = has_bit n flag.Sta;
       orb = has_bit n flag.Orb;
@@ -43,7 +43,7 @@ bits s = bits_of s.0
 
 -- the flag of some status bits
 abbrev pub flag_of : Flag → StatusBits → Bool
-flag_of flag.Nfc s = s.fc
+flag_of flag.Nfc s = s.nfc
 flag_of flag.Rlo s = s.rlo
 flag_of flag.Sta s = s.sta
 flag_of flag.Orb s = s.orb
@@ -55,7 +55,7 @@ flag_of flag.Br s = s.br
 
 -- the status bits with a flag as given, the others as they are
 abbrev pub with_flag : Flag → Bool → StatusBits → StatusBits
-with_flag flag.Nfc v s = record s { fc = v }
+with_flag flag.Nfc v s = record s { nfc = v }
 with_flag flag.Rlo v s = record s { rlo = v }
 with_flag flag.Sta v s = record s { sta = v }
 with_flag flag.Orb v s = record s { orb = v }

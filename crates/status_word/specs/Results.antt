@@ -26,7 +26,7 @@ after_converted over s = with_overflow over s
 -- greater, 01 where less, 00 where they are equal
 abbrev pub after_compared : ℤ → ℤ → Bool → StatusBits → StatusBits
 after_compared a b holds s =
-    record s { rlo = holds; cc1 = int_lt b a; cc0 = int_lt a b; ov = false; orb = false; sta = holds; fc = true }
+    record s { rlo = holds; cc1 = int_lt b a; cc0 = int_lt a b; ov = false; orb = false; sta = holds; nfc = true }
 
 -- a shift or rotation by one bit or more, by the last bit that went out
 abbrev pub after_shifted : Bool → StatusBits → StatusBits

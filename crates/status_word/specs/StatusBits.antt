@@ -6,11 +6,11 @@ use Rattle.s7_base.specs.declared.check.Entry.{Entry}
 use Rattle.status_word.specs.declared.test.Test.{Test}
 use Rattle.status_word.specs.declared.test.Test.TheVariants as test
 
--- a truth value for each bit of the status word: FC, which is set while a chain of checks goes on; the
+-- a truth value for each bit of the status word: /FC, which is set while a chain of checks goes on; the
 -- result of logic operation; the status; OR; stored overflow and overflow; the condition codes; the
 -- binary result
 pub record StatusBits : Type 0 where
-  pub fc : Bool
+  pub nfc : Bool
   pub rlo : Bool
   pub sta : Bool
   pub orb : Bool
@@ -24,7 +24,7 @@ pub record StatusBits : Type 0 where
 abbrev pub all_clear : StatusBits
 all_clear =
     record {
-      fc = false;
+      nfc = false;
       rlo = false;
       sta = false;
       orb = false;
@@ -35,15 +35,15 @@ all_clear =
       br = false;
     }
 
--- the RLO after a check of bit b: at a first check, where FC is 0, it counts as set before an AND, and
+-- the RLO after a check of bit b: at a first check, where /FC is 0, it counts as set before an AND, and
 -- before the others it is the bit alone
 abbrev pub rlo_after : Check → Bool → StatusBits → Bool
-rlo_after check.A b s = ((s.rlo || not s.fc) && b) || s.orb
-rlo_after check.An b s = ((s.rlo || not s.fc) && not b) || s.orb
-rlo_after check.O b s = if s.fc then s.rlo || b else b
-rlo_after check.On b s = if s.fc then s.rlo || not b else not b
-rlo_after check.X b s = if s.fc then (if s.rlo then not b else b) else b
-rlo_after check.Xn b s = if s.fc then (if s.rlo then b else not b) else not b
+rlo_after check.A b s = ((s.rlo || not s.nfc) && b) || s.orb
+rlo_after check.An b s = ((s.rlo || not s.nfc) && not b) || s.orb
+rlo_after check.O b s = if s.nfc then s.rlo || b else b
+rlo_after check.On b s = if s.nfc then s.rlo || not b else not b
+rlo_after check.X b s = if s.nfc then (if s.rlo then not b else b) else b
+rlo_after check.Xn b s = if s.nfc then (if s.rlo then b else not b) else not b
 
 -- OR after a check: an AND keeps it
 abbrev pub orb_after : Check → StatusBits → Bool
@@ -56,7 +56,7 @@ orb_after check.Xn s = false
 
 -- A, AN, O, ON, X, XN of bit b
 abbrev pub after_check : Check → Bool → StatusBits → StatusBits
-after_check c b s = record s { rlo = rlo_after c b s; orb = orb_after c s; sta = b; fc = true }
+after_check c b s = record s { rlo = rlo_after c b s; orb = orb_after c s; sta = b; nfc = true }
 
 -- the answer to a question to the status word, CC1 before CC0: 00; 01 or 10; 10; 01; 00 or 10; 00 or 01; 11;
 -- the flag itself
@@ -74,36 +74,36 @@ answer_to test.Br s = s.br
 
 -- O without operand: an AND before an OR is kept in OR, and the next check is a first one
 abbrev pub after_or : StatusBits → StatusBits
-after_or s = record s { orb = s.rlo && s.fc; sta = true; fc = false }
+after_or s = record s { orb = s.rlo && s.nfc; sta = true; nfc = false }
 
 -- what an opening bracket keeps until it is closed
 abbrev pub entry_of : Check → StatusBits → Entry
-entry_of c s = record { check = c; rlo = s.rlo; orb = s.orb; nfc = s.fc }
+entry_of c s = record { check = c; rlo = s.rlo; orb = s.orb; nfc = s.nfc }
 
 -- an opening bracket, in which the next check is a first one
 abbrev pub after_open : StatusBits → StatusBits
-after_open s = record s { orb = false; sta = true; fc = false }
+after_open s = record s { orb = false; sta = true; nfc = false }
 
--- the bits with RLO, OR and FC as a bracket kept them
+-- the bits with RLO, OR and /FC as a bracket kept them
 abbrev pub restored : Entry → StatusBits → StatusBits
-restored e s = record s { rlo = e.rlo; orb = e.orb; fc = e.nfc }
+restored e s = record s { rlo = e.rlo; orb = e.orb; nfc = e.nfc }
 
 -- a closing bracket: the check that opened it, of the RLO inside, on what the bracket kept
 abbrev pub after_close : Entry → StatusBits → StatusBits
 after_close e s =
-    record s { rlo = rlo_after e.check s.rlo (restored e s); orb = orb_after e.check (restored e s); sta = true; fc = true }
+    record s { rlo = rlo_after e.check s.rlo (restored e s); orb = orb_after e.check (restored e s); sta = true; nfc = true }
 
 -- = S R, where this is the bit as it then stands
 abbrev pub after_store : Bool → StatusBits → StatusBits
-after_store b s = record s { sta = b; orb = false; fc = false }
+after_store b s = record s { sta = b; orb = false; nfc = false }
 
 -- SET
 abbrev pub after_set : StatusBits → StatusBits
-after_set s = record s { rlo = true; sta = true; orb = false; fc = false }
+after_set s = record s { rlo = true; sta = true; orb = false; nfc = false }
 
 -- CLR
 abbrev pub after_clear : StatusBits → StatusBits
-after_clear s = record s { rlo = false; sta = false; orb = false; fc = false }
+after_clear s = record s { rlo = false; sta = false; orb = false; nfc = false }
 
 -- NOT
 abbrev pub after_not : StatusBits → StatusBits
@@ -120,12 +120,12 @@ rlo_at_edge rising e s = if rising then s.rlo && not e else not s.rlo && e
 -- FP and FN
 abbrev pub after_edge : Bool → Bool → StatusBits → StatusBits
 after_edge rising e s =
-    record s { rlo = rlo_at_edge rising e s; sta = rlo_at_edge rising e s; orb = false; fc = true }
+    record s { rlo = rlo_at_edge rising e s; sta = rlo_at_edge rising e s; orb = false; nfc = true }
 
 -- the end word of a block
 abbrev pub after_end : StatusBits → StatusBits
-after_end s = record s { os = false; orb = false; sta = true; fc = false }
+after_end s = record s { os = false; orb = false; sta = true; nfc = false }
 
 -- JC, where it jumps and where it does not
 abbrev pub after_jump : StatusBits → StatusBits
-after_jump s = record s { orb = false; sta = true; rlo = true; fc = false }
+after_jump s = record s { orb = false; sta = true; rlo = true; nfc = false }

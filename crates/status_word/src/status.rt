@@ -65,16 +65,16 @@ impl Status {
     fn rlo_after(self, check: Check, bit: bool) -> bool
         ensures { result ≡ rlo_after check bit (bits self) }
     {
-        let fc = self.get(Flag::Nfc);
+        let nfc = self.get(Flag::Nfc);
         let rlo = self.get(Flag::Rlo);
         let orb = self.get(Flag::Orb);
         match check {
-            Check::A => (rlo || !fc) && bit || orb,
-            Check::An => (rlo || !fc) && !bit || orb,
-            Check::O => bit || fc && rlo,
-            Check::On => !bit || fc && rlo,
-            Check::X => bit != (fc && rlo),
-            Check::Xn => bit == (fc && rlo),
+            Check::A => (rlo || !nfc) && bit || orb,
+            Check::An => (rlo || !nfc) && !bit || orb,
+            Check::O => bit || nfc && rlo,
+            Check::On => !bit || nfc && rlo,
+            Check::X => bit != (nfc && rlo),
+            Check::Xn => bit == (nfc && rlo),
         }
     }
 

@@ -11,7 +11,7 @@ use Rattle.s7_base.specs.Tokens.{is_between, is_same_word}
 use Rattle.s7_base.specs.declared.token.Token.{Token}
 use Rattle.s7_base.specs.declared.word.Width.{Width}
 use Rattle.s7_base.specs.declared.word.Width.TheVariants as width
-use Rattle.stl_tree.specs.Accumulators.{bits_wide}
+use Rattle.memory_areas.specs.Access.{bits_wide}
 use Rattle.stl_statements.specs.ConstantForms.{IsAddend, IsAmong, IsBehind, IsConstant, IsHex, IsNumberIn, IsPair, IsPrefixed, IsSigned, IsUpTo}
 use Rattle.stl_statements.specs.ConstantForms as form
 use Rattle.stl_statements.specs.Constants.{Prefixed, addend_at, addend_prefixes, begins_real, is_real, behind_prefix, binary, binary_behind, binary_of, constant, constant_at, four_behind, four_bytes, half, has_prefix, hex_behind, hex_of, left_out_prefixes, long_behind, marked_at, name_behind, negative, negative_behind, number_at, pair_of, plain, plain_at, prefixed, prefixed_at, prefixed_by, prefixes, real_at, signed_at, text_at, text_in, text_of, two_behind, two_bytes, up_to, with_byte, zero_behind}

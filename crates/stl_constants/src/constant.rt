@@ -1,8 +1,8 @@
 //! Reads constants.
 ghost use Rattle.std.specs.Prelude.{◌≡◌, ◌≤◌, ◌<◌, ◌^◌, ◌-◌, IfSome, map, option_map};
 ghost use Rattle.std.specs.List.{find};
-ghost use Rattle.stl_tree.specs.Accumulators.{bits_wide};
-ghost use Rattle.stl_statements.specs.Constants.{addend_at, addend_prefixes, begins_glued, begins_real, behind_prefix, binary, binary_behind, binary_of, constant, constant_at, ends_real, fits, four_behind, four_bytes, half, has_prefix, hex_behind, hex_of, is_exponent, is_fraction, is_real, is_signed_exponent, left_out_prefixes, long_behind, marked_at, name_behind, negative, negative_behind, number_at, pair_of, plain, plain_at, prefixed_at, prefixes, real_at, room_for, signed_at, text_at, text_in, text_of, two_behind, two_bytes, up_to, zero_behind};
+ghost use Rattle.memory_areas.specs.Access.{bits_wide};
+ghost use Rattle.stl_statements.specs.Constants.{addend_at, addend_prefixes, begins_glued, begins_real, behind_prefix, binary, binary_behind, binary_of, constant, constant_at, ends_real, four_behind, four_bytes, half, has_prefix, hex_behind, hex_of, is_exponent, is_fraction, is_real, is_signed_exponent, left_out_prefixes, long_behind, marked_at, name_behind, negative, negative_behind, number_at, pair_of, plain, plain_at, prefixed_at, prefixes, real_at, room_for, signed_at, text_at, text_in, text_of, two_behind, two_bytes, up_to, zero_behind};
 ghost use Rattle.stl_statements.specs.Readers.{fitting, number_in, or_else, read_as};
 ghost use Rattle.stl_statements.specs.declared.mnemonic.Prefix.TheVariants as prefix;
 ghost use Rattle.s7_base.specs.declared.word.Width.TheVariants as width;
@@ -605,19 +605,5 @@ pub fn number_at(most: u8, tokens: &[Token]) -> Read<Constant>
     match left_out_constant_at(tokens) {
         Read::No => as_plain(up_to(most, tokens)),
         read => read,
-    }
-}
-
-/// A constant fits a width: its own, a greater one where it is binary, a double word where it is a plain number.
-pub fn fits(width: Width, constant: Constant) -> bool
-    ensures { result ≡ fits width constant }
-{
-    match (width, constant.width) {
-        (Width::Byte, Width::Byte) | (Width::Word, Width::Word) | (Width::Dword, Width::Dword) => {
-            true
-        }
-        (Width::Word | Width::Dword, Width::Byte) => constant.binary,
-        (Width::Dword, Width::Word) => constant.binary || constant.signed,
-        _ => false,
     }
 }

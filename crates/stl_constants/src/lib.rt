@@ -7,7 +7,7 @@
 #![tactic(auto)]
 
 pub use constant::{
-    addend_at, begins_glued, constant_at, fits, fitting, left_out_constant_at, number_at,
+    addend_at, begins_glued, constant_at, fitting, left_out_constant_at, number_at,
 };
 pub use number::is_numbered;
 pub use words::{

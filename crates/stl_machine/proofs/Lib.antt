@@ -1,5 +1,3 @@
 mod Counting
-mod Moves
 mod Pushing
-mod StatusWord
 mod Steps

@@ -1,18 +1,19 @@
 //! What one instruction does.
-ghost use Rattle.std.specs.Prelude.{◌≡◌, if◌then◌else◌};
+ghost use Rattle.std.specs.Prelude.{◌≡◌};
 ghost use Rattle.status_word.specs.Flags.{bits};
 ghost use Rattle.stl_machine.specs.inner.Effects.{Does};
 ghost use Rattle.stl_machine.specs.inner.Operands.{IsTaken};
 ghost use Rattle.stl_machine.specs.inner.Rows.{IsOnRegisters};
-ghost use Rattle.stl_machine.specs.inner.Views.{seen, values};
-ghost use Rattle.stl_tree.specs.Instructions.{at_edge, block_opened, effect_of, on_accu1, on_registers, on_status};
+ghost use Rattle.stl_machine.specs.inner.Views.{seen};
+ghost use Rattle.stl_registers.specs.Values.{values};
+ghost use Rattle.stl_tree.specs.Instructions.{at_edge, block_opened, effect_of, on_accu1, on_registers, on_status, stored};
 ghost use Rattle.stl_tree.specs.declared.program.Op.TheVariants as op;
 
-use crate::accumulators::{read_number, write_part};
-use crate::state::{Registers, State};
+use crate::state::State;
 use address_registers::Pointer;
 use s7_base::{Check, Fault, Width};
 use status_word::{Flag, Status};
+use stl_registers::{Registers, read_number, write_number};
 use stl_tree::{Ar, ArLoad, ArStore, BitArg, LoadArg, Op, OpenArg, Operand, UnaryRow};
 
 /// How a run goes on after an instruction.
@@ -68,7 +69,7 @@ fn assign(operand: &Operand, state: &mut State) -> Result<Effect, Fault>
 
 /// `S` and `R`: where the RLO is 1, the bit becomes this value.
 fn set_to(value: bool, operand: &Operand, state: &mut State) -> Result<Effect, Fault>
-    ensures { Does (effect_of (if value then op.Set operand.now else op.Reset operand.now) (seen state.old)) result state.old state.new }
+    ensures { Does (stored value operand.now (seen state.old)) result state.old state.new }
 {
     let place = state.place_of(operand)?;
     let status = state.registers.status;
@@ -108,7 +109,7 @@ fn transfer(operand: &Operand, width: Width, state: &mut State) -> Result<Effect
     ensures { Does (effect_of (op.Transfer operand.now width) (seen state.old)) result state.old state.new }
 {
     let place = state.place_of(operand)?;
-    write_part(&mut state.memory, place, width, state.registers.accu1)?;
+    write_number(&mut state.memory, place, width, state.registers.accu1)?;
     Ok(Effect::Next)
 }
 
@@ -221,8 +222,8 @@ fn on_registers(op: &Op, state: &mut State) -> Result<Effect, Fault>
         Op::Arith(of) => before.calculated(*of),
         Op::AddWord(n) => before.increased(Width::Word, i32::from(*n)),
         Op::AddDword(n) => before.increased(Width::Dword, *n),
-        Op::Inc(n) => before.increased(Width::Byte, i32::from(*n)),
-        Op::Dec(n) => before.decreased(Width::Byte, i32::from(*n)),
+        Op::Inc(n) => before.counted_up(*n),
+        Op::Dec(n) => before.counted_down(*n),
         Op::Compare(test, width) => before.compared(*test, *width),
         Op::Shift(of, count) => before.after_shift(*of, *count),
         Op::Rlda => before.around_left_through_cc1(),

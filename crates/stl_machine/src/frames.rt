@@ -12,11 +12,13 @@ use std::marker::Model;
 const ROOM: usize = 7;
 
 /// An activation: its block by its position in the program, the position of the instruction to come in the
-/// block's body, and the numbers that the DB and the DI register take again when the block ends.
+/// block's body, the number of the data block that is its instance, 0 where it has none, and the numbers that the
+/// DB and the DI register take again when the block ends.
 #[derive(Clone, Copy)]
 pub struct Frame {
     pub block: usize,
     pub at: usize,
+    pub instance: u16,
     pub db: u16,
     pub di: u16,
 }
@@ -24,11 +26,12 @@ pub struct Frame {
 impl Frame {
     /// A block before its first instruction, which no block called.
     pub fn first(block: usize) -> Frame
-        ensures { activation result ≡ record { block = block; at = 0; db = 0; di = 0; formals = [] } }
+        ensures { activation result ≡ record { block = block; at = 0; instance = 0; db = 0; di = 0; formals = [] } }
     {
         Frame {
             block,
             at: 0,
+            instance: 0,
             db: 0,
             di: 0,
         }

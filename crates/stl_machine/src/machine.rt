@@ -9,12 +9,13 @@ ghost use Rattle.stl_tree.specs.declared.program.Program.{Program};
 
 use crate::effect::{Effect, effect_of};
 use crate::frames::Frames;
-use crate::state::{Registers, State};
+use crate::state::State;
 use memory_areas::Memory;
 use nesting_stack::Nesting;
 use s7_base::{Fault, Outcome};
 use std::alloc::Global;
 use std::marker::Model;
+use stl_registers::Registers;
 use stl_tree::{Block, BlockName, Call, Instr, Program};
 
 /// Why there is no machine.

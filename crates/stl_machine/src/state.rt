@@ -4,11 +4,9 @@ ghost use Rattle.memory_areas.specs.Memory.{IsActivation};
 ghost use Rattle.status_word.specs.Flags.{bits};
 ghost use Rattle.status_word.specs.StatusBits.{entry_of};
 ghost use Rattle.stl_machine.specs.inner.Operands.{IsFound};
-ghost use Rattle.stl_machine.specs.inner.Views.{seen, values};
+ghost use Rattle.stl_machine.specs.inner.Views.{seen};
 ghost use Rattle.stl_tree.specs.Brackets.{closed, opened, pushed};
-ghost use Rattle.stl_tree.specs.DataBlocks.{db_number_loaded, db_opened, dbs_exchanged, di_number_loaded, di_opened};
 ghost use Rattle.stl_tree.specs.Operands.{aimed_by, aimed_in, found, found_at, place_in};
-ghost use Rattle.stl_tree.specs.Registers.{start};
 
 use crate::frames::Frames;
 use address_registers::{Pointer, resolve};
@@ -16,76 +14,8 @@ use memory_areas::{AreaName, Memory, Place};
 use nesting_stack::Nesting;
 use s7_base::{Check, Entry, Fault};
 use status_word::{Flag, Status};
+use stl_registers::Registers;
 use stl_tree::Operand;
-
-/// The accumulators and address registers, the numbers of the open data blocks, and the status word.
-#[derive(Clone, Copy)]
-pub struct Registers {
-    pub accu1: u32,
-    pub accu2: u32,
-    pub ar1: u32,
-    pub ar2: u32,
-    pub db: u16,
-    pub di: u16,
-    pub status: Status,
-}
-
-impl Registers {
-    /// All zero.
-    #[tactic(auto, unfolding(status_word::specs::Flags::bits_of, status_word::specs::Flags::has_bit))]
-    pub fn start() -> Registers
-        ensures { values result ≡ start }
-    {
-        Registers {
-            accu1: 0,
-            accu2: 0,
-            ar1: 0,
-            ar2: 0,
-            db: 0,
-            di: 0,
-            status: Status(0),
-        }
-    }
-
-    /// `OPN` of a data block, which need not be there.
-    pub fn db_opened(self, number: u16) -> Registers
-        ensures { values result ≡ db_opened number (values self) }
-    {
-        Registers { db: number, ..self }
-    }
-
-    /// `OPN` of an instance.
-    pub fn di_opened(self, number: u16) -> Registers
-        ensures { values result ≡ di_opened number (values self) }
-    {
-        Registers { di: number, ..self }
-    }
-
-    /// `CDB`
-    pub fn dbs_exchanged(self) -> Registers
-        ensures { values result ≡ dbs_exchanged (values self) }
-    {
-        Registers {
-            db: self.di,
-            di: self.db,
-            ..self
-        }
-    }
-
-    /// `L DBNO`
-    pub fn db_number_loaded(self) -> Registers
-        ensures { values result ≡ db_number_loaded (values self) }
-    {
-        self.loaded(u32::from(self.db))
-    }
-
-    /// `L DINO`
-    pub fn di_number_loaded(self) -> Registers
-        ensures { values result ≡ di_number_loaded (values self) }
-    {
-        self.loaded(u32::from(self.di))
-    }
-}
 
 /// What a bracket keeps that is opened at this status word.
 fn entry_of(check: Check, status: Status) -> Entry

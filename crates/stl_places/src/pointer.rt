@@ -6,8 +6,6 @@ ghost use Rattle.stl_statements.specs.Places.{place_at};
 ghost use Rattle.stl_statements.specs.Pointers.{closed, crossing_at, crossing_by, indirect_at, indirect_by, is_held, is_in_reach, memory_at, offset_at, offset_behind, offset_of, pointer_at, pointer_behind, pointer_to, pointer_with, register_at, register_named, value_of, width_named};
 ghost use Rattle.stl_statements.specs.Readers.{IsWithin, read_as};
 ghost use Rattle.stl_statements.specs.Words.{is_joined, is_word};
-ghost use Rattle.stl_tree.specs.Accepted.{may_hold_pointers};
-ghost use Rattle.stl_tree.specs.AddressRegisters.{code_of};
 ghost use Rattle.stl_tree.specs.declared.program.Ar.{Ar};
 ghost use Rattle.stl_tree.specs.declared.raw.RawOperand.{RawOperand};
 ghost use Rattle.stl_tree.specs.declared.raw.RawOperand.TheVariants as operand;
@@ -21,21 +19,7 @@ use memory_areas::AreaName;
 use s7_base::{Token, Width, rest_after};
 use stl_constants::{begins_glued, is_joined, is_sign, is_word};
 use stl_statements::Read;
-use stl_tree::{Ar, RawOperand, RawPlace, RawPointer};
-
-/// The code of an area in a pointer.
-fn code_of(area: AreaName) -> u8
-    ensures { result ≡ code_of area }
-{
-    match area {
-        AreaName::I => 0x81,
-        AreaName::Q => 0x82,
-        AreaName::M => 0x83,
-        AreaName::Db => 0x84,
-        AreaName::Di => 0x85,
-        AreaName::L => 0x86,
-    }
-}
+use stl_tree::{Ar, RawOperand, RawPlace, RawPointer, may_hold_pointers};
 
 /// Byte and bit are ones that a pointer has.
 fn is_in_reach(pointer: RawPointer) -> bool
@@ -88,7 +72,7 @@ fn pointer_to(place: RawPlace) -> Option<RawPointer>
 {
     match (place.block, place.width) {
         (None, Width::Bit) => Some(RawPointer {
-            code: code_of(place.area),
+            code: place.area.code(),
             byte: place.byte,
             bit: place.bit,
         }),
@@ -149,16 +133,6 @@ pub fn offset_at(tokens: &[Token]) -> Read<RawPointer>
             further(2, offset_behind(rest))
         }
         _ => Read::No,
-    }
-}
-
-/// The areas in which a pointer may stand.
-fn may_hold_pointers(area: AreaName) -> bool
-    ensures { result ≡ may_hold_pointers area }
-{
-    match area {
-        AreaName::I | AreaName::Q => false,
-        AreaName::M | AreaName::L | AreaName::Db | AreaName::Di => true,
     }
 }
 

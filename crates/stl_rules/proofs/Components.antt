@@ -13,8 +13,8 @@ use Rattle.stl_tree.specs.declared.raw.DeclType.{DeclType}
 use Rattle.stl_tree.specs.declared.raw.DeclType.TheOpen as T
 use Rattle.stl_tree.specs.declared.raw.PathStep.{PathStep}
 use Rattle.stl_tree.specs.declared.raw.PathStep.TheVariants as step
-use Rattle.stl_rules.specs.Extents.{elements_in, end_of, end_of_all, extent_of, filled, indices_in, place_behind}
-use Rattle.stl_rules.specs.Paths.{Placed, element_at, elements_before, found, is_index, named_behind, stepped, stepped_in, walked}
+use Rattle.stl_rules.specs.Extents.{elements_in, end_of, end_of_all, end_of_sections, extent_of, filled, indices_in, place_behind, section_behind}
+use Rattle.stl_rules.specs.Paths.{Placed, element_at, elements_before, found, is_index, named_behind, named_in, stepped, stepped_in, walked}
 use Rattle.stl_rules.specs.declared.laid.Extent.{Extent}
 use Rattle.stl_rules.proofs.Ends.{IsEven, bit, byte, word, all_end_behind, all_moved, behind, whole}
 use Rattle.stl_rules.proofs.Equations.{extent_array, extent_struct, step_array, step_date, step_elementary, step_struct}
@@ -189,3 +189,37 @@ found_inside decls (step.Name name ∷ path) = further (named_behind 0 decls nam
     further None l = tt
     further (Some at) l = walk_inside path (end_of_all 0 decls) at l
 found_inside decls (step.Index indices ∷ path) = tt
+
+-- Sections
+
+sections_end_behind : (end : ℕ) (sections : List (List Declaration)) → end ≤ end_of_sections end sections
+sections_end_behind end [] = omega arith
+sections_end_behind end (s ∷ sections) =
+    let up = behind end 16 in
+    let own = all_end_behind (section_behind end) s in
+    let more = sections_end_behind (end_of_all (section_behind end) s) sections in
+    omega (arith, up, own, more)
+
+named_in_inside : (sections : List (List Declaration)) (end : ℕ) (name : List ℕ) → Inside (end_of_sections end sections) (named_in end sections name)
+named_in_inside [] end name = tt
+named_in_inside (s ∷ sections) end name =
+    by (named_behind (section_behind end) s name)
+    (wider (end_of_all (section_behind end) s) (end_of_sections (end_of_all (section_behind end) s) sections) (named_behind (section_behind end) s name)
+    (sections_end_behind (end_of_all (section_behind end) s) sections) (named_inside s (section_behind end) name))
+    (named_in_inside sections (end_of_all (section_behind end) s) name)
+  where
+    by : (o : Option Placed) → Inside (end_of_sections (end_of_all (section_behind end) s) sections) o
+        → Inside (end_of_sections (end_of_all (section_behind end) s) sections) (named_in (end_of_all (section_behind end) s) sections name)
+        → Inside (end_of_sections (end_of_all (section_behind end) s) sections) (option_or o (named_in (end_of_all (section_behind end) s) sections name))
+    by None h more = more
+    by (Some at) h more = h
+
+-- what a path names lies inside the sections
+pub found_in_sections : (sections : List (List Declaration)) (path : List PathStep) → IfSome (found sections path) (LiesIn (end_of_sections 0 sections))
+found_in_sections sections [] = tt
+found_in_sections sections (step.Name name ∷ path) = further (named_in 0 sections name) (named_in_inside sections 0 name)
+  where
+    further : (o : Option Placed) → Inside (end_of_sections 0 sections) o → Inside (end_of_sections 0 sections) (option_and_then (walked path) o)
+    further None l = tt
+    further (Some at) l = walk_inside path (end_of_sections 0 sections) at l
+found_in_sections sections (step.Index indices ∷ path) = tt

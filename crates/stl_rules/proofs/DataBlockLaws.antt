@@ -1,13 +1,13 @@
 -- The data blocks of a program are ones that a memory may have.
 use Rattle.std.proofs.Common.{◌≡◌, ◌⊎◌, inl, inr, get_or, ℕ, suc, ◌+◌, ◌*◌, ◌^◌, ◌<◌, ◌≤◌, List, [], ◌∷◌, ◌++◌, length, take, drop, Bool, true, false, not, if◌then◌else◌, Option, Some, None, Result, Ok, Err, refl, sym, ap, subst, ◌∙◌, arith, length-append, length-drop}
-use Rattle.std.specs.Prelude.{All, IfSome, nat_lt, option_map, slice_get, ◌==◌, ◌||◌}
+use Rattle.std.specs.Prelude.{All, IfSome, nat_lt, option_map, slice_get, ◌==◌, ◌&&◌, ◌||◌}
 use Rattle.std.specs.List.{cons_option, filter_map, flat_map, fold}
 use Rattle.std.proofs.lemmas.Bool.{both_ways, eq-eqb, ltb-false, ltb-true, not-false}
 use Rattle.std.proofs.lemmas.List.{length-take-le}
 use Rattle.std.proofs.lemmas.List.Elements.{All-cons, All-head, All-nil, All-tail}
 use Rattle.std.proofs.lemmas.List.Folds.{list_any-append}
 use Rattle.std.proofs.lemmas.Option.{slice_get_cases}
-use Rattle.memory_areas.specs.Areas.{AreBlocks, Ascend, IsSized, byte_at, byte_with, bytes_of_dword, bytes_of_word, numbers_of, replaced}
+use Rattle.memory_areas.specs.Areas.{AreBlocks, Ascend, IsSized, byte_at, byte_with, bytes_of_dword, bytes_of_word, inserted, numbers_of, replaced}
 use Rattle.memory_areas.specs.declared.data_block.DataBlock.{DataBlock}
 use Rattle.memory_areas.specs.declared.sizes.TheConstants.{LEAST_BLOCK_BYTES, MOST_BLOCKS, MOST_BLOCK_BYTES}
 use Rattle.s7_base.specs.declared.reason.Line.{Line}
@@ -27,11 +27,11 @@ use Rattle.stl_tree.specs.declared.raw.RawDataKind.{RawDataKind}
 use Rattle.stl_tree.specs.declared.raw.RawDataKind.TheVariants as data_kind
 use Rattle.stl_tree.specs.declared.raw.RawInitial.{RawInitial}
 use Rattle.stl_tree.specs.declared.raw.SymbolLine.{SymbolLine}
-use Rattle.stl_rules.specs.DataBlocks.{bytes_with, data_numbered, data_of, data_with, in_order, inserted, or_two, with_constant, with_number, with_value, with_value_at}
+use Rattle.stl_rules.specs.DataBlocks.{bytes_with, data_numbered, data_of, data_with, in_order, or_two, with_constant, with_number, with_value, with_value_at}
 use Rattle.stl_rules.specs.DeclarationRules.{elementary}
 use Rattle.stl_rules.specs.Extents.{end_of_all, extent_of, extent_of_width, width_of}
 use Rattle.stl_rules.specs.Layouts.{breaks_in, initial_of}
-use Rattle.stl_rules.specs.Names.{block_number, may_have}
+use Rattle.stl_rules.specs.Names.{block_number, is_same_kind, may_have}
 use Rattle.stl_rules.specs.Paths.{Placed, component_at, found}
 use Rattle.stl_rules.specs.Raw.{are_refused, most_in_block}
 use Rattle.stl_rules.specs.Stages.{broken_if, content_breaks, dbs_behind, heading_breaks, initial_breaks, is_among, one_too_many, with_block_number}
@@ -82,10 +82,10 @@ module _ (decls : List Declaration) (s : Sized most_in_block small decls) where
   valued bytes c (Some at) l h = of_kind bytes c at (elementary at.1) refl l h
 
   all_valued : (values : List RawInitial) (bytes : List ℕ) → length bytes ≡ length_to (end_of_all 0 decls)
-      → length (fold (with_value decls) bytes values) ≡ length_to (end_of_all 0 decls)
+      → length (fold (with_value (decls ∷ [])) bytes values) ≡ length_to (end_of_all 0 decls)
   all_valued [] bytes h = h
   all_valued (v ∷ values) bytes h =
-      all_valued values (with_value decls bytes v)
+      all_valued values (with_value (decls ∷ []) bytes v)
       (valued bytes v.value (found (decls ∷ []) v.path) (found_inside decls v.path) h ∙ h)
 
   two_at_least : (bytes : List ℕ) → length bytes ≡ length_to (end_of_all 0 decls)
@@ -96,32 +96,40 @@ module _ (decls : List Declaration) (s : Sized most_in_block small decls) where
       let some : 1 ≤ length (b ∷ bytes) = omega arith in
       (omega (arith, h, some), omega (arith, low, h))
 
-  bytes_sized : (n : ℕ) (values : List RawInitial) → IsSized (record { number = n; bytes = bytes_with decls values })
+  bytes_sized : (n : ℕ) (values : List RawInitial) → IsSized (record { number = n; bytes = bytes_with (decls ∷ []) values })
   bytes_sized n values =
-      two_at_least (fold (with_value decls) (initial_of (decls ∷ [])) values) (all_valued values (initial_of (decls ∷ [])) s.is)
+      two_at_least (fold (with_value (decls ∷ [])) (initial_of (decls ∷ [])) values) (all_valued values (initial_of (decls ∷ [])) s.is)
 
 -- Headings
 
-not_broken : (b : Bool) (line : Line) (rule : Reason) → broken_if b line rule ≡ [] → b ≡ false
+pub not_broken : (b : Bool) (line : Line) (rule : Reason) → broken_if b line rule ≡ [] → b ≡ false
 not_broken true line rule e = absurd cc
 not_broken false line rule e = refl
 
--- a heading that breaks no rule has a number of its kind that none before it has
-pub numbers : (kind : BlockKind) (line : Line) (before : List ℕ) (n : ℕ) → heading_breaks kind line before (Ok n) ≡ []
-    → (may_have kind n ≡ true) × (is_among n before ≡ false)
+-- a heading that breaks no rule has a number of its kind that none of its kind has before
+pub numbers : (kind : BlockKind) (line : Line) (before : List (BlockKind × ℕ)) (n : ℕ) → heading_breaks kind line before (Ok n) ≡ []
+    → (may_have kind n ≡ true) × (is_among kind n before ≡ false)
 numbers kind line before n e =
-    let parts = no_parts (broken_if (not (may_have kind n)) line BadAddress) (broken_if (is_among n before) line DuplicateBlock) e in
-    (not-false (may_have kind n) (not_broken (not (may_have kind n)) line BadAddress parts.0), not_broken (is_among n before) line DuplicateBlock parts.1)
+    let parts = no_parts (broken_if (not (may_have kind n)) line BadAddress) (broken_if (is_among kind n before) line DuplicateBlock) e in
+    (not-false (may_have kind n) (not_broken (not (may_have kind n)) line BadAddress parts.0), not_broken (is_among kind n before) line DuplicateBlock parts.1)
 
-pub stays_among : (m : ℕ) (before : List ℕ) (r : Result ℕ Reason) → is_among m before ≡ true → is_among m (with_block_number before r) ≡ true
-stays_among m before (Err reason) h = h
-stays_among m before (Ok n) h = list_any-append (λ k. k == m) before (n ∷ []) ∙ ap (λ b. b || is_among m (n ∷ [])) h
+pub stays_among : (other : BlockKind) (m : ℕ) (kind : BlockKind) (before : List (BlockKind × ℕ)) (r : Result ℕ Reason)
+    → is_among other m before ≡ true → is_among other m (with_block_number kind before r) ≡ true
+stays_among other m kind before (Err reason) h = h
+stays_among other m kind before (Ok n) h =
+    list_any-append (λ (b : BlockKind × ℕ). is_same_kind other b.0 && b.1 == m) before ((kind, n) ∷ [])
+    ∙ ap (λ b. b || is_among other m ((kind, n) ∷ [])) h
 
-pub comes_among : (n : ℕ) (before : List ℕ) → is_among n (with_block_number before (Ok n)) ≡ true
-comes_among n before = list_any-append (λ k. k == n) before (n ∷ []) ∙ last (is_among n before) (n == n) (le_self n)
+pub comes_among : (kind : BlockKind) (n : ℕ) (before : List (BlockKind × ℕ)) → is_among kind n (with_block_number kind before (Ok n)) ≡ true
+comes_among kind n before =
+    list_any-append (λ (b : BlockKind × ℕ). is_same_kind kind b.0 && b.1 == n) before ((kind, n) ∷ [])
+    ∙ last (is_among kind n before) (is_same_kind kind kind && n == n) (itself kind)
   where
-    le_self : (k : ℕ) → (k == k) ≡ true
-    le_self k = eq-eqb k k refl
+    itself : (kind : BlockKind) → (is_same_kind kind kind && n == n) ≡ true
+    itself block.Ob = eq-eqb n n refl
+    itself block.Fc = eq-eqb n n refl
+    itself block.Fb = eq-eqb n n refl
+    itself block.Db = eq-eqb n n refl
 
     last : (a b : Bool) → b ≡ true → (a || (b || false)) ≡ true
     last true b h = refl
@@ -175,11 +183,11 @@ all_as_many (b ∷ rest) = as_many b (in_order rest) ∙ ap suc (all_as_many res
 
 -- Data blocks
 
--- what data blocks become that stand behind others with these numbers
-record AreKept (before : List ℕ) (blocks : List DataBlock) : Type 0 where
+-- what data blocks become that stand behind these
+record AreKept (before : List (BlockKind × ℕ)) (blocks : List DataBlock) : Type 0 where
   ascend : Ascend 1 (numbers_of (in_order blocks))
   sized : All IsSized blocks
-  others : (n : ℕ) → is_among n before ≡ true → Absent n blocks
+  others : (n : ℕ) → is_among block.Db n before ≡ true → Absent n blocks
 
 -- a data block has the number of its heading and a size that one may have
 abbrev IsMade : ℕ → DataBlock → Type 0
@@ -188,44 +196,44 @@ IsMade n b = (b.number ≡ n) × IsSized b
 made : (n : ℕ) (values : List RawInitial) (kind : RawDataKind) → content_breaks values kind ≡ [] → IfSome (data_with n values kind) (IsMade n)
 made n values (data_kind.Own decls) e =
     let parts = no_parts (breaks_in most_in_block (decls ∷ []))
-    (if are_refused most_in_block decls then [] else flat_map (initial_breaks decls) values) e in
+    (if are_refused most_in_block (decls ∷ []) then [] else flat_map (initial_breaks (decls ∷ [])) values) e in
     (refl, bytes_sized decls (sized most_in_block small decls parts.0) n values)
 made n values (data_kind.Instance name) e = tt
 
-with_one : (n : ℕ) (before : List ℕ) (o : Option DataBlock) (rest : List DataBlock) → 1 ≤ n → is_among n before ≡ false → IfSome o (IsMade n)
-    → AreKept (with_block_number before (Ok n)) rest → AreKept before (cons_option o rest)
+with_one : (n : ℕ) (before : List (BlockKind × ℕ)) (o : Option DataBlock) (rest : List DataBlock) → 1 ≤ n → is_among block.Db n before ≡ false → IfSome o (IsMade n)
+    → AreKept (with_block_number block.Db before (Ok n)) rest → AreKept before (cons_option o rest)
 with_one n before None rest low new is k =
-    record { ascend = k.ascend; sized = k.sized; others = λ m h. k.others m (stays_among m before (Ok n) h) }
+    record { ascend = k.ascend; sized = k.sized; others = λ m h. k.others m (stays_among block.Db m block.Db before (Ok n) h) }
 with_one n before (Some b) rest low new is k =
     record {
       ascend = ascends b (in_order rest) 1 (omega (arith, low, is.0)) (all_in_order (λ (x : DataBlock). x.number ≡ b.number → ⊥) rest apart) k.ascend;
       sized = All-cons IsSized b rest is.1 k.sized;
       others = λ m h.
           All-cons (λ (x : DataBlock). x.number ≡ m → ⊥) b rest
-          (λ e. absurd (both_ways (is_among n before) new (subst (λ i. is_among i before ≡ true) (sym e ∙ is.0) h)))
-          (k.others m (stays_among m before (Ok n) h));
+          (λ e. absurd (both_ways (is_among block.Db n before) new (subst (λ i. is_among block.Db i before ≡ true) (sym e ∙ is.0) h)))
+          (k.others m (stays_among block.Db m block.Db before (Ok n) h));
     }
   where
     apart : Absent b.number rest
-    apart = subst (λ i. Absent i rest) (sym is.0) (k.others n (comes_among n before))
+    apart = subst (λ i. Absent i rest) (sym is.0) (k.others n (comes_among block.Db n before))
 
-headed : (d : RawData) (before : List ℕ) (r : Result ℕ Reason) (rest : List DataBlock) → heading_breaks block.Db d.line before r ≡ []
-    → content_breaks d.initial d.kind ≡ [] → AreKept (with_block_number before r) rest
+headed : (d : RawData) (before : List (BlockKind × ℕ)) (r : Result ℕ Reason) (rest : List DataBlock) → heading_breaks block.Db d.line before r ≡ []
+    → content_breaks d.initial d.kind ≡ [] → AreKept (with_block_number block.Db before r) rest
     → AreKept before (cons_option (data_numbered d.initial d.kind r) rest)
 headed d before (Err reason) rest e f k = absurd cc
 headed d before (Ok n) rest e f k =
     let h = numbers block.Db d.line before n e in
     with_one n before (data_with n d.initial d.kind) rest (opened n h.0).0 h.1 (made n d.initial d.kind f) k
 
-kept : (symbols : List SymbolLine) (before : List ℕ) (dbs : List RawData) → dbs_behind symbols before dbs ≡ []
+kept : (symbols : List SymbolLine) (before : List (BlockKind × ℕ)) (dbs : List RawData) → dbs_behind symbols before dbs ≡ []
     → AreKept before (filter_map (data_of symbols) dbs)
 kept symbols before [] e = record { ascend = tt; sized = All-nil IsSized; others = λ n h. All-nil (λ (x : DataBlock). x.number ≡ n → ⊥) }
 kept symbols before (d ∷ dbs) e =
     let number = block_number symbols block.Db d.name in
     let all = no_parts (heading_breaks block.Db d.line before number ++ content_breaks d.initial d.kind)
-    (dbs_behind symbols (with_block_number before number) dbs) e in
+    (dbs_behind symbols (with_block_number block.Db before number) dbs) e in
     let own = no_parts (heading_breaks block.Db d.line before number) (content_breaks d.initial d.kind) all.0 in
-    headed d before number (filter_map (data_of symbols) dbs) own.0 own.1 (kept symbols (with_block_number before number) dbs all.1)
+    headed d before number (filter_map (data_of symbols) dbs) own.0 own.1 (kept symbols (with_block_number block.Db before number) dbs all.1)
 
 few_blocks : (dbs : List RawData) → one_too_many (slice_get dbs MOST_BLOCKS) ≡ [] → length dbs ≤ MOST_BLOCKS
 few_blocks dbs e = by (slice_get_cases dbs MOST_BLOCKS).1

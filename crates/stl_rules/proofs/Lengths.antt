@@ -20,13 +20,13 @@ use Rattle.stl_tree.specs.declared.raw.DeclType.TheOpen as T
 use Rattle.stl_tree.specs.declared.raw.DeclType.TheVariants as type
 use Rattle.stl_tree.specs.declared.raw.ElemType.{ElemType}
 use Rattle.stl_tree.specs.declared.raw.InitialItem.{InitialItem}
-use Rattle.stl_rules.specs.Contents.{bits_behind, filled_to, first_bytes, times, type_bits, value_bits, values_of, zeros}
+use Rattle.stl_rules.specs.Contents.{bits_behind, bits_of_sections, filled_to, first_bytes, times, type_bits, value_bits, values_of, zeros}
 use Rattle.stl_rules.specs.DeclarationRules.{all_fit, are_values, array_breaks, counted, declaration_breaks, elementary, elementary_step, is_named, key_of, repeated, scope_breaks, section_breaks, takes, takes_step, type_breaks, value_breaks, values_in, with_name}
-use Rattle.stl_rules.specs.Extents.{elements_in, end_of, end_of_all, extent_of, extent_of_width, filled, place_behind, width_of}
+use Rattle.stl_rules.specs.Extents.{elements_in, end_of, end_of_all, end_of_sections, extent_of, extent_of_width, filled, place_behind, section_behind, width_of}
 use Rattle.stl_rules.specs.Layouts.{breaks_in, initial_of, too_large}
 use Rattle.stl_rules.specs.TooLarge.{first_large, first_large_in, inside, length_to, passes}
 use Rattle.stl_rules.proofs.Ends.{behind, of_elementary}
-use Rattle.stl_rules.proofs.Equations.{bits_array, bits_date, bits_elementary, bits_struct, breaks_array, breaks_declaration, breaks_struct, extent_array, extent_date, extent_elementary, extent_struct, inside_array, inside_its_type, inside_struct, laid_cons, laid_nil, scope_cons, takes_array, takes_date, takes_elementary, takes_struct}
+use Rattle.stl_rules.proofs.Equations.{bits_array, bits_date, bits_elementary, bits_struct, breaks_array, breaks_declaration, breaks_struct, extent_array, extent_date, extent_elementary, extent_struct, inside_array, inside_its_type, inside_struct, laid_cons, laid_nil, scope_cons, scope_nil, takes_array, takes_date, takes_elementary, takes_struct}
 use Rattle.stl_rules.proofs.Lists.{no_parts}
 use Rattle.stl_rules.proofs.TypeInduction.{Each, TypeSteps, each_type, every_type}
 
@@ -316,4 +316,75 @@ module _ (limit : ℕ) (small : limit < 2 ^ 32) where
       record {
         is = length_first (next_multiple_of (length (bits_behind [] decls)) 16 / 8) (filled_to 16 (bits_behind [] decls)) ∙ ap length_to all;
         within = ends_low decls 0 (omega arith) large;
+      }
+
+  -- Sections
+
+  -- the names of a scope behind some declarations
+  abbrev names_behind : List (List ℕ) → List Declaration → List (List ℕ)
+  names_behind names [] = names
+  names_behind names (d ∷ decls) = names_behind (with_name (key_of d.name) names) decls
+
+  scope_parts : (names : List (List ℕ)) (a b : List Declaration) → scope_breaks names (a ++ b) ≡ []
+      → (scope_breaks names a ≡ []) × (scope_breaks (names_behind names a) b ≡ [])
+  scope_parts names [] b e = (scope_nil names, e)
+  scope_parts names (d ∷ a) b e =
+      let next = with_name (key_of d.name) names in
+      let here = repeated d.line (is_named (key_of d.name) names) ++ declaration_breaks d in
+      let parts = no_parts here (scope_breaks next (a ++ b)) (sym (scope_cons names d (a ++ b)) ∙ e) in
+      let more = scope_parts next a b parts.1 in
+      (scope_cons names d a ∙ ap (λ bs. bs ++ scope_breaks next a) parts.0 ∙ more.0, more.1)
+
+  neither : (a b : Option Line) → option_or a b ≡ None → (a ≡ None) × (b ≡ None)
+  neither None b e = (refl, e)
+  neither (Some line) b e = absurd cc
+
+  sections_laid : (sections : List (List Declaration)) (names : List (List ℕ)) (end : ℕ) (bits : List Bool)
+      → scope_breaks names (flat_map (λ section. section) sections) ≡ [] → first_large_in limit end sections ≡ None
+      → length (bits_of_sections bits sections) ≡ end_of_sections (length bits) sections
+  sections_laid [] names end bits e g = refl
+  sections_laid (s ∷ sections) names end bits e g =
+      let more = flat_map (λ section. section) sections in
+      let parts = scope_parts names s more (sym (ap (scope_breaks names) (flat_map-cons (λ section. section) s sections)) ∙ e) in
+      let large = neither (first_large limit (section_behind end) s) (first_large_in limit (end_of_all (section_behind end) s) sections) g in
+      let here : length (bits_behind (filled_to 16 bits) s) ≡ end_of_all (section_behind (length bits)) s
+      = laid s (each_type HasLength steps s) names (section_behind end) (filled_to 16 bits) parts.0 large.0
+      ∙ ap (λ n. end_of_all n s) (length_filled 16 bits) in
+      sections_laid sections (names_behind names s) (end_of_all (section_behind end) s) (bits_behind (filled_to 16 bits) s) parts.1 large.1
+      ∙ ap (λ n. end_of_sections n sections) here
+
+  section_low : (decls : List Declaration) (end : ℕ) → section_behind end ≤ limit * 8 → first_large limit end decls ≡ None
+      → section_behind (end_of_all end decls) ≤ limit * 8
+  section_low [] end low g = low
+  section_low (d ∷ decls) end low g =
+      let on = goes end d decls g in
+      let l = ltb-false limit (length_to (end_of end d)) on.here in
+      section_low decls (end_of end d) (omega (arith, l)) on.more
+
+  sections_low : (sections : List (List Declaration)) (end : ℕ) → section_behind end ≤ limit * 8 → first_large_in limit end sections ≡ None
+      → end_of_sections end sections ≤ limit * 8
+  sections_low [] end low g = omega (arith, low)
+  sections_low (s ∷ sections) end low g =
+      let large = neither (first_large limit (section_behind end) s) (first_large_in limit (end_of_all (section_behind end) s) sections) g in
+      let again : section_behind (section_behind end) ≤ limit * 8 = omega (arith, low) in
+      sections_low sections (end_of_all (section_behind end) s) (section_low s (section_behind end) again large.0) large.1
+
+  -- what sections that break no rule have in bytes: an even length within the limit
+  pub record AreSized (sections : List (List Declaration)) : Type 0 where
+    pub is : length (initial_of sections) ≡ length_to (end_of_sections 0 sections)
+    pub within : end_of_sections 0 sections ≤ limit * 8
+
+  none_large : (o : Option Line) → too_large o ≡ [] → o ≡ None
+  none_large None e = refl
+  none_large (Some line) e = absurd cc
+
+  pub are_sized : (sections : List (List Declaration)) → breaks_in limit sections ≡ [] → AreSized sections
+  are_sized sections e =
+      let parts = no_parts (section_breaks sections) (too_large (first_large_in limit 0 sections)) e in
+      let large = none_large (first_large_in limit 0 sections) parts.1 in
+      let bits = bits_of_sections [] sections in
+      record {
+        is = length_first (next_multiple_of (length bits) 16 / 8) (filled_to 16 bits)
+            ∙ ap length_to (sections_laid sections [] 0 [] parts.0 large);
+        within = sections_low sections 0 (omega arith) large;
       }

@@ -1,4 +1,5 @@
 pub mod AcceptedLaws
+pub mod CodeBlocks
 pub mod Components
 pub mod DataBlockLaws
 pub mod Ends

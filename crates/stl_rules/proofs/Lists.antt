@@ -24,11 +24,6 @@ pub all_made : {X Y : Type 0} (Q : X → Type 0) (P : Y → Type 0) (make : X �
 all_made Q P make made [] h = All-nil P
 all_made Q P make made (x ∷ xs) h = put P (make x) (filter_map make xs) (made x (All-head Q x xs h)) (all_made Q P make made xs (All-tail Q x xs h))
 
--- where nothing is asked of the items
-pub no_more : {X : Type 0} (xs : List X) → All (λ x. Unit {0}) xs
-no_more [] = All-nil (λ x. Unit {0})
-no_more (x ∷ xs) = All-cons (λ x. Unit {0}) x xs tt (no_more xs)
-
 pub few_made : {X Y : Type 0} (make : X → Option Y) (xs : List X) → length (filter_map make xs) ≤ length xs
 few_made make [] = omega arith
 few_made make (x ∷ xs) = with_one (make x) (filter_map make xs) (few_made make xs)

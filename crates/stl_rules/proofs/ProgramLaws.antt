@@ -5,7 +5,7 @@ use Rattle.std.proofs.lemmas.List.Elements.{All-head, All-tail}
 use Rattle.std.specs.Prelude.{All, IfOk, IfSome, nat_le, nat_lt, option_map}
 use Rattle.std.proofs.lemmas.Int.{ints}
 use Rattle.std.proofs.lemmas.Bool.{and_parts, le-leb, leb-true, ltb-true, not-true}
-use Rattle.memory_areas.specs.Access.{bytes_wide, is_byte_in, is_unaligned}
+use Rattle.memory_areas.specs.Access.{bits_wide, bytes_wide, is_byte_in, is_unaligned}
 use Rattle.memory_areas.specs.declared.place.AreaName.{AreaName}
 use Rattle.memory_areas.specs.declared.place.AreaName.TheVariants as area
 use Rattle.memory_areas.specs.declared.sizes.TheConstants.{INPUT_BYTES, LOCAL_BYTES, MARKER_BYTES, OUTPUT_BYTES}
@@ -20,8 +20,8 @@ use Rattle.s7_base.specs.declared.check.Check.TheVariants as check
 use Rattle.s7_base.specs.declared.word.Width.{Width}
 use Rattle.s7_base.specs.declared.word.Width.TheVariants as width
 use Rattle.status_word.specs.declared.test.Test.{Test}
-use Rattle.stl_tree.specs.Accepted.{HasOperand, IsBlockOpened, IsComparison, IsNumberWidth, IsOffset, IsOperand, MayHoldPointer, is_of_pointers, may_hold_pointers}
-use Rattle.stl_tree.specs.Accumulators.{bits_wide, signed_part}
+use Rattle.stl_tree.specs.Accepted.{HasOperand, IsBlockOpened, IsComparison, IsNumberHolder, IsNumberWidth, IsOffset, IsOperand, MayHoldPointer, is_of_pointers, may_hold_pointers}
+use Rattle.stl_tree.specs.Accumulators.{signed_part}
 use Rattle.stl_statements.specs.Constants.{constant, fits, value_in}
 use Rattle.stl_statements.specs.Pointers.{is_in_reach, offset_of, value_of}
 use Rattle.stl_statements.specs.Mnemonics.{mnemonic_named}
@@ -77,8 +77,8 @@ IsGiven behind.Unjudged = ⊥
 IsGiven (behind.At o w) = IsOperand w o
 IsGiven (behind.Db n) = IsBlockOpened n
 IsGiven (behind.Di n) = IsBlockOpened n
-IsGiven (behind.DbBy o) = MayHoldPointer width.Word o
-IsGiven (behind.DiBy o) = MayHoldPointer width.Word o
+IsGiven (behind.DbBy o) = IsNumberHolder o
+IsGiven (behind.DiBy o) = IsNumberHolder o
 IsGiven more = Unit {0}
 
 -- a number that a data block may have
@@ -94,7 +94,7 @@ in_block area.L w byte e = le-leb byte 65535 (omega (arith, leb-true (byte + byt
 in_block area.Db w byte e = e
 in_block area.Di w byte e = e
 
-lies_in : (place : RawPlace) → is_in_area place ≡ true → IsOperand place.width (Direct place.area place.byte place.bit)
+pub lies_in : (place : RawPlace) → is_in_area place ≡ true → IsOperand place.width (Direct place.area place.byte place.bit)
 lies_in place e =
     let p = and_parts (is_byte_in place.area place.width place.byte) (not (is_unaligned place.width place.bit)) e in
     (p.0, not-true (is_unaligned place.width place.bit) p.1)
@@ -134,7 +134,7 @@ pointer_is p = by (is_in_reach p)
     by true = tt
     by false = tt
 
-held_is : (make : Operand → Given) → ((o : Operand) → MayHoldPointer width.Word o → IsGiven (make o)) → (place : RawPlace) → IsGiven (given_held make place)
+held_is : (make : Operand → Given) → ((o : Operand) → IsNumberHolder o → IsGiven (make o)) → (place : RawPlace) → IsGiven (given_held make place)
 held_is make h place = by (may_stand width.Word place) refl
   where
     by : (b : Bool) → may_stand width.Word place ≡ b → IsGiven (if b then make (Direct place.area place.byte 0) else behind.NoNumber)
@@ -155,8 +155,8 @@ component_is number name None = tt
 component_is number name (Some at) = kind_is number name at at.kind
 
 path_is : (limit : ℕ) (number : Option ℕ) (name : AreaName) (decls : List Declaration) (path : List PathStep)
-    → are_refused limit decls ≡ false → IsGiven (given_path limit number name decls path)
-path_is limit number name decls path kept = by (are_refused limit decls) kept
+    → are_refused limit (decls ∷ []) ≡ false → IsGiven (given_path limit number name (decls ∷ []) path)
+path_is limit number name decls path kept = by (are_refused limit (decls ∷ [])) kept
   where
     by : (b : Bool) → b ≡ false → IsGiven (if b then behind.Unjudged else given_component number name (component_in (decls ∷ []) path))
     by true e = absurd cc
@@ -164,7 +164,7 @@ path_is limit number name decls path kept = by (are_refused limit decls) kept
 
 -- declarations of a data block that break no rule
 abbrev pub IsLaidOut : RawDataKind → Type 0
-IsLaidOut (data_kind.Own decls) = are_refused most_in_block decls ≡ false
+IsLaidOut (data_kind.Own decls) = are_refused most_in_block (decls ∷ []) ≡ false
 IsLaidOut (data_kind.Instance name) = Unit {0}
 
 in_kind_is : (n : ℕ) (path : List PathStep) (kind : RawDataKind) → IsLaidOut kind → IsGiven (given_in_kind n path kind)
@@ -189,7 +189,7 @@ open_is make h n = by (may_have block.Db n) refl
 
 -- where a block stands whose temporaries, and the data blocks of whose text, break no rule
 pub record IsClear (scope : Scope) : Type 0 where
-  pub temps : are_refused most_local scope.block.temps ≡ false
+  pub temps : are_refused most_local (scope.block.temps ∷ []) ≡ false
   pub dbs : All (λ (d : RawData). IsLaidOut d.kind) scope.text.dbs
 
 -- what is found has what all have

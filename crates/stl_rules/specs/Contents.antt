@@ -41,8 +41,7 @@ value_bits w (c ∷ more) = number_bits w (value_in w c)
 
 -- a list so many times
 abbrev pub times : {X : Type 0} → ℕ → List X → List X
-times zero xs = []
-times (suc n) xs = xs ++ times n xs
+times n xs = flat_map (λ ys. ys) (replicate n xs)
 
 -- the values of some items: those in brackets so many times
 abbrev pub values_of : List InitialItem → List Constant

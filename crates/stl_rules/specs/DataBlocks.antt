@@ -1,7 +1,7 @@
 -- The data blocks of a text: their bytes, and their order.
 use Rattle.std.specs.Prelude.{ℕ, ◌==◌, nat_lt, if◌then◌else◌, List, [], ◌∷◌, Option, Some, None, Result, Ok, Err}
 use Rattle.std.specs.List.{fold}
-use Rattle.memory_areas.specs.Areas.{bytes_of_dword, bytes_of_word, byte_at, byte_with, replaced}
+use Rattle.memory_areas.specs.Areas.{bytes_of_dword, bytes_of_word, byte_at, byte_with, inserted, replaced}
 use Rattle.memory_areas.specs.declared.data_block.DataBlock.{DataBlock}
 use Rattle.s7_base.specs.declared.reason.Reason.{Reason}
 use Rattle.s7_base.specs.declared.word.Width.{Width}
@@ -40,23 +40,23 @@ abbrev pub with_value_at : List ℕ → Constant → Option Component → List �
 with_value_at bytes c None = bytes
 with_value_at bytes c (Some at) = with_constant bytes at c at.kind
 
--- the bytes of declarations with one initial value
-abbrev pub with_value : List Declaration → List ℕ → RawInitial → List ℕ
-with_value decls bytes v = with_value_at bytes v.value (component_in (decls ∷ []) v.path)
+-- the bytes of sections with one initial value
+abbrev pub with_value : List (List Declaration) → List ℕ → RawInitial → List ℕ
+with_value sections bytes v = with_value_at bytes v.value (component_in sections v.path)
 
 -- a data block has two bytes at least
 abbrev pub or_two : List ℕ → List ℕ
 or_two [] = 0 ∷ 0 ∷ []
 or_two bytes = bytes
 
--- the bytes of a data block: those of its declarations, and its initial values one after another
-abbrev pub bytes_with : List Declaration → List RawInitial → List ℕ
-bytes_with decls values = or_two (fold (with_value decls) (initial_of (decls ∷ [])) values)
+-- the bytes of a data block: those of its sections, and its initial values one after another
+abbrev pub bytes_with : List (List Declaration) → List RawInitial → List ℕ
+bytes_with sections values = or_two (fold (with_value sections) (initial_of sections) values)
 
 -- Blocks
 
 abbrev pub data_with : ℕ → List RawInitial → RawDataKind → Option DataBlock
-data_with n values (data_kind.Own decls) = Some (record { number = n; bytes = bytes_with decls values })
+data_with n values (data_kind.Own decls) = Some (record { number = n; bytes = bytes_with (decls ∷ []) values })
 data_with n values (data_kind.Instance name) = None
 
 abbrev pub data_numbered : List RawInitial → RawDataKind → Result ℕ Reason → Option DataBlock
@@ -68,11 +68,6 @@ abbrev pub data_of : List SymbolLine → RawData → Option DataBlock
 data_of symbols d = data_numbered d.initial d.kind (block_number symbols block.Db d.name)
 
 -- Order
-
--- a data block among others, before those that have its number or a greater one
-abbrev pub inserted : DataBlock → List DataBlock → List DataBlock
-inserted b [] = b ∷ []
-inserted b (c ∷ rest) = if nat_lt c.number b.number then c ∷ inserted b rest else b ∷ c ∷ rest
 
 -- data blocks in the order of their numbers
 abbrev pub in_order : List DataBlock → List DataBlock

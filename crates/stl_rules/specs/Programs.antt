@@ -15,7 +15,8 @@ use Rattle.s7_base.specs.declared.reason.Reason.TheVariants.{BadAddress, BadOper
 use Rattle.s7_base.specs.declared.word.Width.{Width}
 use Rattle.s7_base.specs.declared.word.Width.TheVariants as width
 use Rattle.status_word.specs.declared.test.Test.{Test}
-use Rattle.stl_tree.specs.Accumulators.{bits_wide, signed_part}
+use Rattle.memory_areas.specs.Access.{bits_wide}
+use Rattle.stl_tree.specs.Accumulators.{signed_part}
 use Rattle.stl_tree.specs.Arithmetic.{is_comparison}
 use Rattle.stl_statements.specs.Constants.{constant, fits, value_in}
 use Rattle.stl_statements.specs.Mnemonics.{mnemonic_named}

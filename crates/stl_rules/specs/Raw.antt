@@ -100,14 +100,14 @@ abbrev pub given_component : Option ℕ → AreaName → Option Component → Gi
 given_component number name None = behind.Unknown
 given_component number name (Some at) = place_of_kind number name at at.kind
 
--- declarations that break a rule within a limit; a path into them is not judged
-abbrev pub are_refused : ℕ → List Declaration → Bool
-are_refused limit decls = is_some (first_of_all (breaks_in limit (decls ∷ [])))
+-- sections that break a rule within a limit; a path into them is not judged
+abbrev pub are_refused : ℕ → List (List Declaration) → Bool
+are_refused limit sections = is_some (first_of_all (breaks_in limit sections))
 
--- what a path names in declarations
-abbrev pub given_path : ℕ → Option ℕ → AreaName → List Declaration → List PathStep → Given
-given_path limit number name decls path =
-    if are_refused limit decls then behind.Unjudged else given_component number name (component_in (decls ∷ []) path)
+-- what a path names in sections
+abbrev pub given_path : ℕ → Option ℕ → AreaName → List (List Declaration) → List PathStep → Given
+given_path limit number name sections path =
+    if are_refused limit sections then behind.Unjudged else given_component number name (component_in sections path)
 
 -- the most bytes of a data block, and of local data
 abbrev pub most_in_block : ℕ
@@ -117,7 +117,7 @@ abbrev pub most_local : ℕ
 most_local = 256
 
 abbrev pub given_in_kind : ℕ → List PathStep → RawDataKind → Given
-given_in_kind n path (data_kind.Own decls) = given_path most_in_block (Some n) area.Db decls path
+given_in_kind n path (data_kind.Own decls) = given_path most_in_block (Some n) area.Db (decls ∷ []) path
 given_in_kind n path (data_kind.Instance name) = behind.Unfit
 
 abbrev pub given_in_data : ℕ → List PathStep → Option RawData → Given
@@ -143,7 +143,7 @@ given_in scope (layer.Named name) = given_symbol (symbol_named scope.text.symbol
 given_in scope (layer.InBlock name path) =
     given_number (λ n. given_in_data n path (db_numbered scope.text.symbols scope.text.dbs n))
     (block_number scope.text.symbols block.Db (raw_name.Name name))
-given_in scope (layer.Local path) = given_path most_local None area.L scope.block.temps path
+given_in scope (layer.Local path) = given_path most_local None area.L (scope.block.temps ∷ []) path
 given_in scope (layer.Flag test) = behind.Flag test
 given_in scope layer.Stw = behind.Stw
 given_in scope layer.DbNo = behind.DbNo

@@ -1,5 +1,5 @@
 -- The rules of a raw program, stage by stage: each of them gives all that breaks it.
-use Rattle.std.specs.Prelude.{ℕ, zero, suc, Bool, true, false, not, ◌==◌, nat_lt, if◌then◌else◌, List, [], ◌∷◌, ◌++◌, map, slice_get, Option, Some, None, Result, Ok, Err}
+use Rattle.std.specs.Prelude.{ℕ, zero, suc, Bool, true, false, not, ◌==◌, ◌&&◌, nat_lt, if◌then◌else◌, List, [], ◌∷◌, ◌++◌, map, slice_get, Option, Some, None, Result, Ok, Err}
 use Rattle.std.specs.List.{flat_map, list_any}
 use Rattle.memory_areas.specs.declared.sizes.TheConstants.{MOST_BLOCKS}
 use Rattle.nesting_stack.specs.Entries.{most_open}
@@ -8,7 +8,7 @@ use Rattle.s7_base.specs.declared.broken.Break.{Break}
 use Rattle.s7_base.specs.declared.reason.Line.{Line}
 use Rattle.s7_base.specs.declared.reason.Reason.{Reason}
 use Rattle.s7_base.specs.declared.reason.Reason.TheVariants.{BadAddress, BadOperand, BracketMissing, BracketOpen, DuplicateBlock, DuplicateName, NoBlocks, TooLarge, TooManyBrackets, UnknownName}
-use Rattle.stl_rules.specs.Names.{block_number, may_have}
+use Rattle.stl_rules.specs.Names.{block_number, is_same_kind, may_have}
 use Rattle.stl_rules.specs.Programs.{op_of}
 use Rattle.stl_rules.specs.Raw.{Scope, are_refused, most_in_block, most_local}
 use Rattle.stl_statements.specs.Mnemonics.{mnemonic_named}
@@ -56,21 +56,21 @@ symbols_behind before (line ∷ lines) =
     ++ broken_if (not (is_address line.address)) line.line BadAddress
     ++ symbols_behind (with_name (key_of line.name) before) lines
 
--- a number is one of some
-abbrev pub is_among : ℕ → List ℕ → Bool
-is_among n numbers = list_any (λ m. m == n) numbers
+-- one of some blocks has this kind and this number
+abbrev pub is_among : BlockKind → ℕ → List (BlockKind × ℕ) → Bool
+is_among kind n blocks = list_any (λ (b : BlockKind × ℕ). is_same_kind kind b.0 && b.1 == n) blocks
 
--- a heading: its name is declared for a block of its kind, its number is one of its kind, and no block of its kind
--- has it before
-abbrev pub heading_breaks : BlockKind → Line → List ℕ → Result ℕ Reason → List Break
+-- a heading: its name is declared for a block of its kind, its number is one of its kind, and no block before has the
+-- same kind and number
+abbrev pub heading_breaks : BlockKind → Line → List (BlockKind × ℕ) → Result ℕ Reason → List Break
 heading_breaks kind line before (Err reason) = broken line reason
 heading_breaks kind line before (Ok n) =
-    broken_if (not (may_have kind n)) line BadAddress ++ broken_if (is_among n before) line DuplicateBlock
+    broken_if (not (may_have kind n)) line BadAddress ++ broken_if (is_among kind n before) line DuplicateBlock
 
--- the numbers before, with one more
-abbrev pub with_block_number : List ℕ → Result ℕ Reason → List ℕ
-with_block_number before (Ok n) = before ++ n ∷ []
-with_block_number before (Err reason) = before
+-- the blocks before by kind and number, with one more
+abbrev pub with_block_number : BlockKind → List (BlockKind × ℕ) → Result ℕ Reason → List (BlockKind × ℕ)
+with_block_number kind before (Ok n) = before ++ (kind, n) ∷ []
+with_block_number kind before (Err reason) = before
 
 -- a constant is a value of a component, if that has an elementary type
 abbrev pub fits_kind : Constant → Option ElemType → Bool
@@ -82,23 +82,31 @@ abbrev pub value_breaks : Constant → Option Component → List Reason
 value_breaks c None = UnknownName ∷ []
 value_breaks c (Some at) = if fits_kind c at.kind then [] else BadOperand ∷ []
 
-abbrev pub initial_breaks : List Declaration → RawInitial → List Break
-initial_breaks decls v = map (λ reason. record { line = v.line; rule = reason }) (value_breaks v.value (component_in (decls ∷ []) v.path))
+-- what it breaks at a component, and in sections
+abbrev pub breaks_at : RawInitial → Option Component → List Break
+breaks_at v at = map (λ reason. record { line = v.line; rule = reason }) (value_breaks v.value at)
 
--- the declarations and the initial values of a data block; a path into declarations that break a rule breaks none
+abbrev pub initial_breaks : List (List Declaration) → RawInitial → List Break
+initial_breaks sections v = breaks_at v (component_in sections v.path)
+
+-- what sections and initial values of a data block break; a path into sections that break a rule breaks none
+abbrev pub valued_breaks : List (List Declaration) → List RawInitial → List Break
+valued_breaks sections values =
+    breaks_in most_in_block sections
+    ++ (if are_refused most_in_block sections then [] else flat_map (initial_breaks sections) values)
+
+-- what a data block breaks: the declarations of its own are one section
 abbrev pub content_breaks : List RawInitial → RawDataKind → List Break
-content_breaks values (data_kind.Own decls) =
-    breaks_in most_in_block (decls ∷ [])
-    ++ (if are_refused most_in_block decls then [] else flat_map (initial_breaks decls) values)
+content_breaks values (data_kind.Own decls) = valued_breaks (decls ∷ []) values
 content_breaks values (data_kind.Instance name) = []
 
--- data blocks, where others have these numbers before
-abbrev pub dbs_behind : List SymbolLine → List ℕ → List RawData → List Break
+-- data blocks, where these stand before
+abbrev pub dbs_behind : List SymbolLine → List (BlockKind × ℕ) → List RawData → List Break
 dbs_behind symbols before [] = []
 dbs_behind symbols before (d ∷ dbs) =
     let number = block_number symbols block.Db d.name in
     heading_breaks block.Db d.line before number ++ content_breaks d.initial d.kind
-    ++ dbs_behind symbols (with_block_number before number) dbs
+    ++ dbs_behind symbols (with_block_number block.Db before number) dbs
 
 -- a data block too many, whatever their numbers are
 abbrev pub one_too_many : Option RawData → List Break
@@ -114,14 +122,14 @@ broken_by line (Err rule) = broken line rule
 abbrev pub instr_breaks : Scope → RawInstr → List Break
 instr_breaks scope raw = broken_by raw.line (op_of scope raw.op)
 
--- blocks, where others have these numbers before: headings, temporaries and instructions
-abbrev pub blocks_behind : RawProgram → List ℕ → List RawBlock → List Break
+-- blocks, where these stand before: headings, temporaries and instructions
+abbrev pub blocks_behind : RawProgram → List (BlockKind × ℕ) → List RawBlock → List Break
 blocks_behind text before [] = []
 blocks_behind text before (raw ∷ raws) =
     let number = block_number text.symbols raw.kind raw.name in
     heading_breaks raw.kind raw.line before number ++ breaks_in most_local (raw.temps ∷ [])
     ++ flat_map (instr_breaks (record { text = text; block = raw })) raw.body
-    ++ blocks_behind text (with_block_number before number) raws
+    ++ blocks_behind text (with_block_number raw.kind before number) raws
 
 abbrev pub names : RawProgram → List Break
 names raw =

@@ -3,7 +3,7 @@ use Rattle.std.specs.Prelude.{◌≡◌, ℕ, ◌+◌, ◌-◌, ◌*◌, ◌^◌
 use Rattle.s7_base.specs.declared.token.Token.{Token}
 use Rattle.s7_base.specs.declared.word.Width.{Width}
 use Rattle.s7_base.specs.declared.word.Width.TheVariants as width
-use Rattle.stl_tree.specs.Accumulators.{bits_wide}
+use Rattle.memory_areas.specs.Access.{bits_wide}
 use Rattle.stl_statements.specs.Constants.{Prefixed, addend_prefixes, binary, constant, half, negative, plain, prefixes, text_of, with_byte}
 use Rattle.digit_texts.specs.Digits.{number_up_to}
 use Rattle.stl_statements.specs.Numbers.{bits_of, hex_number}

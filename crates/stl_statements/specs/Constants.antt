@@ -7,7 +7,8 @@ use Rattle.s7_base.specs.declared.reason.Kind.TheVariants as kind
 use Rattle.s7_base.specs.declared.token.Token.{Token}
 use Rattle.s7_base.specs.declared.word.Width.{Width}
 use Rattle.s7_base.specs.declared.word.Width.TheVariants as width
-use Rattle.stl_tree.specs.Accumulators.{bits_wide, signed_part}
+use Rattle.memory_areas.specs.Access.{bits_wide}
+use Rattle.stl_tree.specs.Accumulators.{signed_part}
 use Rattle.digit_texts.specs.Digits.{are_digits, digits_size}
 use Rattle.stl_statements.specs.Numbers.{bits_of, hex_number}
 use Rattle.stl_statements.specs.Readers.{fitting, number_in, or_else, read_as}

@@ -2,7 +2,7 @@
 -- `MW [MD 4]`, `M [AR1,P#0.6]` and `W [AR1,P#2.0]`. Blanks are free inside the brackets, and before them.
 use Rattle.std.specs.Prelude.{ℕ, ◌+◌, ◌*◌, ◌^◌, Bool, ◌==◌, ◌&&◌, nat_le, if◌then◌else◌, List, [], ◌∷◌, codes, Option, Some, None, is_none}
 use Rattle.std.specs.List.{find}
-use Rattle.memory_areas.specs.Access.{bytes_wide}
+use Rattle.memory_areas.specs.Access.{bytes_wide, code_of}
 use Rattle.memory_areas.specs.declared.place.AreaName.{AreaName}
 use Rattle.s7_base.specs.declared.token.Token.{Token}
 use Rattle.s7_base.specs.declared.word.Width.{Width}
@@ -15,7 +15,6 @@ use Rattle.stl_statements.specs.Words.{is_joined, is_sign, is_word}
 use Rattle.stl_statements.specs.declared.mnemonic.Read.{Read}
 use Rattle.stl_statements.specs.declared.mnemonic.Read.TheVariants.{Fits, No}
 use Rattle.stl_tree.specs.Accepted.{may_hold_pointers}
-use Rattle.stl_tree.specs.AddressRegisters.{code_of}
 use Rattle.stl_tree.specs.declared.program.Ar.{Ar}
 use Rattle.stl_tree.specs.declared.program.Ar.TheVariants as ar
 use Rattle.stl_tree.specs.declared.raw.RawOperand.{RawOperand}

@@ -5,7 +5,7 @@ use Rattle.s7_base.specs.declared.word.Width.TheVariants as width
 use Rattle.status_word.specs.StatusBits.{all_clear}
 use Rattle.status_word.specs.Flags.{word_of}
 use Rattle.status_word.specs.declared.test.Test.TheVariants as test
-use Rattle.stl_tree.specs.Accumulators.{decreased, increased}
+use Rattle.stl_tree.specs.Accumulators.{counted_down, counted_up, increased}
 use Rattle.stl_tree.specs.Arithmetic.{calculated, compared, negated}
 use Rattle.stl_tree.specs.Conversions.{converted}
 use Rattle.stl_tree.specs.Registers.{RegisterValues, start}
@@ -102,10 +102,10 @@ inverted_word = refl
 by_constant : Shows (after_logic_row logic.Aw (Some 0x00FF) (holding 0 0x12345678)) 0x12340078 0x80
 by_constant = (refl, refl)
 
-in_its_byte : increased width.Byte (pos 255) (holding 0 0x1201) ≡ holding 0 0x1200
+in_its_byte : counted_up 255 (holding 0 0x1201) ≡ holding 0 0x1200
 in_its_byte = refl
 
-below_zero : decreased width.Byte (pos 2) (holding 0 0x1201) ≡ holding 0 0x12FF
+below_zero : counted_down 2 (holding 0 0x1201) ≡ holding 0 0x12FF
 below_zero = refl
 
 minus_one : increased width.Word (negsuc 0) (holding 0 0x10000) ≡ holding 0 0x1FFFF

@@ -1,7 +1,7 @@
 -- Worked rows of address registers and indirect operands.
 use Rattle.std.proofs.Common.{◌≡◌, refl, ℕ, List, [], ◌∷◌, ◌++◌, Some, None}
 use Rattle.std.specs.Prelude.{replicate}
-use Rattle.memory_areas.specs.Access.{name_of_code}
+use Rattle.memory_areas.specs.Access.{code_of, name_of_code}
 use Rattle.memory_areas.specs.Areas.{Areas}
 use Rattle.memory_areas.specs.End.{End, Ended}
 use Rattle.memory_areas.specs.declared.place.AreaName.{AreaName}
@@ -9,7 +9,6 @@ use Rattle.memory_areas.specs.declared.place.AreaName.TheVariants as area
 use Rattle.s7_base.specs.declared.check.Check.TheVariants as check
 use Rattle.s7_base.specs.declared.outcome.Fault.TheVariants.{Alignment, AreaCode, AreaLength, DbMissing, DbNotOpen}
 use Rattle.s7_base.specs.declared.word.Width.TheVariants as width
-use Rattle.stl_tree.specs.AddressRegisters.{code_of}
 use Rattle.stl_tree.specs.StlRun.{stl_run}
 use Rattle.stl_tree.specs.declared.program.Ar.TheVariants.{One, Two}
 use Rattle.stl_tree.specs.declared.program.ArLoad.TheVariants as ar_load

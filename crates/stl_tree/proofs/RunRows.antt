@@ -116,7 +116,7 @@ first_exclusive = refl
 -- What follows an effect, in a program and from a state of any kind
 
 abbrev caller : Activation
-caller = record { block = 0; at = 3; db = 0; di = 0; formals = [] }
+caller = record { block = 0; at = 3; instance = 0; db = 0; di = 0; formals = [] }
 
 abbrev state : RegisterValues → Contents → List Activation → Now
 state r m activations = record { registers = r; brackets = []; memory = m; activations = activations }
@@ -128,12 +128,12 @@ jump_goes_to_its_target p now r m = refl
 -- a called block has local data of its own, and its caller goes on behind the call
 call_enters_its_block : (p : Program) (now : Now) (r : RegisterValues) (m : Contents) →
     after_effect p now (enter (record { block = 2; instance = 7; actuals = [] }) (state r m (caller ∷ [])))
-    ≡ running p (state (record r { di = 7 }) (cleared 1 m) (record { block = 2; at = 0; db = r.db; di = r.di; formals = [] } ∷ record caller { at = 4 } ∷ []))
+    ≡ running p (state (record r { di = 7 }) (cleared 1 m) (record { block = 2; at = 0; instance = 7; db = r.db; di = r.di; formals = [] } ∷ record caller { at = 4 } ∷ []))
 call_enters_its_block p now r m = refl
 
 -- its end puts the DB and the DI register back
 end_returns_to_the_caller : (p : Program) (now : Now) (r : RegisterValues) (m : Contents) →
-    after_effect p now (leave (state r m (record { block = 2; at = 5; db = 10; di = 11; formals = [] } ∷ caller ∷ [])))
+    after_effect p now (leave (state r m (record { block = 2; at = 5; instance = 7; db = 10; di = 11; formals = [] } ∷ caller ∷ [])))
     ≡ running p (state (record r { db = 10; di = 11 }) m (caller ∷ []))
 end_returns_to_the_caller p now r m = refl
 

@@ -1,12 +1,11 @@
 -- The rules that a program keeps where the verdict gives it.
 use Rattle.std.specs.Prelude.{◌≡◌, ◌≢◌, ℕ, ◌≤◌, ◌<◌, ◌^◌, Bool, true, false, Option, Some, List, [], ◌∷◌, All, None}
-use Rattle.memory_areas.specs.Access.{is_byte_in, is_unaligned}
+use Rattle.memory_areas.specs.Access.{bits_wide, is_byte_in, is_unaligned}
 use Rattle.memory_areas.specs.Areas.{AreBlocks}
 use Rattle.s7_base.specs.SignedNumbers.{is_over}
 use Rattle.s7_base.specs.declared.word.Width.{Width}
 use Rattle.s7_base.specs.declared.word.Width.TheVariants as width
 use Rattle.status_word.specs.declared.test.Test.{Test}
-use Rattle.stl_tree.specs.Accumulators.{bits_wide}
 use Rattle.stl_tree.specs.Arithmetic.{is_comparison}
 use Rattle.stl_tree.specs.Brackets.{AreNested}
 use Rattle.stl_tree.specs.Shifts.{most_steps}
@@ -76,14 +75,22 @@ IsOperand w (operand.ByMemory a pointer_area byte) =
 IsOperand w (operand.ByRegister a r offset) = IsOffset offset
 IsOperand w (operand.Crossing r offset) = IsOffset offset
 
--- an operand that may hold a pointer, or the number of a data block
+-- an operand that may hold a pointer
 abbrev pub MayHoldPointer : Width → Operand → Type 0
 MayHoldPointer w o = (is_of_pointers o ≡ true) × IsOperand w o
+
+-- the operands in which OPN finds the number of a data block: written ones, as `[MW 10]` is
+abbrev pub is_of_numbers : Operand → Bool
+is_of_numbers (operand.Direct a byte x) = may_hold_pointers a
+is_of_numbers elsewhere = false
+
+abbrev pub IsNumberHolder : Operand → Type 0
+IsNumberHolder o = (is_of_numbers o ≡ true) × IsOperand width.Word o
 
 -- OPN opens a data block by its number, or by that in a word
 abbrev pub IsOpenArg : OpenArg → Type 0
 IsOpenArg (open_arg.Number n) = IsBlockOpened n
-IsOpenArg (open_arg.At o) = MayHoldPointer width.Word o
+IsOpenArg (open_arg.At o) = IsNumberHolder o
 
 -- an address register is loaded with a pointer of 32 bits, wherever it stands; from the other one AR1 alone
 abbrev pub IsPointerLoad : Ar → ArLoad → Type 0
@@ -211,15 +218,17 @@ pub record IsAcceptedBlock (block : Block) : Type 0 where
   pub number : IsBlockNumber block.name
   pub formals : block.formals ≡ []
 
--- a symbol is a place of the inputs, the outputs or the bit memory
-abbrev pub IsSymbolArea : Area → Type 0
-IsSymbolArea area_of.I = Unit {0}
-IsSymbolArea area_of.Q = Unit {0}
-IsSymbolArea area_of.M = Unit {0}
-IsSymbolArea elsewhere = ⊥
+-- the bytes of a symbol lie in the inputs, the outputs or the bit memory
+abbrev pub AreSymbolBytes : Area → Width → ℕ → Type 0
+AreSymbolBytes area_of.I w byte = is_byte_in area.I w byte ≡ true
+AreSymbolBytes area_of.Q w byte = is_byte_in area.Q w byte ≡ true
+AreSymbolBytes area_of.M w byte = is_byte_in area.M w byte ≡ true
+AreSymbolBytes elsewhere w byte = ⊥
 
+-- a symbol is a place in one of these three, with a bit number that its width has
 abbrev pub IsSymbol : Symbol → Type 0
-IsSymbol symbol = IsSymbolArea symbol.place.area
+IsSymbol symbol =
+    AreSymbolBytes symbol.place.area symbol.width symbol.place.byte × (is_unaligned symbol.width symbol.place.bit ≡ false)
 
 -- a program keeps the rules: there is a block, each of its blocks keeps them, no two have one name; its data blocks
 -- are ones that a memory may have; its symbols are places. No data block is an instance, since none is read yet

@@ -1,7 +1,7 @@
 -- The accumulators and their parts, and the instructions that load, store and move them.
-use Rattle.std.specs.Prelude.{ℕ, ◌+◌, ◌*◌, ◌/◌, ◌%◌, ◌^◌, ◌==◌, ℤ, ◌+ℤ◌, ◌-ℤ◌, Result, Ok}
+use Rattle.std.specs.Prelude.{ℕ, ◌+◌, ◌-◌, ◌*◌, ◌/◌, ◌%◌, ◌^◌, ◌==◌, ℤ, ◌+ℤ◌, Result, Ok}
 use Rattle.std.specs.Int.{from_bool}
-use Rattle.memory_areas.specs.Access.{and_then, read_bit, read_byte, read_word, read_dword, write_bit, write_byte, write_word, write_dword}
+use Rattle.memory_areas.specs.Access.{and_then, bits_wide, read_bit, read_byte, read_word, read_dword, write_bit, write_byte, write_word, write_dword}
 use Rattle.memory_areas.specs.Areas.{Contents}
 use Rattle.memory_areas.specs.declared.place.Place.{Place}
 use Rattle.s7_base.specs.SignedNumbers.{number, pattern}
@@ -12,13 +12,6 @@ use Rattle.status_word.specs.Flags.{bits_of, from_word, word_of}
 use Rattle.stl_tree.specs.Registers.{RegisterValues}
 
 -- Parts
-
--- how many bits a width has
-abbrev pub bits_wide : Width → ℕ
-bits_wide width.Bit = 1
-bits_wide width.Byte = 8
-bits_wide width.Word = 16
-bits_wide width.Dword = 32
 
 -- the lowest bits of an accumulator, so many as a width has
 abbrev pub part : Width → ℕ → ℕ
@@ -80,10 +73,13 @@ accu_popped r = record r { accu1 = r.accu2 }
 
 -- Adding a constant
 
--- + n, + L#n and INC: a part of ACCU1 takes the sum of itself and a number, wrapped; no bit of the status word shows it
+-- + n and + L#n: a part of ACCU1 takes the sum of itself and a number, wrapped; no bit of the status word shows it
 abbrev pub increased : Width → ℤ → RegisterValues → RegisterValues
 increased w n r = record r { accu1 = with_number w r.accu1 (signed_part w r.accu1 +ℤ n) }
 
--- DEC
-abbrev pub decreased : Width → ℤ → RegisterValues → RegisterValues
-decreased w n r = record r { accu1 = with_number w r.accu1 (signed_part w r.accu1 -ℤ n) }
+-- INC and DEC: the lowest byte of ACCU1, from 0 to 255, plus or minus a number from 0 to 255, wrapped
+abbrev pub counted_up : ℕ → RegisterValues → RegisterValues
+counted_up n r = record r { accu1 = with_part width.Byte r.accu1 ((part width.Byte r.accu1 + n) % 256) }
+
+abbrev pub counted_down : ℕ → RegisterValues → RegisterValues
+counted_down n r = record r { accu1 = with_part width.Byte r.accu1 ((part width.Byte r.accu1 + 256 - n % 256) % 256) }

@@ -1,22 +1,11 @@
 -- The address registers, and the instructions that load, store and move them.
 use Rattle.std.specs.Prelude.{ℕ, ℤ, pos, Option, Some, None}
 use Rattle.memory_areas.specs.Pointers.{moved}
-use Rattle.memory_areas.specs.declared.place.AreaName.{AreaName}
-use Rattle.memory_areas.specs.declared.place.AreaName.TheVariants as area
 use Rattle.s7_base.specs.declared.word.Width.TheVariants as width
 use Rattle.stl_tree.specs.Accumulators.{loaded, signed_part}
 use Rattle.stl_tree.specs.Registers.{RegisterValues}
 use Rattle.stl_tree.specs.declared.program.Ar.{Ar}
 use Rattle.stl_tree.specs.declared.program.Ar.TheVariants as ar
-
--- the area code of a pointer into an area; memory_areas has the area of a code (name_of_code)
-abbrev pub code_of : AreaName → ℕ
-code_of area.I = 129
-code_of area.Q = 130
-code_of area.M = 131
-code_of area.Db = 132
-code_of area.Di = 133
-code_of area.L = 134
 
 -- what an address register holds
 abbrev pub pointer_in : Ar → RegisterValues → ℕ

@@ -7,7 +7,8 @@ use Rattle.s7_base.specs.declared.word.Width.TheVariants as width
 use Rattle.status_word.specs.Results.{after_compared, after_signed, after_zero_divisor}
 use Rattle.status_word.specs.declared.test.Test.{Test}
 use Rattle.status_word.specs.declared.test.Test.TheVariants as test
-use Rattle.stl_tree.specs.Accumulators.{bits_wide, signed_part, with_number}
+use Rattle.memory_areas.specs.Access.{bits_wide}
+use Rattle.stl_tree.specs.Accumulators.{signed_part, with_number}
 use Rattle.stl_tree.specs.Registers.{RegisterValues}
 use Rattle.stl_tree.specs.declared.accumulator.Arith.{Arith}
 use Rattle.stl_tree.specs.declared.accumulator.Arith.TheVariants as row

@@ -1,12 +1,14 @@
 -- What works on ACCU1 alone: numbers in decimal digits, the sign, inverted bits, bytes in reverse order.
-use Rattle.std.specs.Prelude.{ℕ, ◌+◌, ◌-◌, ◌*◌, ◌/◌, ◌%◌, ◌^◌, ℤ, true, false, Option, Some, None, Result, Ok, Err}
+use Rattle.std.specs.Prelude.{ℕ, ◌-◌, ◌^◌, ℤ, true, false, reverse, Option, Some, None, Result, Ok, Err}
 use Rattle.bcd_words.specs.Bcd.{bcd_of, bcd_value}
+use Rattle.memory_areas.specs.Areas.{bytes_of_dword, bytes_of_word, dword_at, word_at}
 use Rattle.s7_base.specs.SignedNumbers.{pattern}
 use Rattle.s7_base.specs.declared.outcome.Fault.{Fault}
 use Rattle.s7_base.specs.declared.word.Width.{Width}
 use Rattle.s7_base.specs.declared.word.Width.TheVariants as width
 use Rattle.status_word.specs.Results.{after_converted}
-use Rattle.stl_tree.specs.Accumulators.{bits_wide, part, signed_part, with_number, with_part}
+use Rattle.memory_areas.specs.Access.{bits_wide}
+use Rattle.stl_tree.specs.Accumulators.{part, signed_part, with_number, with_part}
 use Rattle.stl_tree.specs.Arithmetic.{negated}
 use Rattle.stl_tree.specs.Registers.{RegisterValues}
 use Rattle.stl_tree.specs.declared.accumulator.UnaryRow.{UnaryRow}
@@ -43,13 +45,11 @@ inverted w r = replaced w (2 ^ bits_wide w - 1 - part w r.accu1) r
 
 -- CAW: the two bytes of the low word, the other way round
 abbrev pub word_reversed : RegisterValues → RegisterValues
-word_reversed r = replaced width.Word (r.accu1 % 2 ^ 8 * 2 ^ 8 + r.accu1 / 2 ^ 8 % 2 ^ 8) r
+word_reversed r = replaced width.Word (word_at (reverse (bytes_of_word (part width.Word r.accu1))) 0) r
 
 -- CAD: the four bytes, the other way round
 abbrev pub dword_reversed : RegisterValues → RegisterValues
-dword_reversed r =
-    replaced width.Dword
-    (r.accu1 % 2 ^ 8 * 2 ^ 24 + r.accu1 / 2 ^ 8 % 2 ^ 8 * 2 ^ 16 + r.accu1 / 2 ^ 16 % 2 ^ 8 * 2 ^ 8 + r.accu1 / 2 ^ 24 % 2 ^ 8) r
+dword_reversed r = replaced width.Dword (dword_at (reverse (bytes_of_dword (part width.Dword r.accu1))) 0) r
 
 -- the registers after each row, or its fault
 abbrev pub converted : UnaryRow → RegisterValues → Result RegisterValues Fault

@@ -1,10 +1,10 @@
 -- The instruction table: what each instruction does to the state that it finds.
-use Rattle.std.specs.Prelude.{ℕ, pos, Bool, true, false, not, ◌&&◌, ◌||◌}
+use Rattle.std.specs.Prelude.{ℕ, Bool, true, false, if◌then◌else◌}
 use Rattle.memory_areas.specs.Access.{read_bit, write_bit}
 use Rattle.status_word.specs.StatusBits.{StatusBits, after_check, after_clear, after_edge, after_end, after_not, after_or, after_save, after_set, after_store}
 use Rattle.s7_base.specs.declared.word.Width.{Width}
 use Rattle.s7_base.specs.declared.word.Width.TheVariants as width
-use Rattle.stl_tree.specs.Accumulators.{accu_popped, accu_pushed, accus_exchanged, decreased, increased, loaded, part, read_number, status_loaded, status_stored, write_number}
+use Rattle.stl_tree.specs.Accumulators.{accu_popped, accu_pushed, accus_exchanged, counted_down, counted_up, increased, loaded, part, read_number, status_loaded, status_stored, write_number}
 use Rattle.stl_tree.specs.AddressRegisters.{accu1_pointed, other_loaded, other_stored, pointer_in, pointer_loaded, pointer_moved, pointers_exchanged, with_pointer}
 use Rattle.stl_tree.specs.Arithmetic.{calculated, compared}
 use Rattle.stl_tree.specs.Brackets.{closed, opened}
@@ -33,11 +33,12 @@ use Rattle.stl_tree.specs.declared.program.Operand.{Operand}
 abbrev pub on_status : (StatusBits → StatusBits) → Now → Effect
 on_status row now = next (with_status row now)
 
--- S and R: the bit of an operand is read in every case, and what is to stand there by it and the RLO is written
-abbrev pub stored : (Bool → Bool → Bool) → Operand → Now → Effect
-stored stands o now =
-    with_place o now (λ p after. with_value (read_bit p after.memory) (λ b. let then = stands b after.registers.status.rlo in
-    with_memory (write_bit p then after.memory) after (on_status (after_store then))))
+-- S and R: where the RLO is 1 the bit of an operand takes a value, else it stays; it is read in every case
+abbrev pub stored : Bool → Operand → Now → Effect
+stored value o now =
+    with_place o now (λ p after. with_value (read_bit p after.memory) (λ b.
+    let bit = if after.registers.status.rlo then value else b in
+    with_memory (write_bit p bit after.memory) after (on_status (after_store bit))))
 
 -- FP and FN: the bit of an operand, which keeps the RLO of the last time, is read, and takes the RLO
 abbrev pub at_edge : Bool → Operand → Now → Effect
@@ -99,8 +100,8 @@ effect_of op.Close now = next (closed now)
 effect_of (op.Assign o) now =
     with_place o now (λ p after. with_memory (write_bit p after.registers.status.rlo after.memory) after
     (λ done. next (with_status (after_store done.registers.status.rlo) done)))
-effect_of (op.Set o) now = stored (λ b rlo. b || rlo) o now
-effect_of (op.Reset o) now = stored (λ b rlo. b && not rlo) o now
+effect_of (op.Set o) now = stored true o now
+effect_of (op.Reset o) now = stored false o now
 effect_of op.SetRlo now = on_status after_set now
 effect_of op.ClearRlo now = on_status after_clear now
 effect_of op.NotRlo now = on_status after_not now
@@ -116,8 +117,8 @@ effect_of op.LoadDiNo now = on_registers di_number_loaded now
 effect_of (op.Arith a) now = on_registers (calculated a) now
 effect_of (op.AddWord n) now = on_registers (increased width.Word n) now
 effect_of (op.AddDword n) now = on_registers (increased width.Dword n) now
-effect_of (op.Inc n) now = on_registers (increased width.Byte (pos n)) now
-effect_of (op.Dec n) now = on_registers (decreased width.Byte (pos n)) now
+effect_of (op.Inc n) now = on_registers (counted_up n) now
+effect_of (op.Dec n) now = on_registers (counted_down n) now
 effect_of (op.Compare t w) now = on_registers (compared t w) now
 effect_of (op.Shift s count) now = on_registers (after_shift s count) now
 effect_of op.Rlda now = on_registers around_left_through_cc1 now

@@ -1,5 +1,5 @@
 -- What an instruction works on, and what it does.
-use Rattle.std.specs.Prelude.{ℕ, List, [], ◌∷◌, length, Result, Ok, Err}
+use Rattle.std.specs.Prelude.{ℕ, List, [], ◌∷◌, length, Option, Result, Ok, Err}
 use Rattle.memory_areas.specs.Areas.{Contents}
 use Rattle.memory_areas.specs.declared.place.Place.{Place}
 use Rattle.status_word.specs.StatusBits.{StatusBits}
@@ -9,14 +9,16 @@ use Rattle.stl_tree.specs.Registers.{RegisterValues}
 use Rattle.stl_tree.specs.declared.program.BlockCall.{BlockCall}
 
 -- a block that runs or waits for one that it called: its position in the program; that of the instruction
--- to come in its body; the numbers that the DB and the DI register take again when it ends; and the place
--- that each of its formals stands for
+-- to come in its body; the number of the data block that is its instance, 0 where it has none; the numbers
+-- that the DB and the DI register take again when it ends; and the place that each of its formals stands
+-- for, none where the call left it out
 pub record Activation : Type 0 where
   pub block : ℕ
   pub at : ℕ
+  pub instance : ℕ
   pub db : ℕ
   pub di : ℕ
-  pub formals : List Place
+  pub formals : List (Option Place)
 
 -- what an instruction works on: the registers; the open brackets, the last one first, at most seven; the
 -- memory, with the local data and the constant actuals of each activation; and the activations, the

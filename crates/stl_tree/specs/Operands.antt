@@ -34,7 +34,7 @@ aimed_by p now = pointed p now.registers.db now.registers.di (depth now.activati
 
 -- the place that an access is aimed at, if its code has an area
 abbrev pub found_at : Aim → Now → Result Found Fault
-found_at aim now = and_then (place_aimed aim.area aim.byte aim.bit) (λ p. Ok (record { place = p; after = now }))
+found_at aim now = and_then (place_aimed aim) (λ p. Ok (record { place = p; after = now }))
 
 -- what an operand names, or the first fault on the way to its place. A written place has none; one with the number
 -- of its data block, as `DB5.DBX 0.0`, is found with that number in the DB register. `M [MD 4]` is found by an access

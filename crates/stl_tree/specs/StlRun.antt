@@ -1,7 +1,8 @@
 -- What a program does when one of its blocks is called: its instructions one after another, within a
 -- bound on their number.
-use Rattle.std.specs.Prelude.{ℕ, zero, suc, ◌+◌, ◌^◌, ◌<◌, max, Bool, false, ◌==◌, if◌then◌else◌, List, [], ◌∷◌, length, map, slice_get, IsSome, Option, Some, None, option_and_then}
+use Rattle.std.specs.Prelude.{ℕ, zero, suc, ◌+◌, ◌^◌, ◌<◌, Bool, false, ◌==◌, if◌then◌else◌, List, [], ◌∷◌, length, map, slice_get, IsSome, Option, Some, None, option_and_then}
 use Rattle.std.specs.List.{position}
+use Rattle.s7_base.specs.Numbers.{greatest}
 use Rattle.s7_base.specs.declared.outcome.Fault.{Fault}
 use Rattle.memory_areas.specs.Areas.{Areas, Contents, cleared, with_areas}
 use Rattle.memory_areas.specs.End.{End, Ended, Going}
@@ -53,11 +54,6 @@ HasNoInstance (name.Ob n) = n < 2 ^ 16
 HasNoInstance (name.Fc n) = n < 2 ^ 16
 HasNoInstance (name.Fb n) = ⊥
 
--- the greatest of some numbers
-abbrev pub greatest : List ℕ → ℕ
-greatest [] = 0
-greatest (n ∷ ns) = max n (greatest ns)
-
 -- the largest number of instructions of a block, its end word counted
 abbrev pub size_of : Program → ℕ
 size_of program = greatest (map (λ (b : Block). length b.body) program.blocks)
@@ -83,21 +79,28 @@ going_on (a ∷ waiting) = record a { at = a.at + 1 } ∷ waiting
 abbrev pub instance_or : ℕ → ℕ → ℕ
 instance_or instance di = if instance == 0 then di else instance
 
--- the state where a called block begins: its local data and constant actuals are zero, the DB and the DI
--- register are put back when it ends, and its caller goes on behind the call. Actuals are found and
--- copied here, once calls with formals are built
-abbrev pub entered : BlockCall → Now → Now
-entered call now =
-    record now {
+-- where a run stands when a block is called: it begins, its local data and constant actuals zero; the DB and
+-- the DI register are put back when it ends, and its caller goes on behind the call. Once calls with formals
+-- are built, their actuals are found here, and copied into an instance; the fault of one of them ends the run
+abbrev pub entered : Program → BlockCall → Now → Standing
+entered program call now =
+    running program (record now {
       registers = record now.registers { di = instance_or call.instance now.registers.di };
       memory = cleared (length now.activations) now.memory;
       activations =
-          record { block = call.block; at = 0; db = now.registers.db; di = now.registers.di; formals = [] }
+          record {
+            block = call.block;
+            at = 0;
+            instance = call.instance;
+            db = now.registers.db;
+            di = now.registers.di;
+            formals = [];
+          }
           ∷ going_on now.activations;
-    }
+    })
 
 -- where a run stands when the first of these activations has ended: with the one that waited for it, the DB
--- and the DI register put back; or the run is over
+-- and the DI register put back; or the run is over. What an instance gives back is copied here likewise
 abbrev pub returned : Program → List Activation → Now → Standing
 returned program [] now = over now.memory None
 returned program (done ∷ []) now = over now.memory None
@@ -111,7 +114,7 @@ returned program (done ∷ caller ∷ waiting) now =
 abbrev pub after_effect : Program → Now → Effect → Standing
 after_effect program now (next n) = running program (record n { activations = going_on n.activations })
 after_effect program now (go to n) = running program (record n { activations = going_on_at to n.activations })
-after_effect program now (enter call n) = running program (entered call n)
+after_effect program now (enter call n) = entered program call n
 after_effect program now (leave n) = returned program n.activations n
 after_effect program now (fault f) = over now.memory (Some f)
 
@@ -144,7 +147,7 @@ end_of (over memory f) = Ended memory.areas f
 -- the activation with which a run begins, that of the block at a position; none where no block is called
 abbrev pub first_activation : Option ℕ → List Activation
 first_activation None = []
-first_activation (Some block) = record { block = block; at = 0; db = 0; di = 0; formals = [] } ∷ []
+first_activation (Some block) = record { block = block; at = 0; instance = 0; db = 0; di = 0; formals = [] } ∷ []
 
 -- where the run of a call begins; registers, local data and constant actuals are zero, no bracket is open
 abbrev pub begun : Program → Call → Areas → Standing

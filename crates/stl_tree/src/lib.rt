@@ -10,12 +10,12 @@ pub use accumulator::{Arith, LogicRow, ShiftRow, UnaryRow};
 pub use memory_areas::{BlockName, Call};
 pub use program::{
     Actual, Ar, ArLoad, ArStore, BitArg, Block, BlockCall, Formal, Instance, Instr, LoadArg, Mode,
-    Op, OpenArg, Operand, Program, Symbol,
+    Op, OpenArg, Operand, Program, Symbol, may_hold_pointers,
 };
 pub use raw::{
-    BlockKind, Constant, DeclType, Declaration, ElemType, InitialItem, PathStep, RawActual,
-    RawBlock, RawCall, RawData, RawDataKind, RawInitial, RawInstr, RawName, RawOp, RawOperand,
-    RawPlace, RawPointer, RawProgram, SymbolAddress, SymbolLine,
+    BlockKind, Constant, DeclType, Declaration, Declarations, ElemType, InitialItem, PathStep,
+    RawActual, RawBlock, RawCall, RawData, RawDataKind, RawInitial, RawInstr, RawName, RawOp,
+    RawOperand, RawPlace, RawPointer, RawProgram, SymbolAddress, SymbolLine,
 };
 pub use run_laws::{end_stays, steps_add};
 

@@ -1,4 +1,7 @@
 //! The program that a source text stands for.
+ghost use Rattle.std.specs.Prelude.{◌≡◌};
+ghost use Rattle.stl_tree.specs.Accepted.{may_hold_pointers};
+ghost use Rattle.stl_tree.specs.AddressRegisters.{other_of};
 
 use crate::accumulator::{Arith, LogicRow, ShiftRow, UnaryRow};
 use memory_areas::{AreaName, BlockName, DataBlock, Place};
@@ -10,6 +13,28 @@ use status_word::Test;
 pub enum Ar {
     One,
     Two,
+}
+
+impl Ar {
+    /// The other one.
+    pub fn other(self) -> Ar
+        ensures { result ≡ other_of self }
+    {
+        match self {
+            Ar::One => Ar::Two,
+            Ar::Two => Ar::One,
+        }
+    }
+}
+
+/// Whether a pointer may stand in an area: the inputs and the outputs hold none.
+pub fn may_hold_pointers(area: AreaName) -> bool
+    ensures { result ≡ may_hold_pointers area }
+{
+    match area {
+        AreaName::I | AreaName::Q => false,
+        AreaName::M | AreaName::L | AreaName::Db | AreaName::Di => true,
+    }
 }
 
 /// Where an instruction finds its operand. Offsets have the bit in their lowest three bits, and the byte above.

@@ -59,6 +59,13 @@ pub struct Declaration {
     pub initial: List<InitialItem>,
 }
 
+/// Declarations that are laid out together, by sections, each of which begins at an even byte: one section for a
+/// data block of its own or for the local data of a block, and one for each kind of variable of an instance.
+#[derive(Drop)]
+pub struct Declarations {
+    pub sections: List<List<Declaration>>,
+}
+
 /// A step of a path: a component, or the indices of an element.
 #[derive(Drop)]
 pub enum PathStep {
@@ -74,7 +81,7 @@ pub enum RawName {
 }
 
 /// The four kinds of blocks.
-#[derive(Clone, Copy, Debug, PartialEq, Eq)]
+#[derive(Clone, Copy, Debug, PartialEq, Eq, Hash)]
 pub enum BlockKind {
     Ob,
     Fc,

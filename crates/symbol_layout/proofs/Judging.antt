@@ -1,7 +1,7 @@
 -- Broken rules noted one after another.
-use Rattle.std.specs.Prelude.{◌≡◌, ℕ, ◌+◌, ◌<◌, ℤ, List, [], ◌∷◌, ◌++◌, length, get_or, drop, Result, Ok, Err, OnOk}
-use Rattle.std.proofs.Common.{sym, ap, ◌∙◌, append_assoc}
-use Rattle.std.proofs.lemmas.List.{append-nil, at_drop_more}
+use Rattle.std.specs.Prelude.{◌≡◌, ℕ, ◌+◌, ◌<◌, ℤ, List, [], ◌∷◌, ◌++◌, length, get_or, drop, take, Result, Ok, Err, OnOk}
+use Rattle.std.proofs.Common.{refl, sym, ap, ◌∙◌, append_assoc}
+use Rattle.std.proofs.lemmas.List.{append-nil, at_drop_more, take_more}
 use Rattle.s7_base.specs.declared.broken.Break.{Break}
 use Rattle.s7_base.specs.declared.reason.Line.{Line}
 use Rattle.stl_tree.specs.declared.raw.Declaration.{Declaration}
@@ -9,6 +9,7 @@ use Rattle.stl_tree.specs.declared.raw.DeclType.{DeclType}
 use Rattle.stl_tree.specs.declared.raw.DeclType.TheVariants as type
 use Rattle.stl_rules.proofs.Equations.{breaks_array, breaks_declaration, breaks_struct, scope_cons, scope_nil}
 use Rattle.stl_rules.specs.DeclarationRules.{array_breaks, declaration_breaks, is_named, key_of, repeated, scope_breaks, takes, type_breaks, value_breaks, with_name}
+use Rattle.symbol_layout.specs.inner.Scopes.{names_behind}
 
 -- what holds where a call answers Ok
 pub on_ok : {X E P Q : Type 0} (r : Result X E) → (P → Q) → OnOk r P → OnOk r Q
@@ -57,6 +58,18 @@ noted_next all before named after names next decls i d h item n m a so_far =
     ∙ append_assoc before (twice ++ declaration_breaks d) rest
     ∙ ap (λ bs. before ++ bs) (sym opened)
     ∙ so_far
+
+names_more : (names : List (List ℕ)) (decls : List Declaration) (d : Declaration)
+    → names_behind names (decls ++ d ∷ []) ≡ with_name (key_of d.name) (names_behind names decls)
+names_more names [] d = refl
+names_more names (x ∷ decls) d = names_more (with_name (key_of x.name) names) decls d
+
+pub names_next : (names next first : List (List ℕ)) (decls : List Declaration) (i : ℕ) (d : Declaration) → i < length decls → d ≡ get_or decls i d
+    → names ≡ names_behind first (take i decls) → next ≡ with_name (key_of d.name) names → next ≡ names_behind first (take (i + 1) decls)
+names_next names next first decls i d before item so_far n =
+    n ∙ ap (with_name (key_of d.name)) so_far
+    ∙ sym (names_more first (take i decls) d)
+    ∙ ap (names_behind first) (ap (λ (y : Declaration). take i decls ++ y ∷ []) item ∙ sym (take_more decls i d before))
 
 pub noted_all : (all before : List Break) (names : List (List ℕ)) (left : List Declaration) → left ≡ []
     → before ++ scope_breaks names left ≡ all → before ≡ all

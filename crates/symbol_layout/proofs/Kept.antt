@@ -41,14 +41,14 @@ is_aligned ty =
 
 -- Along declarations
 
-capped_twice : (n : ℕ) → capped (capped n) ≡ capped n
+pub capped_twice : (n : ℕ) → capped (capped n) ≡ capped n
 capped_twice n = omega arith
 
 place_kept : (n : ℕ) (ty : DeclType) → capped (place_behind (capped n) (extent_of ty)) ≡ capped (place_behind n (extent_of ty))
 place_kept n ty =
     ap capped (sym (capped_place n (extent_of ty).alignment (is_aligned ty))) ∙ capped_twice (place_behind n (extent_of ty))
 
-end_kept : (n : ℕ) (ty : DeclType) → capped (end_behind (capped n) (extent_of ty)) ≡ capped (end_behind n (extent_of ty))
+pub end_kept : (n : ℕ) (ty : DeclType) → capped (end_behind (capped n) (extent_of ty)) ≡ capped (end_behind n (extent_of ty))
 end_kept n ty =
     sym (capped_end (capped n) (extent_of ty) (is_aligned ty))
     ∙ ap (λ k. capped (end_behind k (capped_extent (extent_of ty)))) (capped_twice n)

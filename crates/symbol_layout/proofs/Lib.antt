@@ -6,5 +6,6 @@ pub mod Laying
 pub mod Limits
 pub mod NameTables
 pub mod Places
+pub mod Sections
+pub mod Structs
 pub mod Turns
-mod LayoutRows

@@ -1,21 +1,20 @@
 -- Lengths that are kept, held against a limit.
-use Rattle.std.specs.Prelude.{◌≡◌, ℕ, ◌+◌, ◌/◌, ◌^◌, ◌≤◌, ◌<◌, Bool, true, false, cond, if◌then◌else◌, List, [], ◌∷◌, ◌++◌, length, get_or, drop, Option, Some, None, ◌⊎◌}
+use Rattle.std.specs.Prelude.{◌≡◌, ℕ, ◌+◌, ◌/◌, ◌^◌, ◌≤◌, ◌<◌, Bool, true, false, cond, if◌then◌else◌, List, [], ◌∷◌, length, get_or, drop, Option, Some, None, ◌⊎◌}
 use Rattle.std.specs.Int.{next_multiple_of}
 use Rattle.std.specs.Option.{option_or}
 use Rattle.std.proofs.Common.{refl, sym, ap, ◌∙◌, arith, subst}
 use Rattle.std.proofs.Math.Logic.{inl, inr}
 use Rattle.std.proofs.Math.Nat.{le_of_lt, min-eq_left, min-eq_right}
 use Rattle.std.proofs.lemmas.Bool.{cases_lt}
-use Rattle.std.proofs.lemmas.List.{append-nil, at_drop_more}
+use Rattle.std.proofs.lemmas.List.{at_drop_more}
 use Rattle.s7_base.specs.declared.reason.Line.{Line}
 use Rattle.stl_tree.specs.declared.raw.Declaration.{Declaration}
 use Rattle.symbol_layout.proofs.Capped.{capped_end}
 use Rattle.stl_rules.proofs.Equations.{inside_its_type}
 use Rattle.symbol_layout.proofs.Places.{at_least}
-use Rattle.stl_rules.specs.Extents.{IsLeast, end_behind, end_of, end_of_all, extent_of, place_behind}
-use Rattle.stl_rules.specs.Layouts.{breaks_in, length_of, too_large}
-use Rattle.stl_rules.specs.DeclarationRules.{scope_breaks}
-use Rattle.stl_rules.specs.TooLarge.{first_large, first_large_in, inside, length_to, passes}
+use Rattle.stl_rules.specs.Extents.{IsLeast, end_behind, end_of, end_of_sections, extent_of, place_behind}
+use Rattle.stl_rules.specs.Layouts.{length_of}
+use Rattle.stl_rules.specs.TooLarge.{first_large, inside, length_to, passes}
 use Rattle.symbol_layout.specs.Kept.{IsAlignment, capped, capped_extent}
 use Rattle.symbol_layout.specs.inner.Capped.{end_within}
 
@@ -97,18 +96,9 @@ none_left limit start end i decls nothing so_far = sym (ap (first_large limit en
 
 -- Lengths
 
-pub first_of_one : (limit : ℕ) (decls : List Declaration) → breaks_in limit (decls ∷ []) ≡ scope_breaks [] decls ++ too_large (first_large limit 0 decls)
-first_of_one limit decls =
-    ap (λ ds. scope_breaks [] ds ++ too_large (first_large_in limit 0 (decls ∷ []))) (append-nil decls)
-    ∙ ap (λ line. scope_breaks [] decls ++ too_large line) (or_none (first_large limit 0 decls))
-  where
-    or_none : (o : Option Line) → option_or o None ≡ o
-    or_none None = refl
-    or_none (Some x) = refl
-
-pub capped_length : (decls : List Declaration) → next_multiple_of (capped (end_of_all 0 decls)) 16 / 8 < 2 ^ 32
-    → next_multiple_of (capped (end_of_all 0 decls)) 16 / 8 ≡ length_of (decls ∷ [])
-capped_length decls low = exact (end_of_all 0 decls) (cases_lt (end_of_all 0 decls) (2 ^ 60)) low
+pub capped_length : (sections : List (List Declaration)) → next_multiple_of (capped (end_of_sections 0 sections)) 16 / 8 < 2 ^ 32
+    → next_multiple_of (capped (end_of_sections 0 sections)) 16 / 8 ≡ length_of sections
+capped_length sections low = exact (end_of_sections 0 sections) (cases_lt (end_of_sections 0 sections) (2 ^ 60)) low
   where
     exact : (n : ℕ) → (n < 2 ^ 60) ⊎ (2 ^ 60 ≤ n) → next_multiple_of (capped n) 16 / 8 < 2 ^ 32
         → next_multiple_of (capped n) 16 / 8 ≡ length_to n

@@ -1,6 +1,5 @@
 -- One turn of the loops over declarations, indices and paths, and the component that is found.
 use Rattle.std.specs.Prelude.{◌≡◌, ℕ, ◌+◌, ◌*◌, ◌/◌, ◌%◌, ◌^◌, ◌<◌, ◌≤◌, min, ◌-◌, ℤ, ◌-ℤ◌, unsigned_abs, Bool, true, false, cond, List, [], ◌∷◌, length, get_or, drop, Option, Some, None, option_and_then, option_map, if◌then◌else◌}
-use Rattle.std.specs.Option.{option_or}
 use Rattle.std.proofs.Common.{refl, sym, ap, ◌∙◌, arith}
 use Rattle.std.proofs.lemmas.List.{at_drop_more}
 use Rattle.s7_base.specs.Tokens.{is_same_word}
@@ -10,7 +9,7 @@ use Rattle.stl_tree.specs.declared.raw.PathStep.{PathStep}
 use Rattle.stl_tree.specs.declared.raw.PathStep.TheVariants as step
 use Rattle.symbol_layout.proofs.Kept.{kept_elements, kept_named, kept_walked}
 use Rattle.stl_rules.specs.Extents.{end_behind, end_of, extent_of, indices_in, place_behind}
-use Rattle.stl_rules.specs.Paths.{Placed, component_at, component_in, elements_before, is_index, named_behind, stepped, walked}
+use Rattle.stl_rules.specs.Paths.{Placed, component_at, component_in, elements_before, is_index, named_behind, named_in, stepped, walked}
 use Rattle.stl_rules.specs.DeclarationRules.{elementary}
 use Rattle.stl_rules.specs.declared.laid.Component.{Component}
 use Rattle.symbol_layout.specs.Kept.{capped, capped_placed}
@@ -115,17 +114,11 @@ path_opened : (path : List PathStep) (s : PathStep) → 1 ≤ length path → s 
 path_opened [] s some item = absurd (omega (arith, some))
 path_opened (x ∷ path) s some item = ap (λ y. y ∷ path) (sym item)
 
-pub component_found : (decls : List Declaration) (path : List PathStep) (s : PathStep) (name : List ℕ) → 1 ≤ length path
-    → s ≡ get_or path 0 s → s ≡ step.Name name → (start : Placed) → Some start ≡ capped_placed (named_behind 0 decls name)
+pub component_found : (sections : List (List Declaration)) (path : List PathStep) (s : PathStep) (name : List ℕ) → 1 ≤ length path
+    → s ≡ get_or path 0 s → s ≡ step.Name name → (start : Placed) → Some start ≡ capped_placed (named_in 0 sections name)
     → (at : Option Placed) → at ≡ capped_placed (walked (drop 1 path) start)
-    → option_map component_at at ≡ component_in (decls ∷ []) path
-component_found decls path s name some item is start named at walks =
-    component_kept at (option_and_then (walked (drop 1 path)) (named_behind 0 decls name))
-    (walks ∙ walks_on (drop 1 path) (named_behind 0 decls name) start named)
-    ∙ ap (λ (o : Option Placed). option_map component_at (option_and_then (walked (drop 1 path)) o))
-    (sym (or_none (named_behind 0 decls name)))
-    ∙ ap (component_in (decls ∷ [])) (sym (path_opened path s some item ∙ ap (λ x. x ∷ drop 1 path) is))
-  where
-    or_none : (o : Option Placed) → option_or o None ≡ o
-    or_none None = refl
-    or_none (Some x) = refl
+    → option_map component_at at ≡ component_in sections path
+component_found sections path s name some item is start named at walks =
+    component_kept at (option_and_then (walked (drop 1 path)) (named_in 0 sections name))
+    (walks ∙ walks_on (drop 1 path) (named_in 0 sections name) start named)
+    ∙ ap (component_in sections) (sym (path_opened path s some item ∙ ap (λ x. x ∷ drop 1 path) is))

@@ -1,8 +1,11 @@
--- Lengths and places as code keeps them: what is more bits than any limit has is kept as so many.
-use Rattle.std.specs.Prelude.{◌≡◌, ℕ, ◌^◌, ◌%◌, ◌≤◌, min, Option, option_map}
+-- Lengths and places as code keeps them: what is more bits than any limit has is kept as so many. Sections as it
+-- borrows them.
+use Rattle.std.specs.Prelude.{◌≡◌, ℕ, ◌^◌, ◌%◌, ◌≤◌, min, List, map, Option, option_map}
+use Rattle.std.specs.Borrow.{Bor}
 use Rattle.stl_rules.specs.Paths.{Placed}
 use Rattle.symbol_layout.specs.declared.place.Placed.{Placed as CodePlaced}
 use Rattle.stl_rules.specs.declared.laid.Extent.{Extent}
+use Rattle.stl_tree.specs.declared.raw.Declaration.{Declaration}
 
 -- a number of bits as it is kept
 abbrev pub capped : ℕ → ℕ
@@ -22,3 +25,7 @@ capped_placed found = option_map (λ (at : Placed). (capped at.0, at.1)) found
 -- a type at its place, as code has it
 abbrev pub seen : CodePlaced → Placed
 seen at = (at.place, at.ty.now)
+
+-- sections that are borrowed one by one
+abbrev pub borrowed : List (Bor (List Declaration)) → List (List Declaration)
+borrowed sections = map (λ section. section.now) sections

@@ -1,7 +1,8 @@
 //! The initial contents of declarations, bit by bit.
 ghost use Rattle.std.specs.Prelude.{◌≡◌, [], ◌++◌, ◌-◌, OnOk, IfOk};
-ghost use Rattle.stl_rules.specs.Contents.{bits_behind, filled_to, times, type_bits, values_of};
+ghost use Rattle.stl_rules.specs.Contents.{bits_behind, bits_of_sections, filled_to, times, type_bits, values_of};
 ghost use Rattle.stl_rules.specs.Extents.{elements_in};
+ghost use Rattle.symbol_layout.specs.Kept.{borrowed};
 
 use crate::bits::{fill, put_times, value_bits, zeros};
 use crate::extent::{MOST_BITS, elements_in, extent_of, width_of};
@@ -63,25 +64,37 @@ fn type_bits(alloc: Global, ty: &DeclType, values: &[Constant]) -> Result<Vec<bo
             Ok(bits)
         }
         DeclType::Struct(parts) => {
-            let mut bits = bits_of(alloc, parts.as_slice())?;
+            let mut bits = Vec::new(alloc);
+            put_bits(alloc, &mut bits, parts.as_slice())?;
             fill(&mut bits, 16)?;
             Ok(bits)
         }
     }
 }
 
-/// The contents of declarations one after another.
+/// Puts the contents of declarations one after another behind what is there.
 #[cycle(contents)]
 #[tactic(auto, using(stl_rules::proofs::Equations::laid_equations))]
-pub fn bits_of(alloc: Global, decls: &[Declaration]) -> Result<Vec<bool>, NoMemory>
-    ensures { IfOk result (λ bits. bits.items ≡ bits_behind [] decls.now) }
+fn put_bits(alloc: Global, bits: &mut Vec<bool>, decls: &[Declaration]) -> Result<(), NoMemory>
+    ensures { OnOk result (bits.new.items ≡ bits_behind bits.old.items decls.now) }
 {
-    let mut bits = Vec::new(alloc);
     for d in decls {
-        fill(&mut bits, extent_of(&d.ty).alignment)?;
+        fill(bits, extent_of(&d.ty).alignment)?;
         let values = values_of(alloc, d.initial.as_slice())?;
         let own = type_bits(alloc, &d.ty, values.as_slice())?;
         bits.extend_from_slice(own.as_slice())?;
+    }
+    Ok(())
+}
+
+/// The contents of sections one after another.
+pub fn bits_of_sections(alloc: Global, sections: &[&[Declaration]]) -> Result<Vec<bool>, NoMemory>
+    ensures { IfOk result (λ bits. bits.items ≡ bits_of_sections [] (borrowed sections.now)) }
+{
+    let mut bits = Vec::new(alloc);
+    for section in sections {
+        fill(&mut bits, 16)?;
+        put_bits(alloc, &mut bits, section)?;
     }
     Ok(bits)
 }

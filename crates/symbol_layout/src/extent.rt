@@ -1,7 +1,8 @@
 //! What types take, in bits.
 ghost use Rattle.std.specs.Prelude.{◌≡◌, ◌+◌, ◌*◌, ◌≤◌, ◌^◌};
-ghost use Rattle.stl_rules.specs.Extents.{elements_in, end_behind, end_of_all, extent_of, extent_of_width, filled, indices_in, place_behind, width_of};
-ghost use Rattle.symbol_layout.specs.Kept.{IsAlignment, capped, capped_extent};
+ghost use Rattle.stl_rules.specs.Extents.{elements_in, end_behind, end_of_all, end_of_sections, extent_of, extent_of_width, filled, indices_in, place_behind, section_behind, width_of};
+ghost use Rattle.symbol_layout.specs.Kept.{IsAlignment, borrowed, capped, capped_extent};
+ghost use Rattle.symbol_layout.specs.Structs.{AreBits, struct_in};
 
 use s7_base::Width;
 use stl_rules::Extent;
@@ -118,11 +119,10 @@ pub fn end_behind(end: u64, extent: Extent) -> u64
     sum(place_behind(end, extent), extent.bits)
 }
 
-/// What a type takes.
-#[cycle(extent)]
-#[tactic(auto, using(crate::proofs::Capped::extent_lemmas))]
-pub fn extent_of(ty: &DeclType) -> Extent
-    ensures same { result ≡ capped_extent (extent_of ty.now) }
+/// What a type takes, where the STRUCT inside takes so many bits.
+#[tactic(auto, using(crate::proofs::Structs::extent_lemmas, crate::proofs::Structs::array_bits))]
+pub fn extent_by(ty: &DeclType, bits: u64) -> Extent
+    ensures same { AreBits bits (struct_in ty.now) → result ≡ capped_extent (extent_of ty.now) }
     ensures alignment { IsAlignment result.alignment }
 {
     match ty {
@@ -133,21 +133,68 @@ pub fn extent_of(ty: &DeclType) -> Extent
         },
         DeclType::Array(bounds, element) => {
             let count = elements_in(bounds.as_slice());
-            filled(product(count, extent_of(element.get()).bits))
+            filled(product(count, extent_by(element.get(), bits).bits))
         }
-        DeclType::Struct(parts) => filled(end_of_all(parts.as_slice())),
+        DeclType::Struct(_) => Extent {
+            alignment: 16,
+            bits,
+        },
     }
 }
 
-/// Where declarations end, one after another.
+/// What the STRUCT inside a type takes, in bits; any number where none is inside.
+#[cycle(extent)]
+#[tactic(auto, using(crate::proofs::Structs::inner_equations))]
+fn struct_bits(ty: &DeclType) -> u64
+    ensures { AreBits result (struct_in ty.now) }
+{
+    match ty {
+        DeclType::Elementary(_) => 0,
+        DeclType::DateAndTime => 0,
+        DeclType::Array(_, element) => struct_bits(element.get()),
+        DeclType::Struct(parts) => filled(end_of_all(0, parts.as_slice())).bits,
+    }
+}
+
+/// Where declarations end, one after another, behind what ends here.
 #[cycle(extent)]
 #[tactic(auto, using(crate::proofs::Capped::capped_end))]
-pub fn end_of_all(decls: &[Declaration]) -> u64
-    ensures { result ≡ capped (end_of_all 0 decls.now) }
+pub fn end_of_all(start: u64, decls: &[Declaration]) -> u64
+    requires { start ≤ 2 ^ 60 }
+    ensures { result ≡ capped (end_of_all start decls.now) }
+{
+    let mut end = start;
+    for d in decls {
+        end = end_behind(end, extent_by(&d.ty, struct_bits(&d.ty)));
+    }
+    end
+}
+
+/// What a type takes.
+pub fn extent_of(ty: &DeclType) -> Extent
+    ensures same { result ≡ capped_extent (extent_of ty.now) }
+    ensures alignment { IsAlignment result.alignment }
+{
+    extent_by(ty, struct_bits(ty))
+}
+
+/// Where a section begins behind what ends here.
+#[tactic(auto, using(crate::proofs::Capped::place_low))]
+pub fn section_behind(end: u64) -> u64
+    requires { end ≤ 2 ^ 60 }
+    ensures same { result ≡ section_behind end }
+    ensures few { result ≤ 2 ^ 60 }
+{
+    end.next_multiple_of(16)
+}
+
+/// Where sections end, one after another.
+pub fn end_of_sections(sections: &[&[Declaration]]) -> u64
+    ensures { result ≡ capped (end_of_sections 0 (borrowed sections.now)) }
 {
     let mut end = 0;
-    for d in decls {
-        end = end_behind(end, extent_of(&d.ty));
+    for section in sections {
+        end = end_of_all(section_behind(end), section);
     }
     end
 }

@@ -1,27 +1,14 @@
 //! Initial values: which ones a type may have.
 ghost use Rattle.std.specs.Prelude.{◌≡◌};
 ghost use Rattle.std.specs.List.{list_all};
-ghost use Rattle.stl_statements.specs.Constants.{fits};
 ghost use Rattle.stl_rules.specs.DeclarationRules.{all_fit, are_values, elementary, fits_width, is_bit, is_plain_byte, takes, values_in};
 ghost use Rattle.symbol_layout.specs.Kept.{capped};
 ghost use Rattle.symbol_layout.specs.inner.Capped.{capped_takes};
 
 use crate::extent::{elements_in, product, sum, width_of};
 use s7_base::Width;
+use stl_statements::fits;
 use stl_tree::{Constant, DeclType, ElemType, InitialItem};
-
-fn fits(width: Width, constant: Constant) -> bool
-    ensures { result ≡ fits width constant }
-{
-    match (width, constant.width) {
-        (Width::Byte, Width::Byte) | (Width::Word, Width::Word) | (Width::Dword, Width::Dword) => {
-            true
-        }
-        (Width::Word | Width::Dword, Width::Byte) => constant.binary,
-        (Width::Dword, Width::Word) => constant.binary || constant.signed,
-        _ => false,
-    }
-}
 
 fn is_plain_byte(width: Width, constant: Constant) -> bool
     ensures { result ≡ is_plain_byte width constant }

@@ -10,6 +10,7 @@ mod extent;
 mod initial;
 mod laying_out;
 mod layout_laws;
+mod lengths;
 mod names;
 mod path;
 mod place;
@@ -18,11 +19,13 @@ mod too_large;
 
 pub use bits::value_in;
 pub use extent::{
-    elements_in, end_behind, extent_of_width, filled, place_behind, product, sum, width_of,
+    elements_in, end_behind, end_of_all, extent_by, extent_of_width, filled, place_behind, product,
+    section_behind, sum, width_of,
 };
 pub use initial::fits_width;
-pub use laying_out::{first_break, layout};
+pub use laying_out::{first_break, layout, layout_of};
 pub use layout_laws::components_stand_at_the_least;
+pub use lengths::{MOST_IN_BLOCK, MOST_LOCAL};
 pub use path::{component, component_at, elements_before};
 pub use place::Placed;
 pub use stl_rules::{Component, Layout};

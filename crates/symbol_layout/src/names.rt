@@ -25,13 +25,20 @@ impl Model for Names {
 }
 
 impl Names {
-    /// No names, with room for so many.
-    pub fn with_capacity(alloc: Global, count: usize) -> Result<Names, NoMemory>
-        ensures { IfOk result (λ names. names ≡ []) }
+    /// No names.
+    pub fn new(alloc: Global) -> Names
+        ensures { result ≡ [] }
     {
-        Ok(Names {
-            keys: IndexSet::with_capacity(alloc, count)?,
-        })
+        Names {
+            keys: IndexSet::new(alloc),
+        }
+    }
+
+    /// Room for so many more names.
+    pub fn reserve(&mut self, count: usize) -> Result<(), NoMemory>
+        ensures { OnOk result (self.new ≡ self.old) }
+    {
+        Ok(self.keys.reserve(count)?)
     }
 
     /// Puts a name to those of the scope, and says whether it was new.

@@ -1,17 +1,19 @@
 //! Where the component that a path names lies.
-ghost use Rattle.std.specs.Prelude.{◌≡◌, [], ◌∷◌, ◌≤◌, ◌^◌};
+ghost use Rattle.std.specs.Prelude.{◌≡◌, ◌≤◌, ◌^◌};
 ghost use Rattle.std.specs.Option.{option_map};
 ghost use Rattle.s7_base.specs.Tokens.{is_same_word};
-ghost use Rattle.stl_rules.specs.Paths.{component_at, component_in, element_at, elements_before, is_index, named_behind, stepped, walked};
+ghost use Rattle.stl_rules.specs.Paths.{component_at, component_in, element_at, elements_before, is_index, named_behind, named_in, stepped, walked};
 ghost use Rattle.symbol_layout.specs.Kept.{capped, capped_placed, seen};
 ghost use Rattle.symbol_layout.specs.inner.Capped.{next_row, row_behind};
 
-use crate::extent::{end_behind, extent_of, indices_in, place_behind, product, sum};
+use crate::extent::{
+    end_behind, end_of_all, extent_of, indices_in, place_behind, product, section_behind, sum,
+};
 use crate::initial::elementary;
 use crate::place::Placed;
-use s7_base::rest_after;
+use s7_base::{List, rest_after};
 use stl_rules::Component;
-use stl_tree::{DeclType, Declaration, PathStep};
+use stl_tree::{DeclType, Declaration, Declarations, PathStep};
 
 /// The last bit of the byte 4,294,967,295.
 const LAST_BIT: u64 = (1 << 35) - 1;
@@ -147,11 +149,26 @@ pub fn component_at(at: Placed<'_>) -> Component
     }
 }
 
+/// The first declaration of a name in sections.
+fn named_in<'d>(sections: &'d [List<Declaration>], name: &[u8]) -> Option<Placed<'d>>
+    ensures { option_map seen result ≡ capped_placed (named_in 0 sections.now name.now) }
+{
+    let mut end = 0;
+    for section in sections {
+        let start = section_behind(end);
+        if let Some(at) = named_behind(section.as_slice(), name, start) {
+            return Some(at);
+        }
+        end = end_of_all(start, section.as_slice());
+    }
+    None
+}
+
 /// The component that a path names; `None` exactly where it names nothing that is declared. Takes no memory.
 /// A place past the byte 4,294,967,295 is kept as the last bit of that, which no declarations within a limit
 /// have.
-pub fn component(decls: &[Declaration], path: &[PathStep]) -> Option<Component>
-    ensures { result ≡ component_in (decls.now ∷ []) path.now }
+pub fn component(decls: &Declarations, path: &[PathStep]) -> Option<Component>
+    ensures { result ≡ component_in decls.now.sections path.now }
 {
     let [first, ..] = path else {
         return None;
@@ -159,7 +176,7 @@ pub fn component(decls: &[Declaration], path: &[PathStep]) -> Option<Component>
     match first {
         PathStep::Index(_) => None,
         PathStep::Name(name) => {
-            let start = named_behind(decls, name.as_slice(), 0)?;
+            let start = named_in(decls.sections.as_slice(), name.as_slice())?;
             let at = walked(start, rest_after(path, 1))?;
             Some(component_at(at))
         }

@@ -1,7 +1,9 @@
 //! The rules that declarations break, but for their length.
 ghost use Rattle.std.specs.Prelude.{◌≡◌, [], ◌++◌, nat_le, int_le, OnOk};
 ghost use Rattle.std.specs.List.{list_all};
-ghost use Rattle.stl_rules.specs.DeclarationRules.{are_bounds, array_breaks, declaration_breaks, is_array, is_bound, is_named, key_of, repeated, scope_breaks, takes, type_breaks, value_breaks, with_name};
+ghost use Rattle.stl_rules.specs.DeclarationRules.{are_bounds, array_breaks, declaration_breaks, is_array, is_bound, is_named, key_of, repeated, scope_breaks, section_breaks, takes, type_breaks, value_breaks, with_name};
+ghost use Rattle.symbol_layout.specs.Kept.{borrowed};
+ghost use Rattle.symbol_layout.specs.inner.Scopes.{names_behind};
 
 use crate::initial::are_values;
 use crate::names::{Names, key_of};
@@ -91,7 +93,10 @@ fn judge_type(
             judge_array(line, bounds.as_slice(), breaks)?;
             judge_type(alloc, element.get(), line, breaks)
         }
-        DeclType::Struct(parts) => judge_scope(alloc, parts.as_slice(), breaks),
+        DeclType::Struct(parts) => {
+            let mut names = Names::new(alloc);
+            judge_scope(alloc, &mut names, parts.as_slice(), breaks)
+        }
     }
 }
 
@@ -108,19 +113,36 @@ fn judge_declaration(
     judge_values(d, breaks)
 }
 
-/// Notes the rules that are broken in declarations, which are a scope of their own.
+/// Notes the rules that are broken in declarations of a scope, behind those that have its names so far.
 #[cycle(judge)]
-pub fn judge_scope(
+fn judge_scope(
     alloc: Global,
+    names: &mut Names,
     decls: &[Declaration],
     breaks: &mut List<Break>,
 ) -> Result<(), NoMemory>
-    ensures { OnOk result (breaks.new ≡ breaks.old ++ scope_breaks [] decls.now) }
+    ensures names { OnOk result (names.new ≡ names_behind names.old decls.now) }
+    ensures breaks { OnOk result (breaks.new ≡ breaks.old ++ scope_breaks names.old decls.now) }
 {
-    let mut names = Names::with_capacity(alloc, decls.len())?;
+    names.reserve(decls.len())?;
     for d in decls {
-        judge_name(alloc, &mut names, d, breaks)?;
+        judge_name(alloc, names, d, breaks)?;
         judge_declaration(alloc, d, breaks)?;
+    }
+    Ok(())
+}
+
+/// Notes the rules that are broken in sections, which are one scope.
+pub fn judge_sections(
+    alloc: Global,
+    sections: &[&[Declaration]],
+    breaks: &mut List<Break>,
+) -> Result<(), NoMemory>
+    ensures { OnOk result (breaks.new ≡ breaks.old ++ section_breaks (borrowed sections.now)) }
+{
+    let mut names = Names::new(alloc);
+    for section in sections {
+        judge_scope(alloc, &mut names, section, breaks)?;
     }
     Ok(())
 }

@@ -1,10 +1,11 @@
 //! The first declaration at which the length passes a limit.
 ghost use Rattle.std.specs.Prelude.{◌≡◌, ◌≤◌, ◌^◌, IfSome};
 ghost use Rattle.stl_rules.specs.Extents.{extent_of, place_behind};
-ghost use Rattle.stl_rules.specs.TooLarge.{first_large, inside, passes};
+ghost use Rattle.stl_rules.specs.TooLarge.{first_large, first_large_in, inside, passes};
+ghost use Rattle.symbol_layout.specs.Kept.{borrowed};
 ghost use Rattle.symbol_layout.specs.inner.Capped.{end_within};
 
-use crate::extent::{end_behind, extent_of, place_behind};
+use crate::extent::{end_behind, end_of_all, extent_of, place_behind, section_behind};
 use s7_base::Line;
 use stl_tree::{DeclType, Declaration};
 
@@ -56,7 +57,7 @@ fn first_inside(limit: u32, ty: &DeclType, place: u64) -> Option<Line>
 
 /// The first of some declarations, in the order of their ends.
 #[cycle(large)]
-pub fn first_large(limit: u32, decls: &[Declaration], start: u64) -> Option<Line>
+fn first_large(limit: u32, decls: &[Declaration], start: u64) -> Option<Line>
     requires { start ≤ 2 ^ 60 }
     ensures { result ≡ first_large limit start decls.now }
 {
@@ -69,6 +70,21 @@ pub fn first_large(limit: u32, decls: &[Declaration], start: u64) -> Option<Line
             Some(next) => end = next,
             None => return Some(d.line),
         }
+    }
+    None
+}
+
+/// The first of the declarations of sections.
+pub fn first_large_in(limit: u32, sections: &[&[Declaration]]) -> Option<Line>
+    ensures { result ≡ first_large_in limit 0 (borrowed sections.now) }
+{
+    let mut end = 0;
+    for section in sections {
+        let start = section_behind(end);
+        if let Some(line) = first_large(limit, section, start) {
+            return Some(line);
+        }
+        end = end_of_all(start, section);
     }
     None
 }

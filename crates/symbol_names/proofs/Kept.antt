@@ -70,40 +70,40 @@ symbols_kept before (line ∷ lines) h =
 -- Headings
 
 -- a number of its kind, where a heading breaks nothing
-number_kept : (kind : BlockKind) (line : Line) (before : List ℕ) (n : ℕ) → heading_breaks kind line before (Ok n) ≡ [] → may_have kind n ≡ true
+number_kept : (kind : BlockKind) (line : Line) (before : List (BlockKind × ℕ)) (n : ℕ) → heading_breaks kind line before (Ok n) ≡ [] → may_have kind n ≡ true
 number_kept kind line before n h =
     holds_not (may_have kind n) line BadAddress
-    (front_empty (broken_if (not (may_have kind n)) line BadAddress) (broken_if (is_among n before) line DuplicateBlock) h)
+    (front_empty (broken_if (not (may_have kind n)) line BadAddress) (broken_if (is_among kind n before) line DuplicateBlock) h)
 
 -- Data blocks
 
 bytes_are : (values : List RawInitial) (decls : List Declaration) → content_breaks values (data_kind.Own decls) ≡ []
-    → bytes_kept values (data_kind.Own decls) ≡ Some (bytes_with decls values)
-bytes_are values decls h = ap (λ bs. bytes_unless (first_of_all bs) (bytes_with decls values)) h
+    → bytes_kept values (data_kind.Own decls) ≡ Some (bytes_with (decls ∷ []) values)
+bytes_are values decls h = ap (λ bs. bytes_unless (first_of_all bs) (bytes_with (decls ∷ []) values)) h
 
-data_is : (line : Line) (before : List ℕ) (values : List RawInitial) (kind : RawDataKind) (number : Result ℕ Reason)
+data_is : (line : Line) (before : List (BlockKind × ℕ)) (values : List RawInitial) (kind : RawDataKind) (number : Result ℕ Reason)
     → heading_breaks block.Db line before number ≡ [] → content_breaks values kind ≡ []
     → data_by number (bytes_kept values kind) ≡ data_numbered values kind number
 data_is line before values kind (Err reason) h k = refl
 data_is line before values (data_kind.Instance name) (Ok n) h k = refl
 data_is line before values (data_kind.Own decls) (Ok n) h k =
     ap (data_by (Ok n)) (bytes_are values decls k)
-    ∙ ap (λ b. cond b (Some (record { number = n; bytes = bytes_with decls values })) None) (number_kept block.Db line before n h)
+    ∙ ap (λ b. cond b (Some (record { number = n; bytes = bytes_with (decls ∷ []) values })) None) (number_kept block.Db line before n h)
 
-dbs_kept : (symbols : List SymbolLine) (before : List ℕ) (dbs : List RawData) → dbs_behind symbols before dbs ≡ []
+dbs_kept : (symbols : List SymbolLine) (before : List (BlockKind × ℕ)) (dbs : List RawData) → dbs_behind symbols before dbs ≡ []
     → filter_map (data_kept true symbols) dbs ≡ filter_map (data_of symbols) dbs
 dbs_kept symbols before [] h = refl
 dbs_kept symbols before (d ∷ dbs) h =
     let number : Result ℕ Reason = block_number symbols block.Db d.name in
     let own : heading_breaks block.Db d.line before number ++ content_breaks d.initial d.kind ≡ []
-    = front_empty (heading_breaks block.Db d.line before number ++ content_breaks d.initial d.kind) (dbs_behind symbols (with_block_number before number) dbs) h in
-    let later : dbs_behind symbols (with_block_number before number) dbs ≡ []
-    = back_empty (heading_breaks block.Db d.line before number ++ content_breaks d.initial d.kind) (dbs_behind symbols (with_block_number before number) dbs) h in
+    = front_empty (heading_breaks block.Db d.line before number ++ content_breaks d.initial d.kind) (dbs_behind symbols (with_block_number block.Db before number) dbs) h in
+    let later : dbs_behind symbols (with_block_number block.Db before number) dbs ≡ []
+    = back_empty (heading_breaks block.Db d.line before number ++ content_breaks d.initial d.kind) (dbs_behind symbols (with_block_number block.Db before number) dbs) h in
     ap (λ o. cons_option o (filter_map (data_kept true symbols) dbs))
     (data_is d.line before d.initial d.kind number
     (front_empty (heading_breaks block.Db d.line before number) (content_breaks d.initial d.kind) own)
     (back_empty (heading_breaks block.Db d.line before number) (content_breaks d.initial d.kind) own))
-    ∙ ap (cons_option (data_of symbols d)) (dbs_kept symbols (with_block_number before number) dbs later)
+    ∙ ap (cons_option (data_of symbols d)) (dbs_kept symbols (with_block_number block.Db before number) dbs later)
 
 -- data blocks of which there are not too many are kept
 few_enough : (o : Option RawData) → one_too_many o ≡ [] → is_none o ≡ true
@@ -112,12 +112,12 @@ few_enough (Some d) h = absurd cc
 
 -- Blocks
 
-name_is : (kind : BlockKind) (line : Line) (before : List ℕ) (number : Result ℕ Reason) → heading_breaks kind line before number ≡ []
+name_is : (kind : BlockKind) (line : Line) (before : List (BlockKind × ℕ)) (number : Result ℕ Reason) → heading_breaks kind line before number ≡ []
     → name_within kind number ≡ block_name kind number
 name_is kind line before (Ok n) h = ap (λ b. cond b (block_name kind (Ok n)) (Ob 0)) (number_kept kind line before n h)
 name_is kind line before (Err reason) h = absurd cc
 
-blocks_kept : (text : RawProgram) (before : List ℕ) (raws : List RawBlock) → blocks_behind text before raws ≡ []
+blocks_kept : (text : RawProgram) (before : List (BlockKind × ℕ)) (raws : List RawBlock) → blocks_behind text before raws ≡ []
     → map (block_within text) raws ≡ map (block_of text) raws
 blocks_kept text before [] h = refl
 blocks_kept text before (raw ∷ raws) h =
@@ -126,12 +126,12 @@ blocks_kept text before (raw ∷ raws) h =
     let heading : List Break = heading_breaks raw.kind raw.line before number in
     let temps : List Break = breaks_in most_local (raw.temps ∷ []) in
     let body : List Break = flat_map (instr_breaks scope) raw.body in
-    let own : (heading ++ temps) ++ body ≡ [] = front_empty ((heading ++ temps) ++ body) (blocks_behind text (with_block_number before number) raws) h in
-    let later : blocks_behind text (with_block_number before number) raws ≡ []
-    = back_empty ((heading ++ temps) ++ body) (blocks_behind text (with_block_number before number) raws) h in
+    let own : (heading ++ temps) ++ body ≡ [] = front_empty ((heading ++ temps) ++ body) (blocks_behind text (with_block_number raw.kind before number) raws) h in
+    let later : blocks_behind text (with_block_number raw.kind before number) raws ≡ []
+    = back_empty ((heading ++ temps) ++ body) (blocks_behind text (with_block_number raw.kind before number) raws) h in
     let good : heading ≡ [] = front_empty heading temps (front_empty (heading ++ temps) body own) in
     ap (λ name. block_with scope name ∷ map (block_within text) raws) (name_is raw.kind raw.line before number good)
-    ∙ ap (λ blocks. block_of text raw ∷ blocks) (blocks_kept text (with_block_number before number) raws later)
+    ∙ ap (λ blocks. block_of text raw ∷ blocks) (blocks_kept text (with_block_number raw.kind before number) raws later)
 
 -- The whole
 

@@ -1,21 +1,23 @@
 -- One turn of a loop that judges items one after another.
-use Rattle.std.proofs.Common.{◌≡◌, ◌<◌, ◌≤◌, ℕ, ◌+◌, List, [], ◌∷◌, ◌++◌, length, take, drop, get_or, map, Option, Result, refl, sym, ap, ◌∙◌, arith}
+use Rattle.std.proofs.Common.{◌≡◌, ◌<◌, ◌≤◌, ℕ, ◌+◌, List, [], ◌∷◌, ◌++◌, length, take, drop, get_or, map, slice_get, option_map, Option, Result, refl, sym, ap, subst, ◌∙◌, arith}
+use Rattle.std.specs.Prelude.{IfSome}
 use Rattle.std.proofs.lemmas.List.{at_drop_more, drop_all, get_or-map, length-map}
 use Rattle.std.proofs.lemmas.List.Sums.{fold_more}
+use Rattle.std.proofs.lemmas.Option.{slice_get-map, slice_get_read}
 use Rattle.s7_base.specs.declared.broken.Break.{Break}
 use Rattle.s7_base.specs.declared.reason.Reason.{Reason}
 use Rattle.stl_rules.specs.DeclarationRules.{key_of, with_name}
 use Rattle.stl_rules.specs.Names.{block_number}
-use Rattle.stl_rules.specs.Stages.{blocks_behind, dbs_behind, symbols_behind, with_block_number}
+use Rattle.stl_rules.specs.Stages.{blocks_behind, dbs_behind, symbols_behind}
+use Rattle.stl_tree.specs.declared.raw.BlockKind.{BlockKind}
 use Rattle.stl_tree.specs.declared.raw.BlockKind.TheVariants as block
 use Rattle.stl_tree.specs.declared.raw.RawBlock.{RawBlock}
 use Rattle.stl_tree.specs.declared.raw.RawData.{RawData}
 use Rattle.stl_tree.specs.declared.raw.RawProgram.{RawProgram}
 use Rattle.stl_tree.specs.declared.raw.SymbolLine.{SymbolLine}
 use Rattle.symbol_names.specs.inner.Firsts.{with_breaks}
-use Rattle.symbol_names.specs.inner.Kept.{block_breaks, db_breaks}
-use Rattle.name_tables.specs.Before.{block_numbers, db_numbers, names_before, numbers_before}
-use Rattle.symbol_names.specs.inner.Kept.{line_breaks}
+use Rattle.symbol_names.specs.inner.Kept.{block_breaks, db_breaks, line_breaks}
+use Rattle.name_tables.specs.Before.{block_numbers, db_numbers, names_before, number_of_block, number_of_db, numbers_before, with_block}
 use Rattle.std.specs.List.{flat_map}
 use Rattle.symbol_names.proofs.Filtered.{flat_more}
 use Rattle.symbol_names.proofs.Firsts.{behind, none_more}
@@ -66,23 +68,31 @@ symbols_ended first whole lines i past so_far =
 
 -- Blocks
 
--- the numbers of the blocks before, with that of one more
-numbers_more : {X : Type 0} (number : X → Result ℕ Reason) (xs : List X) (i : ℕ) (x : X) → i < length xs → x ≡ get_or xs i x
-    → numbers_before (take (i + 1) (map number xs)) ≡ with_block_number (numbers_before (take i (map number xs))) (number x)
-numbers_more number xs i x before is =
-    let long : i < length (map number xs) = omega (arith, before, length-map xs number) in
-    fold_more with_block_number [] (map number xs) i (number x) long
-    ∙ ap (with_block_number (numbers_before (take i (map number xs)))) (get_or-map number xs i x (number x) before ∙ ap number (sym is))
+module _ {X : Type 0} (number : X → BlockKind × Result ℕ Reason) (xs : List X) (i : ℕ) (x : X) (before : i < length xs) (is : x ≡ get_or xs i x) where
+  -- the blocks before by kind and number, with one more
+  numbers_more : numbers_before (take (i + 1) (map number xs)) ≡ with_block (numbers_before (take i (map number xs))) (number x)
+  numbers_more =
+      let long : i < length (map number xs) = omega (arith, before, length-map xs number) in
+      fold_more with_block [] (map number xs) i (number x) long
+      ∙ ap (with_block (numbers_before (take i (map number xs)))) (get_or-map number xs i x (number x) before ∙ ap number (sym is))
+
+  -- a block is numbered as often as it stands in a list
+  pub long_enough : (blocks : List (BlockKind × Result ℕ Reason)) → blocks ≡ map number xs → i < length blocks
+  long_enough blocks are = subst (λ l. i < length l) (sym are) (omega (arith, before, length-map xs number))
+
+  -- what stands at its place is its number
+  pub number_is : (blocks : List (BlockKind × Result ℕ Reason)) (n : Result ℕ Reason) → blocks ≡ map number xs
+      → IfSome (slice_get blocks i) (λ b. n ≡ b.1) → n ≡ (number x).1
+  number_is blocks n are h =
+      subst (λ o. IfSome o (λ (b : BlockKind × Result ℕ Reason). n ≡ b.1))
+      (ap (λ l. slice_get l i) are ∙ slice_get-map number xs i ∙ ap (option_map number) (slice_get_read xs (length xs) i x refl before is)) h
 
 module _ (symbols : List SymbolLine) where
-  abbrev number_of_db : RawData → Result ℕ Reason
-  number_of_db d = block_number symbols block.Db d.name
+  abbrev db_item : List (BlockKind × ℕ) → RawData → List Break
+  db_item before d = db_breaks before d (block_number symbols block.Db d.name)
 
-  abbrev db_item : List ℕ → RawData → List Break
-  db_item before d = db_breaks before d (number_of_db d)
-
-  abbrev next_db : List ℕ → RawData → List ℕ
-  next_db before d = with_block_number before (number_of_db d)
+  abbrev next_db : List (BlockKind × ℕ) → RawData → List (BlockKind × ℕ)
+  next_db before d = with_block before (number_of_db symbols d)
 
   pub db_turn : (first later whole : Option Break) (dbs : List RawData) (i : ℕ) (d : RawData) → i < length dbs → d ≡ get_or dbs i d
       → later ≡ with_breaks first (db_breaks (numbers_before (take i (db_numbers symbols dbs))) d (block_number symbols block.Db d.name))
@@ -90,20 +100,17 @@ module _ (symbols : List SymbolLine) where
       → with_breaks later (dbs_behind symbols (numbers_before (take (i + 1) (db_numbers symbols dbs))) (drop (i + 1) dbs)) ≡ whole
   db_turn first later whole dbs i d before is e so_far =
       turn (dbs_behind symbols) db_item next_db (λ s. refl) (λ s x xs. refl) first later whole
-      (numbers_before (take i (map number_of_db dbs))) (numbers_before (take (i + 1) (map number_of_db dbs))) dbs i d before is
-      (numbers_more number_of_db dbs i d before is) e so_far
+      (numbers_before (take i (db_numbers symbols dbs))) (numbers_before (take (i + 1) (db_numbers symbols dbs))) dbs i d before is
+      (numbers_more (number_of_db symbols) dbs i d before is) e so_far
 
   pub dbs_ended : (first whole : Option Break) (dbs : List RawData) (i : ℕ) → length dbs ≤ i
       → with_breaks first (dbs_behind symbols (numbers_before (take i (db_numbers symbols dbs))) (drop i dbs)) ≡ whole → first ≡ whole
   dbs_ended first whole dbs i past so_far =
-      ended (dbs_behind symbols) db_item next_db (λ s. refl) (λ s x xs. refl) first whole (numbers_before (take i (map number_of_db dbs))) dbs i past so_far
+      ended (dbs_behind symbols) db_item next_db (λ s. refl) (λ s x xs. refl) first whole (numbers_before (take i (db_numbers symbols dbs))) dbs i past so_far
 
 module _ (text : RawProgram) where
-  abbrev number_of_block : RawBlock → Result ℕ Reason
-  number_of_block raw = block_number text.symbols raw.kind raw.name
-
-  abbrev next_block : List ℕ → RawBlock → List ℕ
-  next_block before raw = with_block_number before (number_of_block raw)
+  abbrev next_block : List (BlockKind × ℕ) → RawBlock → List (BlockKind × ℕ)
+  next_block before raw = with_block before (number_of_block text.symbols raw)
 
   pub block_turn : (first later whole : Option Break) (raws : List RawBlock) (i : ℕ) (raw : RawBlock) → i < length raws → raw ≡ get_or raws i raw
       → later ≡ with_breaks first (block_breaks text (numbers_before (take i (block_numbers text.symbols raws))) raw)
@@ -111,10 +118,10 @@ module _ (text : RawProgram) where
       → with_breaks later (blocks_behind text (numbers_before (take (i + 1) (block_numbers text.symbols raws))) (drop (i + 1) raws)) ≡ whole
   block_turn first later whole raws i raw before is e so_far =
       turn (blocks_behind text) (block_breaks text) next_block (λ s. refl) (λ s x xs. refl) first later whole
-      (numbers_before (take i (map number_of_block raws))) (numbers_before (take (i + 1) (map number_of_block raws))) raws i raw before is
-      (numbers_more number_of_block raws i raw before is) e so_far
+      (numbers_before (take i (block_numbers text.symbols raws))) (numbers_before (take (i + 1) (block_numbers text.symbols raws))) raws i raw before is
+      (numbers_more (number_of_block text.symbols) raws i raw before is) e so_far
 
   pub blocks_ended : (first whole : Option Break) (raws : List RawBlock) (i : ℕ) → length raws ≤ i
       → with_breaks first (blocks_behind text (numbers_before (take i (block_numbers text.symbols raws))) (drop i raws)) ≡ whole → first ≡ whole
   blocks_ended first whole raws i past so_far =
-      ended (blocks_behind text) (block_breaks text) next_block (λ s. refl) (λ s x xs. refl) first whole (numbers_before (take i (map number_of_block raws))) raws i past so_far
+      ended (blocks_behind text) (block_breaks text) next_block (λ s. refl) (λ s x xs. refl) first whole (numbers_before (take i (block_numbers text.symbols raws))) raws i past so_far

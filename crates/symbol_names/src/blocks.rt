@@ -3,6 +3,7 @@ ghost use Rattle.std.specs.Prelude.{◌≡◌, ◌∷◌, ◌++◌, [], IfOk, On
 ghost use Rattle.std.specs.List.{flat_map};
 ghost use Rattle.name_tables.specs.Before.{block_numbers, numbers_before};
 ghost use Rattle.stl_rules.specs.Layouts.{breaks_in};
+ghost use Rattle.stl_rules.specs.Names.{block_number};
 ghost use Rattle.stl_rules.specs.Programs.{block_name, body_of, instr_of, op_of, or_any};
 ghost use Rattle.stl_rules.specs.Raw.{most_local};
 ghost use Rattle.stl_rules.specs.Stages.{blocks_behind, instr_breaks};
@@ -16,15 +17,12 @@ use crate::laid::Laid;
 use crate::scope::Scope;
 use component_index::Components;
 use instruction_operands::{may_have, op_or_rule};
-use name_tables::{Names, Numbers, numbers_of_blocks};
+use name_tables::Names;
 use s7_base::{Break, List, NoMemory, Reason};
 use std::alloc::Global;
 use stl_mnemonics::mnemonic_named;
 use stl_tree::{Block, BlockKind, BlockName, Instr, Op, RawBlock, RawInstr};
-use symbol_layout::first_break;
-
-/// The most bytes of local data.
-const MOST_LOCAL: u32 = 256;
+use symbol_layout::{MOST_LOCAL, first_break};
 
 /// What is found of blocks.
 #[derive(Drop)]
@@ -137,13 +135,13 @@ fn temps_of<'t>(
     raw: &'t RawBlock,
     first: &mut Option<Break>,
 ) -> Result<Laid<'t>, NoMemory>
-    ensures temps { IfOk result (λ temps. temps ≡ (most_local, raw.now.temps)) }
+    ensures temps { IfOk result (λ temps. temps ≡ (most_local, raw.now.temps ∷ [])) }
     ensures first { OnOk result (first.new ≡ with_breaks first.old (breaks_in most_local (raw.now.temps ∷ []))) }
 {
-    let temps = raw.temps.as_slice();
-    let temps_first = first_break(alloc, temps, MOST_LOCAL)?;
+    let temps = [raw.temps.as_slice()];
+    let temps_first = first_break(alloc, &temps, MOST_LOCAL)?;
     join(first, temps_first);
-    let components = Components::new(alloc, temps)?;
+    let components = Components::new(alloc, &temps)?;
     Ok(Laid::new(components, MOST_LOCAL, temps_first.is_some()))
 }
 
@@ -165,26 +163,27 @@ fn body_in(
     body_of(alloc, &scope, first)
 }
 
-/// One more block.
+/// One more block, by its place and its number.
 #[tactic(auto, using(crate::proofs::Firsts::behind))]
 fn put_block(
     alloc: Global,
     names: &Names<'_>,
     laid: &[Laid<'_>],
-    numbers: &Numbers,
     place: usize,
+    number: Result<u32, Reason>,
     raw: &RawBlock,
     blocks: &mut Blocks,
 ) -> Result<(), NoMemory>
-    requires { laid.now ≡ map own_of names.now.dbs }
+    requires laid { laid.now ≡ map own_of names.now.dbs }
+    requires number { number ≡ block_number names.now.symbols raw.now.kind raw.now.name }
     ensures made { OnOk result (blocks.new.made ≡ blocks.old.made ++ block_within names.now raw.now ∷ []) }
-    ensures first { OnOk result (blocks.new.first ≡ with_breaks blocks.old.first (block_breaks names.now (numbers_before (take place numbers.now)) raw.now)) }
+    ensures first { OnOk result (blocks.new.first ≡ with_breaks blocks.old.first (block_breaks names.now
+        (numbers_before (take place (block_numbers names.now.symbols names.now.blocks))) raw.now)) }
 {
-    let number = names.symbols().block_number(alloc, raw.kind, &raw.name)?;
     note_heading(
         raw.kind,
         raw.line,
-        numbers,
+        names.blocks(),
         place,
         number,
         &mut blocks.first,
@@ -198,49 +197,25 @@ fn put_block(
     })
 }
 
-/// The numbers of blocks.
-fn numbers_of(alloc: Global, names: &Names<'_>, raws: &[RawBlock]) -> Result<Numbers, NoMemory>
-    ensures { IfOk result (λ numbers. numbers ≡ block_numbers names.now.symbols raws.now) }
-{
-    let numbers = numbers_of_blocks(alloc, names.symbols(), raws)?;
-    Numbers::new(alloc, numbers)
-}
-
-/// More blocks, each with the numbers of those before it.
+/// More blocks, each with those before it.
 fn put_each(
     alloc: Global,
     names: &Names<'_>,
     laid: &[Laid<'_>],
-    numbers: &Numbers,
     raws: &[RawBlock],
     blocks: &mut Blocks,
 ) -> Result<(), NoMemory>
     requires laid { laid.now ≡ map own_of names.now.dbs }
-    requires numbers { numbers.now ≡ block_numbers names.now.symbols raws.now }
+    requires raws { raws.now ≡ names.now.blocks }
     ensures made { OnOk result (blocks.new.made ≡ blocks.old.made ++ map (block_within names.now) raws.now) }
     ensures first { OnOk result (blocks.new.first ≡ with_breaks blocks.old.first (blocks_behind names.now [] raws.now)) }
 {
     for place in 0..raws.len() {
         let raw = &raws[place];
-        put_block(alloc, names, laid, numbers, place, raw, blocks)?;
+        let number = names.blocks().number_at(place);
+        put_block(alloc, names, laid, place, number, raw, blocks)?;
     }
     Ok(())
-}
-
-/// The blocks of a text, behind others.
-fn put_all(
-    alloc: Global,
-    names: &Names<'_>,
-    laid: &[Laid<'_>],
-    raws: &[RawBlock],
-    blocks: &mut Blocks,
-) -> Result<(), NoMemory>
-    requires { laid.now ≡ map own_of names.now.dbs }
-    ensures made { OnOk result (blocks.new.made ≡ blocks.old.made ++ map (block_within names.now) raws.now) }
-    ensures first { OnOk result (blocks.new.first ≡ with_breaks blocks.old.first (blocks_behind names.now [] raws.now)) }
-{
-    let numbers = numbers_of(alloc, names, raws)?;
-    put_each(alloc, names, laid, &numbers, raws, blocks)
 }
 
 /// The blocks of a text.
@@ -251,7 +226,8 @@ pub fn put_blocks(
     raws: &[RawBlock],
     first: Option<Break>,
 ) -> Result<Blocks, NoMemory>
-    requires { laid.now ≡ map own_of names.now.dbs }
+    requires laid { laid.now ≡ map own_of names.now.dbs }
+    requires raws { raws.now ≡ names.now.blocks }
     ensures made { IfOk result (λ b. b.made ≡ map (block_within names.now) raws.now) }
     ensures first { IfOk result (λ b. b.first ≡ with_breaks first (blocks_behind names.now [] raws.now)) }
 {
@@ -259,6 +235,6 @@ pub fn put_blocks(
         made: List::new(alloc),
         first,
     };
-    put_all(alloc, names, laid, raws, &mut blocks)?;
+    put_each(alloc, names, laid, raws, &mut blocks)?;
     Ok(blocks)
 }

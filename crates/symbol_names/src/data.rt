@@ -5,12 +5,11 @@ ghost use Rattle.std.specs.Option.{option_to_list};
 ghost use Rattle.memory_areas.specs.declared.sizes.TheConstants.{MOST_BLOCKS};
 ghost use Rattle.s7_base.specs.Broken.{first_of_all};
 ghost use Rattle.stl_rules.specs.Names.{block_number};
-ghost use Rattle.stl_rules.specs.Raw.{most_in_block};
-ghost use Rattle.stl_rules.specs.Stages.{content_breaks, dbs_behind, one_too_many};
+ghost use Rattle.stl_rules.specs.Raw.{are_refused, most_in_block};
+ghost use Rattle.stl_rules.specs.Stages.{content_breaks, dbs_behind, one_too_many, valued_breaks};
 ghost use Rattle.stl_tree.specs.declared.raw.BlockKind.TheVariants as block;
-ghost use Rattle.stl_tree.specs.declared.raw.RawDataKind.TheVariants as data_kind;
 ghost use Rattle.symbol_names.specs.inner.Firsts.{with_breaks};
-ghost use Rattle.symbol_names.specs.inner.Kept.{bytes_kept, data_by, data_kept, db_breaks, kept_if};
+ghost use Rattle.symbol_names.specs.inner.Kept.{bytes_kept, bytes_of_sections, data_by, data_kept, db_breaks, kept_if};
 ghost use Rattle.name_tables.specs.Before.{db_numbers, numbers_before};
 ghost use Rattle.symbol_names.specs.inner.Refused.{decls_of, is_refused, own_of};
 
@@ -25,9 +24,7 @@ use name_tables::Names;
 use s7_base::{Break, List, NoMemory, Reason};
 use std::alloc::Global;
 use stl_tree::{BlockKind, Declaration, RawData, RawDataKind, RawInitial};
-
-/// The most bytes of a data block.
-const MOST_IN_BLOCK: u32 = 16_384;
+use symbol_layout::MOST_IN_BLOCK;
 
 /// What a data block comes to.
 #[derive(Drop)]
@@ -60,9 +57,9 @@ fn fill_own(
     components: &Components<'_>,
     values: &[RawInitial],
 ) -> Result<Filled, NoMemory>
-    ensures refused { IfOk result (λ f. f.refused ≡ is_refused (data_kind.Own components.now)) }
-    ensures first { IfOk result (λ f. f.first ≡ first_of_all (content_breaks values.now (data_kind.Own components.now))) }
-    ensures bytes { IfOk result (λ f. f.bytes ≡ bytes_kept values.now (data_kind.Own components.now)) }
+    ensures refused { IfOk result (λ f. f.refused ≡ are_refused most_in_block components.now) }
+    ensures first { IfOk result (λ f. f.first ≡ first_of_all (valued_breaks components.now values.now)) }
+    ensures bytes { IfOk result (λ f. f.bytes ≡ bytes_of_sections values.now components.now) }
 {
     match content_of(alloc, components, values)? {
         Content::Bytes(bytes) => Ok(Filled {
@@ -85,7 +82,7 @@ fn fill_own(
 
 /// What a data block comes to, by the index of its declarations.
 fn fill(alloc: Global, components: &Components<'_>, d: &RawData) -> Result<Filled, NoMemory>
-    requires { components.now ≡ decls_of d.now.kind }
+    requires { components.now ≡ decls_of d.now.kind ∷ [] }
     ensures refused { IfOk result (λ f. f.refused ≡ is_refused d.now.kind) }
     ensures first { IfOk result (λ f. f.first ≡ first_of_all (content_breaks d.now.initial d.now.kind)) }
     ensures bytes { IfOk result (λ f. f.bytes ≡ bytes_kept d.now.initial d.now.kind) }
@@ -148,22 +145,23 @@ fn decls_of(kind: &RawDataKind) -> &[Declaration]
     }
 }
 
-/// One more data block.
+/// One more data block, by its place and its number.
 #[tactic(auto, using(crate::proofs::Firsts::behind, crate::proofs::Firsts::joins, crate::proofs::Contents::refused_is))]
 fn put_data<'t>(
     alloc: Global,
     names: &Names<'_>,
     keep: bool,
     place: usize,
+    number: Result<u32, Reason>,
     d: &'t RawData,
     found: &mut Found<'t>,
 ) -> Result<(), NoMemory>
+    requires { number ≡ block_number names.now.symbols block.Db d.now.name }
     ensures laid { OnOk result (found.new.laid.items ≡ found.old.laid.items ++ own_of d.now ∷ []) }
     ensures made { OnOk result (found.new.made ≡ found.old.made ++ option_to_list (data_kept keep names.now.symbols d.now)) }
     ensures first { OnOk result (found.new.first ≡ with_breaks found.old.first (db_breaks
         (numbers_before (take place (db_numbers names.now.symbols names.now.dbs))) d.now (block_number names.now.symbols block.Db d.now.name))) }
 {
-    let number = names.symbols().block_number(alloc, BlockKind::Db, &d.name)?;
     note_heading(
         BlockKind::Db,
         d.line,
@@ -172,7 +170,7 @@ fn put_data<'t>(
         number,
         &mut found.first,
     );
-    let components = Components::new(alloc, decls_of(&d.kind))?;
+    let components = Components::new(alloc, &[decls_of(&d.kind)])?;
     let Filled {
         refused,
         first,
@@ -222,7 +220,8 @@ fn put_each<'t>(
 {
     for place in 0..dbs.len() {
         let d = &dbs[place];
-        put_data(alloc, names, keep, place, d, found)?;
+        let number = names.dbs().number_at(place);
+        put_data(alloc, names, keep, place, number, d, found)?;
     }
     Ok(())
 }

@@ -1,20 +1,10 @@
 //! The first of the broken rules so far.
 ghost use Rattle.std.specs.Prelude.{◌≡◌};
-ghost use Rattle.s7_base.specs.Broken.{broken, sooner};
+ghost use Rattle.s7_base.specs.Broken.{broken};
 ghost use Rattle.stl_rules.specs.Stages.{broken_if};
 ghost use Rattle.symbol_names.specs.inner.Firsts.{joined, with_breaks};
 
-use s7_base::{Break, Line, Reason, first_of_all};
-
-/// The first of what is broken so far, and of one more.
-fn sooner(first: Option<Break>, other: Break) -> Option<Break>
-    ensures { result ≡ sooner first other }
-{
-    match first {
-        Some(first) => first_of_all(&[first, other]),
-        None => Some(other),
-    }
-}
+use s7_base::{Break, Line, Reason, sooner};
 
 /// One more broken rule.
 #[tactic(auto, using(crate::proofs::Firsts::one_more))]

@@ -1,7 +1,6 @@
 //! The rules of the symbol table, and of headings of blocks.
 ghost use Rattle.std.specs.Prelude.{◌≡◌, [], OnOk, take};
-ghost use Rattle.stl_rules.specs.DeclarationRules.{is_named, key_of};
-ghost use Rattle.stl_rules.specs.Stages.{broken_if, heading_breaks, is_address, symbols_behind};
+ghost use Rattle.stl_rules.specs.Stages.{heading_breaks, is_address, symbols_behind};
 ghost use Rattle.symbol_names.specs.inner.Firsts.{with_breaks};
 ghost use Rattle.name_tables.specs.Before.{names_before, numbers_before};
 ghost use Rattle.symbol_names.specs.inner.Kept.{line_breaks};
@@ -79,7 +78,7 @@ pub fn note_heading(
     match number {
         Ok(number) => {
             note_if(first, !may_have(kind, number), line, Reason::BadAddress);
-            let repeated = numbers.is_repeated(number, place);
+            let repeated = numbers.is_repeated(kind, number, place);
             note_if(first, repeated, line, Reason::DuplicateBlock);
         }
         Err(reason) => note(first, line, reason),

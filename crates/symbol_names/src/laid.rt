@@ -1,5 +1,5 @@
 //! Declarations whose rules are judged and whose components are found by maps.
-ghost use Rattle.std.specs.Prelude.{◌≡◌, ◌++◌, ◌∷◌, [], IfOk, OnOk};
+ghost use Rattle.std.specs.Prelude.{◌≡◌, IfOk};
 ghost use Rattle.stl_rules.specs.Raw.{are_refused, given_path};
 
 use component_index::Components;
@@ -11,7 +11,7 @@ use std::marker::Model;
 use stl_rules::Given;
 use stl_tree::PathStep;
 
-/// The declarations of a block. Contracts see them behind the most bytes that they may take.
+/// The declarations of a block. Contracts see their sections behind the most bytes that they may take.
 #[derive(Drop)]
 pub struct Laid<'d> {
     limit: u32,
@@ -30,7 +30,7 @@ impl<'d> Model for Laid<'d> {
     ghost use Rattle.stl_tree.specs.contracts.raw.DeclType as declared;
     ghost use Rattle.stl_tree.specs.contracts.raw.Declaration as declaration;
 
-    ghost Value = { ℕ × List Declaration };
+    ghost Value = { ℕ × List (List Declaration) };
 
     ghost coded = { Prim.hlevel (codes, declared.the_row.coded, declaration.the_row.coded) };
 
@@ -40,7 +40,7 @@ impl<'d> Model for Laid<'d> {
 }
 
 impl<'d> Laid<'d> {
-    /// Declarations that break a rule within a limit, or none.
+    /// Sections that break a rule within a limit, or none.
     pub fn new(components: Components<'d>, limit: u32, refused: bool) -> Laid<'d>
         requires { refused ≡ are_refused limit components }
         ensures { result ≡ (limit, components.entry) }

@@ -1,8 +1,8 @@
 //! What stands behind a mnemonic, by what names mean in a block.
-ghost use Rattle.std.specs.Prelude.{◌≡◌, IfOk, map, if◌then◌else◌, Some, None, ◌∷◌, []};
+ghost use Rattle.std.specs.Prelude.{◌≡◌, IfOk, map, Some, None, ◌∷◌, []};
 ghost use Rattle.memory_areas.specs.declared.place.AreaName.TheVariants as area;
 ghost use Rattle.stl_rules.specs.Names.{block_number, db_numbered, number_at, symbol_named};
-ghost use Rattle.stl_rules.specs.Raw.{are_refused, given, given_component, given_in_data, given_in_kind, given_number, given_open, given_path, given_symbol, most_in_block, most_local};
+ghost use Rattle.stl_rules.specs.Raw.{given, given_in_data, given_in_kind, given_number, given_open, given_path, given_symbol, most_in_block, most_local};
 ghost use Rattle.stl_rules.specs.declared.given.Given.TheVariants as behind;
 ghost use Rattle.stl_tree.specs.declared.raw.BlockKind.TheVariants as block;
 ghost use Rattle.symbol_names.specs.inner.Refused.{decls_of, own_of};
@@ -35,7 +35,7 @@ pub struct Scope<'s, 't> {
 }
 
 impl<'s, 't> Model for Scope<'s, 't> {
-    ghost use Rattle.std.specs.Prelude.{◌≡◌, map};
+    ghost use Rattle.std.specs.Prelude.{◌≡◌, ◌∷◌, [], map};
     ghost use Rattle.stl_rules.specs.Raw.{Scope, most_local};
     ghost use Rattle.symbol_names.specs.inner.Refused.{own_of};
     ghost use Rattle.std.specs.Coded.{codes};
@@ -49,7 +49,7 @@ impl<'s, 't> Model for Scope<'s, 't> {
 
     ghost view = { λ s. record { text = s.names.now; block = s.block.now } };
 
-    ghost invariant = { λ s. (s.laid.now ≡ map own_of s.names.now.dbs) × (s.temps.now ≡ (most_local, s.block.now.temps)) };
+    ghost invariant = { λ s. (s.laid.now ≡ map own_of s.names.now.dbs) × (s.temps.now ≡ (most_local, s.block.now.temps ∷ [])) };
 }
 
 /// What a path names in a data block of a number.
@@ -60,7 +60,7 @@ fn given_in_kind(
     path: &[PathStep],
     kind: &RawDataKind,
 ) -> Result<Given, NoMemory>
-    requires { laid.now ≡ (most_in_block, decls_of kind.now) }
+    requires { laid.now ≡ (most_in_block, decls_of kind.now ∷ []) }
     ensures { IfOk result (λ g. g ≡ given_in_kind number path.now kind.now) }
 {
     match kind {
@@ -100,7 +100,7 @@ impl<'s, 't> Scope<'s, 't> {
         temps: &'s Laid<'t>,
     ) -> Scope<'s, 't>
         requires data { laid.now ≡ map own_of names.now.dbs }
-        requires temps { temps.now ≡ (most_local, block.now.temps) }
+        requires temps { temps.now ≡ (most_local, block.now.temps ∷ []) }
         ensures { result ≡ record { text = names.now; block = block.now } }
     {
         Scope {
@@ -191,7 +191,7 @@ impl<'s, 't> Scope<'s, 't> {
 
     /// What a path names in the temporaries.
     fn given_local(&self, alloc: Global, path: &[PathStep]) -> Result<Given, NoMemory>
-        ensures { IfOk result (λ g. g ≡ given_path most_local None area.L self.now.block.temps path.now) }
+        ensures { IfOk result (λ g. g ≡ given_path most_local None area.L (self.now.block.temps ∷ []) path.now) }
     {
         self.temps.given(alloc, None, AreaName::L, path)
     }

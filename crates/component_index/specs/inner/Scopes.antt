@@ -1,41 +1,39 @@
--- Scopes that stand in a list, each with the entries of its declarations.
-use Rattle.std.specs.Prelude.{◌≡◌, ℕ, ◌+◌, ◌%◌, ◌^◌, ◌≤◌, IfSome, nat_eq, List, [], ◌∷◌, map, slice_get, Option, Some, None, option_and_then, option_map}
+-- Scopes that stand in a list, each with the entries of its declarations by their names.
+use Rattle.std.specs.Prelude.{◌≡◌, ℕ, ◌+◌, ◌%◌, ◌^◌, ◌≤◌, if◌then◌else◌, IfSome, nat_eq, List, [], ◌∷◌, ◌++◌, map, slice_get, Option, Some, None, is_some, option_and_then, option_map}
 use Rattle.std.specs.Cmp.Lexicographic.{pointwise}
 use Rattle.std.specs.Map.{lookup}
-use Rattle.stl_rules.specs.Extents.{end_of, end_of_all, extent_of, filled, place_behind}
-use Rattle.stl_rules.specs.Paths.{Placed, component_in}
+use Rattle.stl_rules.specs.DeclarationRules.{key_of}
+use Rattle.stl_rules.specs.Extents.{extent_of}
+use Rattle.stl_rules.specs.Paths.{Placed, component_in, named_behind}
 use Rattle.stl_rules.specs.declared.laid.Component.{Component}
-use Rattle.stl_tree.specs.declared.raw.Declaration.{Declaration, Declaration-F}
-use Rattle.stl_tree.specs.declared.raw.DeclType.{DeclType, para-DeclType}
-use Rattle.stl_tree.specs.declared.raw.DeclType.TheOpen as T
+use Rattle.stl_tree.specs.declared.raw.Declaration.{Declaration}
+use Rattle.stl_tree.specs.declared.raw.DeclType.{DeclType}
 use Rattle.stl_tree.specs.declared.raw.PathStep.{PathStep}
 use Rattle.stl_tree.specs.declared.raw.PathStep.TheVariants as step
 use Rattle.symbol_layout.specs.Kept.{capped, capped_placed}
+use Rattle.symbol_layout.specs.Structs.{AreBits, struct_bits, struct_in}
 use Rattle.component_index.specs.declared.scope.Entry.{Entry}
 use Rattle.component_index.specs.declared.scope.Inner.{Inner}
 use Rattle.component_index.specs.declared.scope.Scope.{Scope}
-use Rattle.component_index.specs.inner.Places.{AreNamePlaces}
+use Rattle.component_index.specs.declared.table.Table.{Table}
 
--- the components of the STRUCT inside a type, where one is: elements of arrays are taken
-abbrev pub struct_step : T.DeclType-F (DeclType × Option (List Declaration)) (Declaration × Unit {0}) → Option (List Declaration)
-struct_step (T.Elementary e) = None
-struct_step T.DateAndTime = None
-struct_step (T.Array bounds element) = element.1
-struct_step (T.Struct parts) = Some (map (λ part. part.0) parts)
+-- Tables
 
-abbrev pub no_result : Declaration-F (DeclType × Option (List Declaration)) (Declaration × Unit {0}) → Unit {0}
-no_result d = tt
+-- names in capitals with their entries
+abbrev pub Entries : Type 0
+Entries = List (List ℕ × Entry)
 
-unfoldable pub struct_in : DeclType → Option (List Declaration)
-struct_in = para-DeclType (Option (List Declaration)) (Unit {0}) struct_step no_result
+abbrev pub table_of : Table → Entries
+table_of t = map (λ e. (e.0.items, e.1)) t.names.entries
 
--- how many bits a STRUCT takes, as it is kept
-abbrev pub struct_bits : List Declaration → ℕ
-struct_bits parts = capped (filled (end_of_all 0 parts)).bits
+abbrev pub entry_of : List ℕ → Entries → Option Entry
+entry_of key entries = lookup (pointwise nat_eq key) entries
 
-abbrev pub AreBits : ℕ → Option (List Declaration) → Type 0
-AreBits bits None = Unit {0}
-AreBits bits (Some parts) = bits ≡ struct_bits parts
+-- the entry of a key that has none
+abbrev pub with_entry : List ℕ → Entry → Entries → Entries
+with_entry key e entries = if is_some (entry_of key entries) then entries else entries ++ (key, e) ∷ []
+
+-- Scopes by their numbers
 
 -- which declarations stand at a number
 abbrev pub Held : Type 0
@@ -56,22 +54,34 @@ IsInner all inner ty = IsStruct all inner.scope (struct_in ty) × AreBits inner.
 abbrev pub IsOf : Held → Inner → List Declaration → Type 0
 IsOf all inner decls = (all inner.scope ≡ Some decls) × (inner.bits ≡ struct_bits decls)
 
--- an entry is that of a declaration behind what ends here
-abbrev pub IsEntry : Held → ℕ → Declaration → Entry → Type 0
-IsEntry all end d e = (e.place ≡ capped (place_behind end (extent_of d.ty))) × (e.ty.now ≡ d.ty) × IsInner all e.inner d.ty
+-- Finding
 
-abbrev pub AreEntries : Held → ℕ → List Declaration → List Entry → Type 0
-AreEntries all end [] [] = Unit {0}
-AreEntries all end [] (e ∷ es) = ⊥
-AreEntries all end (d ∷ decls) [] = ⊥
-AreEntries all end (d ∷ decls) (e ∷ es) = IsEntry all end d e × AreEntries all (end_of end d) decls es
+-- an entry as a type at its place
+abbrev pub placed : Entry → Placed
+placed e = (e.place, e.ty.now)
 
--- the names of a scope with their places
-abbrev pub table_of : Scope → List (List ℕ × ℕ)
-table_of s = map (λ e. (e.0.items, e.1)) s.names.entries
+-- a type at a place where one may go on by a path
+abbrev pub IsAt : Held → Entry → Type 0
+IsAt all e = (e.place ≤ 2 ^ 60) × (e.place % (extent_of e.ty.now).alignment ≡ 0) × IsInner all e.inner e.ty.now
+
+-- what is found is the same type at the place as it is kept, and one may go on there
+abbrev pub LeadsTo : Held → Option Placed → Option Entry → Type 0
+LeadsTo all real found = (option_map placed found ≡ capped_placed real) × IfSome found (IsAt all)
+
+-- a table has what each name means
+abbrev pub IsTable : Held → (List ℕ → Option Placed) → Entries → Type 0
+IsTable all real entries = (name : List ℕ) → LeadsTo all (real name) (entry_of (key_of name) entries)
+
+-- an entry that was there stays, else what a name means is found
+abbrev pub Added : Held → Option Placed → Option Entry → Option Entry → Type 0
+Added all real None found = LeadsTo all real found
+Added all real (Some e) found = found ≡ Some e
+
+abbrev pub Adds : Held → (List ℕ → Option Placed) → Entries → Entries → Type 0
+Adds all real old new = (name : List ℕ) → Added all (real name) (entry_of (key_of name) old) (entry_of (key_of name) new)
 
 abbrev pub IsScope : Held → Scope → Type 0
-IsScope all s = AreNamePlaces s.decls.now (table_of s) × AreEntries all 0 s.decls.now s.entries.items
+IsScope all s = IsTable all (named_behind 0 s.decls.now) (table_of s.names)
 
 abbrev pub AreScopes : List Scope → Type 0
 AreScopes scopes = (n : ℕ) (s : Scope) → slice_get scopes n ≡ Some s → IsScope (held scopes) s
@@ -84,27 +94,15 @@ Grows old new = (n : ℕ) (decls : List Declaration) → held old n ≡ Some dec
 
 -- the entry of the first declaration of a key
 abbrev pub entry_in : List ℕ → Scope → Option Entry
-entry_in key s = option_and_then (λ i. slice_get s.entries.items i) (lookup (pointwise nat_eq key) (table_of s))
+entry_in key s = entry_of key (table_of s.names)
 
 abbrev pub entry_at : List Scope → ℕ → List ℕ → Option Entry
 entry_at scopes n key = option_and_then (entry_in key) (slice_get scopes n)
-
--- an entry as a type at its place
-abbrev pub placed : Entry → Placed
-placed e = (e.place, e.ty.now)
-
--- a type at a place where one may go on by a path
-abbrev pub IsAt : Held → Entry → Type 0
-IsAt all e = (e.place ≤ 2 ^ 60) × (e.place % (extent_of e.ty.now).alignment ≡ 0) × IsInner all e.inner e.ty.now
 
 -- the same entry where its scope begins here
 abbrev pub moved : ℕ → Entry → Entry
 moved start e = record { place = capped (start + e.place); ty = e.ty; inner = e.inner }
 
--- what is found is the same type at the place as it is kept, and one may go on there
-abbrev pub LeadsTo : Held → Option Placed → Option Entry → Type 0
-LeadsTo all real found = (option_map placed found ≡ capped_placed real) × IfSome found (IsAt all)
-
 -- the component that a name and a path behind it name
-abbrev pub component_behind : List Declaration → List ℕ → List PathStep → Option Component
-component_behind decls name path = component_in (decls ∷ []) (step.Name name ∷ path)
+abbrev pub component_behind : List (List Declaration) → List ℕ → List PathStep → Option Component
+component_behind sections name path = component_in sections (step.Name name ∷ path)

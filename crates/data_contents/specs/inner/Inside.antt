@@ -1,5 +1,5 @@
 -- Components that lie inside the bytes of a data block.
-use Rattle.std.specs.Prelude.{◌≡◌, ℕ, ◌+◌, ◌*◌, ◌<◌, ◌≤◌, List, [], ◌∷◌, Option, Some, None, IfSome}
+use Rattle.std.specs.Prelude.{◌≡◌, ℕ, ◌+◌, ◌*◌, ◌<◌, ◌≤◌, List, [], Option, Some, None, IfSome}
 use Rattle.s7_base.specs.declared.word.Width.{Width}
 use Rattle.stl_rules.specs.Extents.{extent_of_width, width_of}
 use Rattle.stl_rules.specs.Layouts.{breaks_in}
@@ -10,9 +10,9 @@ use Rattle.stl_tree.specs.declared.raw.Declaration.{Declaration}
 use Rattle.stl_tree.specs.declared.raw.ElemType.{ElemType}
 use Rattle.stl_tree.specs.declared.raw.PathStep.{PathStep}
 
--- declarations of a data block that break no rule
-abbrev pub AreKept : List Declaration → Type 0
-AreKept decls = breaks_in most_in_block (decls ∷ []) ≡ []
+-- sections of a data block that break no rule
+abbrev pub AreKept : List (List Declaration) → Type 0
+AreKept sections = breaks_in most_in_block sections ≡ []
 
 -- a number of a width lies inside so many bytes
 pub record Lies (count : ℕ) (at : Component) (w : Width) : Type 0 where
@@ -27,6 +27,6 @@ KindLies count at (Some e) = Lies count at (width_of e)
 abbrev pub IsInside : ℕ → Component → Type 0
 IsInside count at = KindLies count at at.kind
 
--- all components that paths name in declarations
-abbrev pub AreInside : ℕ → List Declaration → Type 0
-AreInside count decls = (path : List PathStep) → IfSome (component_in (decls ∷ []) path) (IsInside count)
+-- all components that paths name in sections
+abbrev pub AreInside : ℕ → List (List Declaration) → Type 0
+AreInside count sections = (path : List PathStep) → IfSome (component_in sections path) (IsInside count)

@@ -6,7 +6,7 @@ use Rattle.s7_base.specs.declared.reason.Reason.TheVariants.{BadSyntax, TooDeep}
 use Rattle.s7_base.specs.declared.reason.Rejection.{Rejection}
 use Rattle.s7_base.specs.declared.reason.Rejection.TheVariants.{Refused}
 use Rattle.st_lexer.specs.StTokens.{tokens_of}
-use Rattle.st_grammar.specs.Levels.{deepest}
+use Rattle.st_tree.specs.Depth.{deepest}
 use Rattle.st_grammar.specs.Syntax.{Lined, all_lined}
 use Rattle.st_grammar.specs.inner.Machine.{code, TextSoFar, State, start, over}
 use Rattle.st_grammar.specs.inner.Steps.{next, last_level}

@@ -1,6 +1,6 @@
 -- What statements cost at a time, by what a waiting frame and a call cost.
 use Rattle.std.specs.Prelude.{ℕ, ◌+◌, max, List, map}
-use Rattle.st_tree.specs.Depth.{greatest}
+use Rattle.s7_base.specs.Numbers.{greatest}
 use Rattle.st_tree.specs.declared.expr.Var.{Var}
 use Rattle.st_tree.specs.declared.program.Arm.{Arm, fold-Arm}
 use Rattle.st_tree.specs.declared.program.CaseArm.{CaseArm, fold-CaseArm}

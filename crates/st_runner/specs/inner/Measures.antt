@@ -6,7 +6,7 @@ use Rattle.st_runner.specs.declared.frame.Frame.{Frame}
 use Rattle.st_runner.specs.declared.frame.Frame.TheVariants as frame
 use Rattle.st_runner.specs.declared.steps.TheConstants.{UNIT_FRAMES}
 use Rattle.st_runner.specs.inner.Costs.{Costs, body_most}
-use Rattle.st_tree.specs.Depth.{greatest}
+use Rattle.s7_base.specs.Numbers.{greatest}
 use Rattle.st_runner.specs.inner.Runnable.{chain_costs}
 use Rattle.st_tree.specs.Chains.{chain_of}
 use Rattle.st_tree.specs.declared.expr.Var.{Var}

@@ -5,7 +5,7 @@ use Rattle.stl_tree.specs.Now.{Activation}
 
 -- a frame as an activation; it has no formals, since no call with formals is built
 abbrev pub activation : Frame → Activation
-activation f = record { block = f.block; at = f.at; db = f.db; di = f.di; formals = [] }
+activation f = record { block = f.block; at = f.at; instance = f.instance; db = f.db; di = f.di; formals = [] }
 
 -- the first activation was taken, or there was none and nothing changed
 abbrev pub IsPopped : Option Frame → List Activation → List Activation → Type 0

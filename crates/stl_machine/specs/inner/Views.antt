@@ -1,29 +1,14 @@
 -- What the machine is made of, as its definitions see it.
 use Rattle.std.specs.Prelude.{◌∷◌, List}
-use Rattle.status_word.specs.Flags.{bits}
 use Rattle.stl_machine.specs.declared.frames.Frames.{Frames}
 use Rattle.stl_machine.specs.declared.machine.Progress.{Progress}
 use Rattle.stl_machine.specs.declared.machine.Progress.TheVariants as progress
-use Rattle.stl_machine.specs.declared.state.Registers.{Registers}
 use Rattle.stl_machine.specs.declared.state.State.{State}
 use Rattle.stl_machine.specs.inner.Activations.{activation}
+use Rattle.stl_registers.specs.Values.{values}
 use Rattle.stl_tree.specs.Now.{Activation, Now}
-use Rattle.stl_tree.specs.Registers.{RegisterValues}
 use Rattle.stl_tree.specs.StlRun.{Standing, running, over}
 use Rattle.stl_tree.specs.declared.program.Program.{Program}
-
--- the registers as the instruction table sees them
-abbrev pub values : Registers → RegisterValues
-values r =
-    record {
-      accu1 = r.accu1;
-      accu2 = r.accu2;
-      ar1 = r.ar1;
-      ar2 = r.ar2;
-      db = r.db;
-      di = r.di;
-      status = bits r.status;
-    }
 
 -- the activations, the running one first
 abbrev pub activations : Frames → List Activation

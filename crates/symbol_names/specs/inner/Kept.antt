@@ -14,11 +14,12 @@ use Rattle.stl_rules.specs.Names.{block_number, may_have}
 use Rattle.stl_rules.specs.Programs.{block_name, block_with, symbol_of}
 use Rattle.stl_rules.specs.Raw.{Scope, most_local}
 use Rattle.stl_rules.specs.DeclarationRules.{is_named, key_of}
-use Rattle.stl_rules.specs.Stages.{broken_if, content_breaks, heading_breaks, instr_breaks, is_address}
+use Rattle.stl_rules.specs.Stages.{broken_if, heading_breaks, instr_breaks, is_address, valued_breaks, content_breaks}
 use Rattle.stl_tree.specs.declared.program.Block.{Block}
 use Rattle.stl_tree.specs.declared.program.Symbol.{Symbol}
 use Rattle.stl_tree.specs.declared.raw.BlockKind.{BlockKind}
 use Rattle.stl_tree.specs.declared.raw.BlockKind.TheVariants as block
+use Rattle.stl_tree.specs.declared.raw.Declaration.{Declaration}
 use Rattle.stl_tree.specs.declared.raw.RawBlock.{RawBlock}
 use Rattle.stl_tree.specs.declared.raw.RawData.{RawData}
 use Rattle.stl_tree.specs.declared.raw.RawDataKind.{RawDataKind}
@@ -30,7 +31,7 @@ use Rattle.stl_tree.specs.declared.raw.SymbolLine.{SymbolLine}
 -- Data blocks
 
 -- what a heading and what stands behind it break
-abbrev pub db_breaks : List ℕ → RawData → Result ℕ Reason → List Break
+abbrev pub db_breaks : List (BlockKind × ℕ) → RawData → Result ℕ Reason → List Break
 db_breaks before d number = heading_breaks block.Db d.line before number ++ content_breaks d.initial d.kind
 
 -- the bytes of declarations where nothing is broken
@@ -38,8 +39,11 @@ abbrev pub bytes_unless : Option Break → List ℕ → Option (List ℕ)
 bytes_unless None bytes = Some bytes
 bytes_unless (Some first) bytes = None
 
+abbrev pub bytes_of_sections : List RawInitial → List (List Declaration) → Option (List ℕ)
+bytes_of_sections values sections = bytes_unless (first_of_all (valued_breaks sections values)) (bytes_with sections values)
+
 abbrev pub bytes_kept : List RawInitial → RawDataKind → Option (List ℕ)
-bytes_kept values (data_kind.Own decls) = bytes_unless (first_of_all (content_breaks values (data_kind.Own decls))) (bytes_with decls values)
+bytes_kept values (data_kind.Own decls) = bytes_of_sections values (decls ∷ [])
 bytes_kept values (data_kind.Instance name) = None
 
 -- a data block by its number and its bytes
@@ -62,7 +66,7 @@ abbrev pub content_breaks_of : Scope → List Break
 content_breaks_of scope = breaks_in most_local (scope.block.temps ∷ []) ++ flat_map (instr_breaks scope) scope.block.body
 
 -- what a heading, the temporaries and the instructions break
-abbrev pub block_breaks : RawProgram → List ℕ → RawBlock → List Break
+abbrev pub block_breaks : RawProgram → List (BlockKind × ℕ) → RawBlock → List Break
 block_breaks text before raw =
     heading_breaks raw.kind raw.line before (block_number text.symbols raw.kind raw.name) ++ breaks_in most_local (raw.temps ∷ [])
     ++ flat_map (instr_breaks (record { text = text; block = raw })) raw.body

@@ -1,5 +1,5 @@
 -- The declarations of data blocks, and those that break a rule.
-use Rattle.std.specs.Prelude.{ℕ, Bool, false, List, []}
+use Rattle.std.specs.Prelude.{ℕ, Bool, false, List, [], ◌∷◌}
 use Rattle.stl_rules.specs.Raw.{are_refused, most_in_block}
 use Rattle.stl_tree.specs.declared.raw.Declaration.{Declaration}
 use Rattle.stl_tree.specs.declared.raw.RawData.{RawData}
@@ -8,7 +8,7 @@ use Rattle.stl_tree.specs.declared.raw.RawDataKind.TheVariants as data_kind
 
 -- the declarations of a data block break a rule
 abbrev pub is_refused : RawDataKind → Bool
-is_refused (data_kind.Own decls) = are_refused most_in_block decls
+is_refused (data_kind.Own decls) = are_refused most_in_block (decls ∷ [])
 is_refused (data_kind.Instance name) = false
 
 -- the declarations of a data block; an instance has none of its own
@@ -16,6 +16,6 @@ abbrev pub decls_of : RawDataKind → List Declaration
 decls_of (data_kind.Own decls) = decls
 decls_of (data_kind.Instance name) = []
 
--- the same behind the most bytes that they may take
-abbrev pub own_of : RawData → ℕ × List Declaration
-own_of d = (most_in_block, decls_of d.kind)
+-- these as one section, behind the most bytes that they may take
+abbrev pub own_of : RawData → ℕ × List (List Declaration)
+own_of d = (most_in_block, decls_of d.kind ∷ [])

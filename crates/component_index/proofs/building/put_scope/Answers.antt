@@ -6,6 +6,5 @@ use Rattle.component_index.proofs.building.put_scope.Goals as goal
 
 pub returns-clause-scopes : goal.returns-clause-scopes
 returns-clause-scopes c =
-    let s : Scope = record { decls = c.args.decls; entries = c.args.entries; names = c.in_ok-names.names } in
-    subst AreScopes (sym c.in_ok-push.ensures.items)
-    (pushed_scopes c.args.scopes.now.items s c.requires.scopes (c.in_ok-names.ensures, c.requires.entries))
+    let s : Scope = record { decls = c.args.decls; names = c.args.names } in
+    subst AreScopes (sym c.in_ok-push.ensures.items) (pushed_scopes c.args.scopes.now.items s c.requires.scopes c.requires.names)

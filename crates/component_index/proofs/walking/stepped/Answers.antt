@@ -6,7 +6,7 @@ use Rattle.stl_tree.specs.declared.raw.DeclType.TheVariants as type
 use Rattle.stl_tree.specs.declared.raw.PathStep.TheVariants as step
 use Rattle.component_index.specs.inner.Scopes.{LeadsTo, entry_at, held, moved}
 use Rattle.component_index.proofs.Growing.{if_ok}
-use Rattle.component_index.proofs.Inners.{array_bits}
+use Rattle.symbol_layout.proofs.Structs.{array_bits}
 use Rattle.component_index.proofs.Stepping.{element_leads, struct_leads}
 use Rattle.component_index.proofs.walking.stepped.Goals as goal
 

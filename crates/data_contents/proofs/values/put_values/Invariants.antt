@@ -6,5 +6,5 @@ use Rattle.data_contents.proofs.values.put_values.Given as goal
 
 abbrev pub invariant-loop-v : goal.invariant-loop-v
 invariant-loop-v l =
-    (l.bytes ≡ fold (with_value l.decls) l.initial.bytes (take l.v-index l.values))
-    × (l.breaks ≡ l.initial.breaks ++ flat_map (initial_breaks l.decls) (take l.v-index l.values))
+    (l.bytes ≡ fold (with_value l.components) l.initial.bytes (take l.v-index l.values))
+    × (l.breaks ≡ l.initial.breaks ++ flat_map (initial_breaks l.components) (take l.v-index l.values))

@@ -1,7 +1,7 @@
 use Rattle.std.proofs.Common.{sym, ◌∙◌, subst}
 use Rattle.std.specs.List.{slice_split}
 use Rattle.image_text.specs.Image.{is_blank, shape_of}
-use Rattle.image_text.specs.Reading.{LineDoes, view}
+use Rattle.image_text.specs.inner.Fields.{LineDoes, view}
 use Rattle.image_text.proofs.Lines.{line_found, line_spoken}
 use Rattle.image_text.proofs.read.apply_line.Goals as goal
 

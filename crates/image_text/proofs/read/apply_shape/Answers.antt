@@ -3,7 +3,7 @@ use Rattle.std.proofs.lemmas.Grind.{common_steps}
 use Rattle.memory_areas.specs.Access.{or_none}
 use Rattle.memory_areas.specs.Areas.{bytes_of}
 use Rattle.image_text.specs.Image.{has_room, is_blank, values_of}
-use Rattle.image_text.specs.Reading.{IsUsable, pieces_left}
+use Rattle.image_text.specs.inner.Fields.{IsUsable, pieces_left}
 use Rattle.image_text.proofs.Writing.{count_is, ready, usable_written}
 use Rattle.image_text.proofs.read.apply_shape.Goals as goal
 

@@ -2,7 +2,7 @@ use Rattle.std.proofs.Common.{◌≡◌, length, arith}
 use Rattle.std.proofs.lemmas.Grind.{common_steps}
 use Rattle.memory_areas.specs.Access.{or_none}
 use Rattle.image_text.specs.Image.{is_blank, values_of}
-use Rattle.image_text.specs.Reading.{pieces_left}
+use Rattle.image_text.specs.inner.Fields.{pieces_left}
 use Rattle.image_text.proofs.Writing.{field_done, fields_done}
 use Rattle.image_text.proofs.read.put_fields.Goals as goal
 

@@ -3,7 +3,7 @@ use Rattle.std.specs.Prelude.{IsSome}
 use Rattle.memory_areas.specs.Access.{or_none}
 use Rattle.memory_areas.specs.Areas.{bytes_of}
 use Rattle.image_text.specs.Image.{has_room, is_blank, values_of, written}
-use Rattle.image_text.specs.Reading.{MemoryStays, pieces_left}
+use Rattle.image_text.specs.inner.Fields.{MemoryStays, pieces_left}
 use Rattle.image_text.proofs.read.put_fields.Given as goal
 
 -- there is room for the bytes that are left, and with them the memory is the one that is wanted

@@ -2,7 +2,7 @@ use Rattle.std.proofs.Common.{◌≡◌, ◌==◌, length}
 use Rattle.std.specs.List.{slice_split}
 use Rattle.memory_areas.specs.Areas.{IsMemoryOf}
 use Rattle.image_text.specs.Image.{image_of, lines_on}
-use Rattle.image_text.specs.Reading.{IsUsable}
+use Rattle.image_text.specs.inner.Fields.{IsUsable}
 use Rattle.image_text.proofs.read.read_image.Given as goal
 
 -- the lines that are left, on the memory so far, give what the image gives

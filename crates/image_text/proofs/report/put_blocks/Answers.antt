@@ -2,7 +2,7 @@ use Rattle.std.proofs.Common.{◌≡◌, ◌++◌, ap, ◌∙◌, arith}
 use Rattle.std.specs.List.{flat_map}
 use Rattle.std.proofs.lemmas.Grind.{common_steps}
 use Rattle.memory_areas.specs.Areas.{numbers_of}
-use Rattle.image_text.specs.Reading.{numbered_text}
+use Rattle.image_text.specs.inner.Fields.{numbered_text}
 use Rattle.image_text.proofs.Shown.{shown}
 use Rattle.image_text.proofs.report.put_blocks.Goals as goal
 

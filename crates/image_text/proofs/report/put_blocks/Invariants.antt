@@ -1,7 +1,7 @@
 use Rattle.std.proofs.Common.{◌≡◌, ◌++◌, take}
 use Rattle.std.specs.List.{flat_map}
 use Rattle.memory_areas.specs.Areas.{numbers_of}
-use Rattle.image_text.specs.Reading.{numbered_text}
+use Rattle.image_text.specs.inner.Fields.{numbered_text}
 use Rattle.image_text.proofs.report.put_blocks.Given as goal
 
 abbrev pub invariant-loop-number : goal.invariant-loop-number

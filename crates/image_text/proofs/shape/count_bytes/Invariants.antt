@@ -1,7 +1,7 @@
 use Rattle.std.proofs.Common.{◌≡◌, ◌≤◌, ◌+◌, length}
 use Rattle.std.specs.Option.{option_map}
 use Rattle.image_text.specs.Image.{is_blank, values_of}
-use Rattle.image_text.specs.Reading.{pieces_left}
+use Rattle.image_text.specs.inner.Fields.{pieces_left}
 use Rattle.image_text.proofs.shape.count_bytes.Given as goal
 
 -- the count so far and the bytes that are left are all bytes

@@ -1,7 +1,7 @@
 use Rattle.std.proofs.Common.{◌≡◌, length}
 use Rattle.std.specs.List.{list_any}
 use Rattle.image_text.specs.Image.{is_blank, is_empty}
-use Rattle.image_text.specs.Reading.{pieces_left}
+use Rattle.image_text.specs.inner.Fields.{pieces_left}
 use Rattle.image_text.proofs.shape.has_empty.Given as goal
 
 -- an empty field is among those that are left if it is among all

@@ -8,9 +8,9 @@ use Rattle.stl_rules.specs.Extents.{elements_in}
 use Rattle.stl_rules.specs.declared.laid.Extent.{Extent}
 use Rattle.symbol_layout.proofs.contents.«+contents».Goals as goal
 
-pub bits_of-loop-d-preserved : goal.bits_of-loop-d-preserved
-bits_of-loop-d-preserved t c =
-    laid_next (bits_behind [] c.args.decls.now) c.loop-d.bits.items c.fill.new.bits.items c.in_ok-own.own.items
+pub put_bits-loop-d-preserved : goal.put_bits-loop-d-preserved
+put_bits-loop-d-preserved t c =
+    laid_next (bits_behind c.args.bits.now.items c.args.decls.now) c.loop-d.bits.items c.fill.new.bits.items c.in_ok-own.own.items
     c.extend_from_slice.new.self.items c.args.decls.now c.loop-d.d-index c.d-item.result c.loop-d-test.true c.d-item.is
     (c.in_ok-fill.ensures ∙ ap (λ (x : Extent). filled_to x.alignment c.loop-d.bits.items) c.extent_of.ensures.same)
     (c.in_ok-own.ensures
@@ -20,9 +20,9 @@ bits_of-loop-d-preserved t c =
     ∙ ap (λ (own : List Bool). c.fill.new.bits.items ++ own) c.as_slice-in-loop-d-2.ensures.value)
     c.loop-d.invariant
 
-pub bits_of-returns : goal.bits_of-returns
-bits_of-returns t c =
-    laid_all (bits_behind [] c.args.decls.now) c.loop-d.bits.items c.args.decls.now c.loop-d.d-index c.loop-d-test.false
+pub put_bits-returns : goal.put_bits-returns
+put_bits-returns t c =
+    laid_all (bits_behind c.args.bits.now.items c.args.decls.now) c.loop-d.bits.items c.args.decls.now c.loop-d.d-index c.loop-d-test.false
     c.loop-d.invariant
 
 pub type_bits-returns-in_ok-fill-in-Array : goal.type_bits-returns-in_ok-fill-in-Array

@@ -4,4 +4,4 @@ use Rattle.symbol_layout.specs.Kept.{capped}
 use Rattle.symbol_layout.proofs.extent.«+extent».Given as goal
 
 abbrev pub invariant-end_of_all-loop-d : goal.invariant-end_of_all-loop-d
-invariant-end_of_all-loop-d l = l.end ≡ capped (end_of_all 0 (take l.d-index l.decls))
+invariant-end_of_all-loop-d l = l.end ≡ capped (end_of_all l.start (take l.d-index l.decls))

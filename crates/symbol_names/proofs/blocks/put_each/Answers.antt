@@ -2,13 +2,26 @@ use Rattle.std.proofs.Common.{◌≡◌, ◌++◌, map, refl, ap, sym, take, ◌
 use Rattle.std.proofs.lemmas.List.{append-nil, take_all}
 use Rattle.symbol_names.specs.inner.Firsts.{with_breaks}
 use Rattle.symbol_names.specs.inner.Kept.{block_breaks, block_within}
-use Rattle.name_tables.specs.Before.{block_numbers, numbers_before}
+use Rattle.name_tables.specs.Before.{block_numbers, number_of_block, numbers_before}
 use Rattle.name_tables.proofs.Lists.{map_turn}
-use Rattle.symbol_names.proofs.Turns.{block_turn, blocks_ended}
+use Rattle.symbol_names.proofs.Turns.{block_turn, blocks_ended, long_enough, number_is}
 use Rattle.symbol_names.proofs.blocks.put_each.Goals as goal
 
 pub loop-place-init : goal.loop-place-init
 loop-place-init c = (sym (append-nil c.args.blocks.now.made), refl)
+
+-- the blocks of the text are those that are gone over
+pub number_at-number-requires : goal.number_at-number-requires
+number_at-number-requires c =
+    let symbols = c.args.names.now.symbols in
+    long_enough (number_of_block symbols) c.args.raws.now c.loop-place.place c.index-raws-place.result c.loop-place-test.true c.index-raws-place.is
+    c.blocks-in-loop-place.result.now (c.blocks-in-loop-place.ensures ∙ ap (block_numbers symbols) (sym c.requires.raws))
+
+pub put_block-requires-clause-number : goal.put_block-requires-clause-number
+put_block-requires-clause-number c =
+    let symbols = c.args.names.now.symbols in
+    number_is (number_of_block symbols) c.args.raws.now c.loop-place.place c.index-raws-place.result c.loop-place-test.true c.index-raws-place.is
+    c.blocks-in-loop-place.result.now c.number_at-number.result (c.blocks-in-loop-place.ensures ∙ ap (block_numbers symbols) (sym c.requires.raws)) c.number_at-number.ensures
 
 pub loop-place-preserved : goal.loop-place-preserved
 loop-place-preserved c =
@@ -17,7 +30,8 @@ loop-place-preserved c =
     let text = c.args.names.now in
     let first = c.loop-place.blocks.first in
     let noted : c.put_block.new.blocks.first ≡ with_breaks first (block_breaks text (numbers_before (take place (block_numbers text.symbols c.args.raws.now))) raw)
-    = c.in_ok-put_block.ensures.first ∙ ap (λ all. with_breaks first (block_breaks text (numbers_before (take place all)) raw)) c.requires.numbers in (
+    = c.in_ok-put_block.ensures.first
+    ∙ ap (λ all. with_breaks first (block_breaks text (numbers_before (take place (block_numbers text.symbols all))) raw)) (sym c.requires.raws) in (
       map_turn (block_within text) c.args.blocks.now.made c.loop-place.blocks.made c.put_block.new.blocks.made c.args.raws.now place raw c.loop-place-test.true
           c.index-raws-place.is c.loop-place.invariant.0 c.in_ok-put_block.ensures.made,
       block_turn text first c.put_block.new.blocks.first _ c.args.raws.now place raw c.loop-place-test.true c.index-raws-place.is noted c.loop-place.invariant.1,

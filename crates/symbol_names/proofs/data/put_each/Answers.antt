@@ -5,15 +5,28 @@ use Rattle.stl_rules.specs.Names.{block_number}
 use Rattle.stl_tree.specs.declared.raw.BlockKind.TheVariants as block
 use Rattle.symbol_names.specs.inner.Firsts.{with_breaks}
 use Rattle.symbol_names.specs.inner.Kept.{data_kept, db_breaks}
-use Rattle.name_tables.specs.Before.{db_numbers, numbers_before}
+use Rattle.name_tables.specs.Before.{db_numbers, number_of_db, numbers_before}
 use Rattle.symbol_names.specs.inner.Refused.{own_of}
 use Rattle.name_tables.proofs.Lists.{map_turn}
 use Rattle.symbol_names.proofs.Filtered.{put_turn}
-use Rattle.symbol_names.proofs.Turns.{db_turn, dbs_ended}
+use Rattle.symbol_names.proofs.Turns.{db_turn, dbs_ended, long_enough, number_is}
 use Rattle.symbol_names.proofs.data.put_each.Goals as goal
 
 pub loop-place-init : goal.loop-place-init
 loop-place-init c = (sym (append-nil c.args.found.now.laid.items), sym (append-nil c.args.found.now.made), refl)
+
+-- the data blocks of the text are those that are gone over
+pub number_at-number-requires : goal.number_at-number-requires
+number_at-number-requires c =
+    let symbols = c.args.names.now.symbols in
+    long_enough (number_of_db symbols) c.args.dbs.now c.loop-place.place c.index-dbs-place.result c.loop-place-test.true c.index-dbs-place.is
+    c.dbs.result.now (c.dbs.ensures ∙ ap (db_numbers symbols) (sym c.requires))
+
+pub put_data-requires : goal.put_data-requires
+put_data-requires c =
+    let symbols = c.args.names.now.symbols in
+    number_is (number_of_db symbols) c.args.dbs.now c.loop-place.place c.index-dbs-place.result c.loop-place-test.true c.index-dbs-place.is
+    c.dbs.result.now c.number_at-number.result (c.dbs.ensures ∙ ap (db_numbers symbols) (sym c.requires)) c.number_at-number.ensures
 
 pub loop-place-preserved : goal.loop-place-preserved
 loop-place-preserved c =

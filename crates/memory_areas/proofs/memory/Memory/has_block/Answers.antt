@@ -1,6 +1,6 @@
 use Rattle.std.proofs.Common.{◌∙◌, ap}
 use Rattle.memory_areas.specs.Areas.{Contents, block_of}
-use Rattle.memory_areas.specs.Memory.{position_of}
+use Rattle.memory_areas.specs.inner.Stored.{position_of}
 use Rattle.std.specs.Prelude.{is_some}
 use Rattle.memory_areas.proofs.Blocks.{has_stored}
 use Rattle.memory_areas.proofs.memory.Memory.has_block.Goals as goal

@@ -2,7 +2,7 @@ use Rattle.std.proofs.Common.{◌≡◌, ◌∙◌, ◌+◌, ◌≤◌, ◌<◌,
 use Rattle.std.proofs.lemmas.List.{with_items_is}
 use Rattle.memory_areas.specs.Access.{or_none}
 use Rattle.memory_areas.specs.Areas.{Contents, bytes_of, with_bytes, replaced}
-use Rattle.memory_areas.specs.Memory.{HasRoom, joined, position_of}
+use Rattle.memory_areas.specs.inner.Stored.{HasRoom, joined, position_of}
 use Rattle.memory_areas.specs.declared.data_block.DataBlock.{DataBlock}
 use Rattle.memory_areas.specs.declared.place.Area.{Area}
 use Rattle.memory_areas.specs.declared.place.Area.TheVariants as area

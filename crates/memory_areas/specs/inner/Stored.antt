@@ -1,0 +1,24 @@
+-- How data blocks are stored: their numbers in one list, their bytes in another.
+use Rattle.std.specs.Prelude.{ℕ, ◌+◌, ◌≤◌, ◌==◌, if◌then◌else◌, List, [], ◌∷◌, length, Option, Some, None}
+use Rattle.memory_areas.specs.declared.data_block.DataBlock.{DataBlock}
+
+-- an area that is there has room for some bytes from byte i on
+abbrev pub HasRoom : Option (List ℕ) → ℕ → ℕ → Type 0
+HasRoom None i count = ⊥
+HasRoom (Some bytes) i count = i + count ≤ length bytes
+
+-- data blocks from their numbers and their bytes
+abbrev pub joined : List ℕ → List (List ℕ) → List DataBlock
+joined [] bytes = []
+joined (n ∷ ns) [] = []
+joined (n ∷ ns) (b ∷ bs) = record { number = n; bytes = b } ∷ joined ns bs
+
+-- one place further
+abbrev pub one_further : Option ℕ → Option ℕ
+one_further None = None
+one_further (Some i) = Some (i + 1)
+
+-- the place of a number in a list, counted from 0
+abbrev pub position_of : ℕ → List ℕ → Option ℕ
+position_of n [] = None
+position_of n (m ∷ ms) = if m == n then Some 0 else one_further (position_of n ms)
