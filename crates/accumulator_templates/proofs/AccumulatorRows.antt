@@ -12,7 +12,8 @@ use Rattle.st_tree.specs.declared.program.Located.{Located}
 use Rattle.accumulator_templates.specs.Moves.{taken_of}
 use Rattle.accumulator_templates.proofs.Worths.{dword}
 use Rattle.row_templates.specs.Builders.{set_of}
-use Rattle.row_templates.proofs.Alike.{AreAlike, AreInRange, IsKept}
+use Rattle.row_templates.specs.Related.{AreAlike}
+use Rattle.instruction_laws.specs.Ranges.{AreInRange}
 use Rattle.row_templates.proofs.RegisterRows.{IsRow, registers_after}
 use Rattle.row_templates.proofs.Stages.{known, parts, stage}
 
@@ -28,7 +29,7 @@ module _ (g : List Located) (s : State) (used : ℕ) (r : RegisterValues) (sta :
   one_in_range : (a : ℕ) → a < 2 ^ 32 → AreInRange (with_accu1 a r)
   one_in_range a h = record { accu1 = h; accu2 = range.accu2; ar1 = range.ar1; ar2 = range.ar2; db = range.db; di = range.di }
 
-  one_alike : (e : Expr) (a : ℕ) → AreAlike IsKept (with_accu1 a r) (registers_after (set_of reg.Accu1 e ∷ []) (dword a ∷ []) (known r sta))
+  one_alike : (e : Expr) (a : ℕ) → AreAlike (with_accu1 a r) (registers_after (set_of reg.Accu1 e ∷ []) (dword a ∷ []) (known r sta))
   one_alike e a reg.Sta asked = elim asked [ ]
   one_alike e a q asked = refl
 
@@ -43,12 +44,12 @@ module _ (g : List Located) (s : State) (used : ℕ) (r : RegisterValues) (sta :
   one_stays a same =
       record { values = []; have = tt; alike = alike; range = one_in_range a (subst (λ (n : ℕ). n < 2 ^ 32) same range.accu1) }
     where
-      alike : AreAlike IsKept (with_accu1 a r) (registers_after [] [] (known r sta))
+      alike : AreAlike (with_accu1 a r) (registers_after [] [] (known r sta))
       alike reg.Accu1 asked = ap pos same
       alike reg.Sta asked = elim asked [ ]
       alike q asked = refl
 
-  two_alike : (e : Expr) (a : ℕ) → AreAlike IsKept (with_accu2 a r) (registers_after (set_of reg.Accu2 e ∷ []) (dword a ∷ []) (known r sta))
+  two_alike : (e : Expr) (a : ℕ) → AreAlike (with_accu2 a r) (registers_after (set_of reg.Accu2 e ∷ []) (dword a ∷ []) (known r sta))
   two_alike e a reg.Sta asked = elim asked [ ]
   two_alike e a q asked = refl
 
@@ -63,7 +64,7 @@ module _ (g : List Located) (s : State) (used : ℕ) (r : RegisterValues) (sta :
         range = record { accu1 = range.accu1; accu2 = h; ar1 = range.ar1; ar2 = range.ar2; db = range.db; di = range.di };
       }
 
-  taken_alike : (e : Expr) (v : ℕ) → AreAlike IsKept (loaded v r) (registers_after (taken_of e) (dword r.accu1 ∷ dword v ∷ []) (known r sta))
+  taken_alike : (e : Expr) (v : ℕ) → AreAlike (loaded v r) (registers_after (taken_of e) (dword r.accu1 ∷ dword v ∷ []) (known r sta))
   taken_alike e v reg.Sta asked = elim asked [ ]
   taken_alike e v q asked = refl
 

@@ -19,7 +19,7 @@ use Rattle.accumulator_templates.proofs.AccumulatorRows.{one_set}
 use Rattle.accumulator_templates.proofs.Patterns.{pattern_below_32}
 use Rattle.accumulator_templates.proofs.Worths.{dword, high_first, low_worth, word}
 use Rattle.row_templates.specs.Builders.{convert_of, not_of, read_of}
-use Rattle.row_templates.proofs.Alike.{AreInRange}
+use Rattle.instruction_laws.specs.Ranges.{AreInRange}
 use Rattle.row_templates.proofs.RegisterRows.{IsRow}
 use Rattle.row_templates.proofs.Stages.{known, parts, stage}
 

@@ -1,5 +1,6 @@
--- The statements of each instruction write one thing each, and are few, and so are the nodes of their expressions.
-use Rattle.std.proofs.Common.{◌≡◌, ℕ, ◌≤◌, pos, Bool, true, false, if◌then◌else◌, List, [], ◌∷◌, ◌++◌, length, Option, Some, None, refl, arith}
+-- The statements of each instruction write one thing each, are few, and so are the nodes of their expressions, and
+-- write their locals in order.
+use Rattle.std.proofs.Common.{◌≡◌, ℕ, ◌+◌, ◌≤◌, pos, Bool, true, false, if◌then◌else◌, List, [], ◌∷◌, ◌++◌, length, Option, Some, None, refl, ap, ◌∙◌, arith}
 use Rattle.std.specs.Prelude.{ℤ}
 use Rattle.std.specs.Ordering.{int_eq}
 use Rattle.std.proofs.lemmas.List.{length-append}
@@ -19,164 +20,174 @@ use Rattle.st_tree.specs.declared.expr.Expr.{Expr}
 use Rattle.st_tree.specs.declared.expr.Var.TheVariants as var
 use Rattle.st_tree.specs.declared.program.Stmt.{Stmt}
 use Rattle.accumulator_templates.specs.Conversions.{cad_of, caw_of, invd_of, invi_of, itd_of}
-use Rattle.accumulator_templates.specs.DataBlocks.{block_exchange_of, block_open_of, number_load_of}
-use Rattle.accumulator_templates.specs.Logic.{computed_of, fixed_of, logic_of}
-use Rattle.accumulator_templates.specs.Moves.{exchange_of, load_of, pop_of, push_of, status_load_of, status_store_of, taken_of, transfer_of}
-use Rattle.accumulator_templates.specs.Parts.{cut_of, extended_of}
+use Rattle.accumulator_templates.specs.DataBlocks.{block_exchange_of, block_open_of, number_load_of, types_of_block_exchange, types_of_block_open}
+use Rattle.accumulator_templates.specs.Logic.{computed_of, fixed_of, logic_of, type_of_row, types_of_logic}
+use Rattle.accumulator_templates.specs.Moves.{exchange_of, load_of, pop_of, push_of, status_load_of, status_store_of, taken_of, transfer_of, types_of_exchange, types_of_load}
+use Rattle.accumulator_templates.specs.Parts.{extended_of}
 use Rattle.accumulator_templates.specs.Sums.{add_dword_of, add_word_of, dec_of, inc_of, unless_zero}
 use Rattle.row_templates.specs.Writes.{AreWrites}
-use Rattle.row_templates.specs.Builders.{read_of, set_of}
-use Rattle.row_templates.specs.Fetching.{fetch_of, fetched_of, reach_of, writing_of}
+use Rattle.row_templates.specs.Builders.{set_of}
+use Rattle.row_templates.specs.Fetching.{fetch_of, fetched_of, reach_of, types_fetched, types_reached, writing_of}
 use Rattle.row_templates.specs.Nodes.{nodes, nodes_in}
+use Rattle.graph_rules.proofs.Runs.{disorder, disorder_in_parts, locals_set, order_equations, sets_in_parts}
+use Rattle.row_templates.proofs.Obligations.{HasSizes, with_sizes}
 use Rattle.row_templates.proofs.FetchBounds.{fetch_length, fetch_nodes, fetch_writes, fetched_nodes, reach_length, reach_nodes, reach_writes, writes_in_parts, writing_nodes, writing_writes}
+use Rattle.row_templates.proofs.FetchOrder.{fetch_disorder, fetch_sets, fetched_misses, misses, reach_disorder, reach_sets, writing_disorder, writing_sets}
 use Rattle.row_templates.proofs.Sizes.{counts, of_append, of_assign, of_nothing}
-
--- at most eleven statements with at most 91 nodes, each an assignment or an area write
-pub record AreFew (body : List Stmt) : Type 0 where
-  pub writes : AreWrites body
-  pub statements : length body ≤ 11
-  pub nodes : nodes_in body ≤ 91
-
-counted : (body : List Stmt) (statements nodes : ℕ) → AreWrites body → length body ≡ statements → nodes_in body ≡ nodes → statements ≤ 11 → nodes ≤ 91 → AreFew body
-counted body statements nodes a e f h k = record { writes = a; statements = omega arith; nodes = omega arith }
 
 -- Loading, storing and moving
 
--- statements behind those that fetch an operand
-behind_few : (before body : List Stmt) (statements nodes : ℕ) → AreWrites before → length before ≤ 3 → nodes_in before ≤ 13
-    → AreWrites body → length body ≡ statements → nodes_in body ≡ nodes → statements ≤ 8 → nodes ≤ 78 → AreFew (before ++ body)
-behind_few before body statements nodes a short low b e f h k =
+-- statements behind those that fetch an operand, which set no more locals
+behind_few : (first : ℕ) (o : Operand) (w : Width) (body : List Stmt) (statements nodes : ℕ) → AreWrites body → length body ≡ statements → nodes_in body ≡ nodes
+    → statements ≤ 8 → nodes ≤ 78 → disorder (first + length (types_fetched o w)) body ≡ 0 → locals_set body ≡ 0
+    → HasSizes first (types_fetched o w) (fetch_of first o w ++ body)
+behind_few first o w body statements nodes b e f h k order none =
+    let before : List Stmt = fetch_of first o w in
+    let sets : locals_set before ≡ length (types_fetched o w) = fetch_sets first o w in
     record {
-      writes = writes_in_parts before body a b;
-      statements = omega (arith, length-append before body);
-      nodes = omega (arith, of_append before body);
+      writes = writes_in_parts before body (fetch_writes first o w) b;
+      few = omega (arith, length-append before body, fetch_length first o w);
+      small = omega (arith, of_append before body, fetch_nodes first o w);
+      order = disorder_in_parts first before body (fetch_disorder first o w) (ap (λ (n : ℕ). disorder (first + n) body) sets ∙ order);
+      sets = omega (arith, sets_in_parts before body);
     }
+
+taken_disorder : (n : ℕ) (w : Width) (e : Expr) → misses n e ≡ 0 → disorder n (taken_of (extended_of w e)) ≡ 0
+taken_disorder n width.Bit e low = simp (order_equations, low)
+taken_disorder n width.Byte e low = simp (order_equations, low)
+taken_disorder n width.Word e low = simp (order_equations, low)
+taken_disorder n width.Dword e low = simp (order_equations, low)
 
 -- L of an operand, by the expression as which it is read
-fetched_few : (first : ℕ) (o : Operand) (w : Width) (e : Expr) → nodes e ≡ 1 → AreFew (fetch_of first o w ++ taken_of (extended_of w e))
-fetched_few first o width.Bit e one =
-    behind_few (fetch_of first o width.Bit) (taken_of (extended_of width.Bit e)) 2 5 (fetch_writes first o width.Bit) (fetch_length first o width.Bit)
-    (fetch_nodes first o width.Bit) tt refl (simp (counts, one)) (omega arith) (omega arith)
-fetched_few first o width.Byte e one =
-    behind_few (fetch_of first o width.Byte) (taken_of (extended_of width.Byte e)) 2 3 (fetch_writes first o width.Byte) (fetch_length first o width.Byte)
-    (fetch_nodes first o width.Byte) tt refl (simp (counts, one)) (omega arith) (omega arith)
-fetched_few first o width.Word e one =
-    behind_few (fetch_of first o width.Word) (taken_of (extended_of width.Word e)) 2 3 (fetch_writes first o width.Word) (fetch_length first o width.Word)
-    (fetch_nodes first o width.Word) tt refl (simp (counts, one)) (omega arith) (omega arith)
-fetched_few first o width.Dword e one =
-    behind_few (fetch_of first o width.Dword) (taken_of (extended_of width.Dword e)) 2 2 (fetch_writes first o width.Dword) (fetch_length first o width.Dword)
-    (fetch_nodes first o width.Dword) tt refl (simp (counts, one)) (omega arith) (omega arith)
+fetched_few : (first : ℕ) (o : Operand) (w : Width) (e : Expr) → nodes e ≡ 1 → misses (first + length (types_fetched o w)) e ≡ 0
+    → HasSizes first (types_fetched o w) (fetch_of first o w ++ taken_of (extended_of w e))
+fetched_few first o w e one low = by w (taken_disorder (first + length (types_fetched o w)) w e low)
+  where
+    by : (u : Width) → disorder (first + length (types_fetched o w)) (taken_of (extended_of u e)) ≡ 0
+        → HasSizes first (types_fetched o w) (fetch_of first o w ++ taken_of (extended_of u e))
+    by width.Bit order = behind_few first o w _ 2 5 tt refl (simp (counts, one)) (omega arith) (omega arith) order refl
+    by width.Byte order = behind_few first o w _ 2 3 tt refl (simp (counts, one)) (omega arith) (omega arith) order refl
+    by width.Word order = behind_few first o w _ 2 3 tt refl (simp (counts, one)) (omega arith) (omega arith) order refl
+    by width.Dword order = behind_few first o w _ 2 2 tt refl (simp (counts, one)) (omega arith) (omega arith) order refl
 
-pub load_few : (first : ℕ) (a : LoadArg) → AreFew (load_of first a)
-load_few first (arg.At o w) = fetched_few first o w (fetched_of first o w) (fetched_nodes first o w)
-load_few first (arg.Constant c) = counted (load_of first (arg.Constant c)) 2 2 tt refl (simp counts) (omega arith) (omega arith)
+pub load_few : (first : ℕ) (a : LoadArg) → HasSizes first (types_of_load a) (load_of first a)
+load_few first (arg.At o w) = fetched_few first o w (fetched_of first o w) (fetched_nodes first o w) (fetched_misses first o w _ (omega arith))
+load_few first (arg.Constant c) = with_sizes _ 2 2 tt refl (simp counts) (omega arith) (omega arith) (simp order_equations) refl
 
 -- T of an operand, by the expression that it writes
-reached_few : (first : ℕ) (o : Operand) (w : Width) (e : Expr) (n : ℕ) → nodes e ≡ n → n ≤ 5 → AreFew (reach_of first o ++ (writing_of first o w e ∷ []))
-reached_few first o w e n same few =
+reached_few : (first : ℕ) (o : Operand) (w : Width) (e : Expr) (n : ℕ) → nodes e ≡ n → n ≤ 5 → ((many : ℕ) → misses many e ≡ 0)
+    → HasSizes first (types_reached o) (reach_of first o ++ (writing_of first o w e ∷ []))
+reached_few first o w e n same few none =
+    let before : List Stmt = reach_of first o in
     let own : List Stmt = writing_of first o w e ∷ [] in
+    let many : ℕ = first + length (types_reached o) in
     record {
-      writes = writes_in_parts (reach_of first o) own (reach_writes first o) (writing_writes first o w e [] tt);
-      statements = omega (arith, length-append (reach_of first o) own, reach_length first o);
-      nodes = omega (arith, of_append (reach_of first o) own, reach_nodes first o, writing_nodes first o w e [], of_nothing);
+      writes = writes_in_parts before own (reach_writes first o) (writing_writes first o w e [] tt);
+      few = omega (arith, length-append before own, reach_length first o);
+      small = omega (arith, of_append before own, reach_nodes first o, writing_nodes first o w e [], of_nothing);
+      order = disorder_in_parts first before own (reach_disorder first o)
+          (ap (λ (n : ℕ). disorder (first + n) own) (reach_sets first o) ∙ writing_disorder many first o w e [] (omega arith) (none many) refl);
+      sets = omega (arith, sets_in_parts before own, reach_sets first o, writing_sets first o w e []);
     }
 
-pub transfer_few : (first : ℕ) (o : Operand) (w : Width) → AreFew (transfer_of first o w)
-transfer_few first o width.Bit = reached_few first o width.Bit (cut_of width.Bit (read_of reg.Accu1)) 5 (simp counts) (omega arith)
-transfer_few first o width.Byte = reached_few first o width.Byte (cut_of width.Byte (read_of reg.Accu1)) 2 (simp counts) (omega arith)
-transfer_few first o width.Word = reached_few first o width.Word (cut_of width.Word (read_of reg.Accu1)) 2 (simp counts) (omega arith)
-transfer_few first o width.Dword = reached_few first o width.Dword (cut_of width.Dword (read_of reg.Accu1)) 1 (simp counts) (omega arith)
+pub transfer_few : (first : ℕ) (o : Operand) (w : Width) → HasSizes first (types_reached o) (transfer_of first o w)
+transfer_few first o width.Bit = reached_few first o width.Bit _ 5 (simp counts) (omega arith) (λ many. simp order_equations)
+transfer_few first o width.Byte = reached_few first o width.Byte _ 2 (simp counts) (omega arith) (λ many. simp order_equations)
+transfer_few first o width.Word = reached_few first o width.Word _ 2 (simp counts) (omega arith) (λ many. simp order_equations)
+transfer_few first o width.Dword = reached_few first o width.Dword _ 1 (simp counts) (omega arith) (λ many. simp order_equations)
 
-pub status_load_few : AreFew status_load_of
-status_load_few = counted status_load_of 2 30 tt refl (simp counts) (omega arith) (omega arith)
+pub status_load_few : (first : ℕ) → HasSizes first [] status_load_of
+status_load_few first = with_sizes _ 2 30 tt refl (simp counts) (omega arith) (omega arith) (simp order_equations) refl
 
-pub status_store_few : AreFew status_store_of
-status_store_few = counted status_store_of 6 30 tt refl (simp counts) (omega arith) (omega arith)
+pub status_store_few : (first : ℕ) → HasSizes first [] status_store_of
+status_store_few first = with_sizes _ 6 30 tt refl (simp counts) (omega arith) (omega arith) (simp order_equations) refl
 
-pub exchange_few : (first : ℕ) → AreFew (exchange_of first)
-exchange_few first = counted (exchange_of first) 3 3 tt refl (simp counts) (omega arith) (omega arith)
+pub exchange_few : (first : ℕ) → HasSizes first types_of_exchange (exchange_of first)
+exchange_few first = with_sizes _ 3 3 tt refl (simp counts) (omega arith) (omega arith) (simp order_equations (omega arith)) refl
 
-pub push_few : AreFew push_of
-push_few = counted push_of 1 1 tt refl (simp counts) (omega arith) (omega arith)
+pub push_few : (first : ℕ) → HasSizes first [] push_of
+push_few first = with_sizes _ 1 1 tt refl (simp counts) (omega arith) (omega arith) (simp order_equations) refl
 
-pub pop_few : AreFew pop_of
-pop_few = counted pop_of 1 1 tt refl (simp counts) (omega arith) (omega arith)
+pub pop_few : (first : ℕ) → HasSizes first [] pop_of
+pop_few first = with_sizes _ 1 1 tt refl (simp counts) (omega arith) (omega arith) (simp order_equations) refl
 
 -- Numbers of data blocks
 
-pub block_open_few : (first : ℕ) (r : Reg) (d : OpenArg) → AreFew (block_open_of first r d)
-block_open_few first r (open_arg.Number n) = counted (block_open_of first r (open_arg.Number n)) 1 1 tt refl (simp counts) (omega arith) (omega arith)
+pub block_open_few : (first : ℕ) (r : Reg) (d : OpenArg) → HasSizes first (types_of_block_open d) (block_open_of first r d)
+block_open_few first r (open_arg.Number n) = with_sizes _ 1 1 tt refl (simp counts) (omega arith) (omega arith) (simp order_equations) refl
 block_open_few first r (open_arg.At o) =
-    behind_few (fetch_of first o width.Word) (set_of r (fetched_of first o width.Word) ∷ []) 1 1 (fetch_writes first o width.Word) (fetch_length first o width.Word)
-    (fetch_nodes first o width.Word) tt refl (omega (arith, of_assign (var.Register r) (fetched_of first o width.Word) [], fetched_nodes first o width.Word, of_nothing)) (omega arith) (omega arith)
+    let e : Expr = fetched_of first o width.Word in
+    let many : ℕ = first + length (types_fetched o width.Word) in
+    behind_few first o width.Word (set_of r e ∷ []) 1 1 tt refl (omega (arith, of_assign (var.Register r) e [], fetched_nodes first o width.Word, of_nothing))
+    (omega arith) (omega arith) (omega (arith, fetched_misses first o width.Word many (omega arith))) refl
 
-pub block_exchange_few : (first : ℕ) → AreFew (block_exchange_of first)
-block_exchange_few first = counted (block_exchange_of first) 3 3 tt refl (simp counts) (omega arith) (omega arith)
+pub block_exchange_few : (first : ℕ) → HasSizes first types_of_block_exchange (block_exchange_of first)
+block_exchange_few first = with_sizes _ 3 3 tt refl (simp counts) (omega arith) (omega arith) (simp order_equations (omega arith)) refl
 
-pub number_load_few : (r : Reg) → AreFew (number_load_of r)
-number_load_few r = counted (number_load_of r) 2 3 tt refl (simp counts) (omega arith) (omega arith)
+pub number_load_few : (first : ℕ) (r : Reg) → HasSizes first [] (number_load_of r)
+number_load_few first r = with_sizes _ 2 3 tt refl (simp counts) (omega arith) (omega arith) (simp order_equations) refl
 
 -- Constants
 
-none_few : AreFew []
-none_few = counted [] 0 0 tt refl of_nothing (omega arith) (omega arith)
+unless_zero_few : (first : ℕ) (n : ℤ) (e : Expr) → HasSizes first [] (set_of reg.Accu1 e ∷ []) → HasSizes first [] (unless_zero n e)
+unless_zero_few first n e h = by (int_eq n (pos 0))
+  where
+    by : (b : Bool) → HasSizes first [] (if b then [] else set_of reg.Accu1 e ∷ [])
+    by true = with_sizes _ 0 0 tt refl of_nothing (omega arith) (omega arith) refl refl
+    by false = h
 
--- either of two bodies
-either_few : (b : Bool) (xs ys : List Stmt) → AreFew xs → AreFew ys → AreFew (if b then xs else ys)
-either_few true xs ys h k = h
-either_few false xs ys h k = k
+pub add_word_few : (first : ℕ) (n : ℤ) → HasSizes first [] (add_word_of n)
+add_word_few first n = unless_zero_few first n _ (with_sizes _ 1 10 tt refl (simp counts) (omega arith) (omega arith) (simp order_equations) refl)
 
-unless_zero_few : (n : ℤ) (e : Expr) → AreFew (set_of reg.Accu1 e ∷ []) → AreFew (unless_zero n e)
-unless_zero_few n e h = either_few (int_eq n (pos 0)) [] (set_of reg.Accu1 e ∷ []) none_few h
+pub add_dword_few : (first : ℕ) (n : ℤ) → HasSizes first [] (add_dword_of n)
+add_dword_few first n = unless_zero_few first n _ (with_sizes _ 1 5 tt refl (simp counts) (omega arith) (omega arith) (simp order_equations) refl)
 
-pub add_word_few : (n : ℤ) → AreFew (add_word_of n)
-add_word_few n = unless_zero_few n _ (counted _ 1 10 tt refl (simp counts) (omega arith) (omega arith))
+pub inc_few : (first n : ℕ) → HasSizes first [] (inc_of n)
+inc_few first n = unless_zero_few first (pos n) _ (with_sizes _ 1 10 tt refl (simp counts) (omega arith) (omega arith) (simp order_equations) refl)
 
-pub add_dword_few : (n : ℤ) → AreFew (add_dword_of n)
-add_dword_few n = unless_zero_few n _ (counted _ 1 5 tt refl (simp counts) (omega arith) (omega arith))
-
-pub inc_few : (n : ℕ) → AreFew (inc_of n)
-inc_few n = unless_zero_few (pos n) _ (counted _ 1 10 tt refl (simp counts) (omega arith) (omega arith))
-
-pub dec_few : (n : ℕ) → AreFew (dec_of n)
-dec_few n = unless_zero_few (pos n) _ (counted _ 1 10 tt refl (simp counts) (omega arith) (omega arith))
+pub dec_few : (first n : ℕ) → HasSizes first [] (dec_of n)
+dec_few first n = unless_zero_few first (pos n) _ (with_sizes _ 1 10 tt refl (simp counts) (omega arith) (omega arith) (simp order_equations) refl)
 
 -- Word logic
 
-fixed_few : (c : ℕ) → AreFew (fixed_of c)
-fixed_few c = counted (fixed_of c) 4 4 tt refl (simp counts) (omega arith) (omega arith)
+fixed_few : (first c : ℕ) → HasSizes first [] (fixed_of c)
+fixed_few first c = with_sizes _ 4 4 tt refl (simp counts) (omega arith) (omega arith) (simp order_equations) refl
 
-computed_few : (first : ℕ) (l : LogicRow) (c : Option ℕ) → AreFew (computed_of first l c)
-computed_few first row.Aw None = counted (computed_of first row.Aw None) 5 16 tt refl (simp counts) (omega arith) (omega arith)
-computed_few first row.Aw (Some c) = counted (computed_of first row.Aw (Some c)) 5 15 tt refl (simp counts) (omega arith) (omega arith)
-computed_few first row.Ow None = counted (computed_of first row.Ow None) 5 16 tt refl (simp counts) (omega arith) (omega arith)
-computed_few first row.Ow (Some c) = counted (computed_of first row.Ow (Some c)) 5 15 tt refl (simp counts) (omega arith) (omega arith)
-computed_few first row.Xow None = counted (computed_of first row.Xow None) 5 16 tt refl (simp counts) (omega arith) (omega arith)
-computed_few first row.Xow (Some c) = counted (computed_of first row.Xow (Some c)) 5 15 tt refl (simp counts) (omega arith) (omega arith)
-computed_few first row.Ad None = counted (computed_of first row.Ad None) 5 9 tt refl (simp counts) (omega arith) (omega arith)
-computed_few first row.Ad (Some c) = counted (computed_of first row.Ad (Some c)) 5 9 tt refl (simp counts) (omega arith) (omega arith)
-computed_few first row.Od None = counted (computed_of first row.Od None) 5 9 tt refl (simp counts) (omega arith) (omega arith)
-computed_few first row.Od (Some c) = counted (computed_of first row.Od (Some c)) 5 9 tt refl (simp counts) (omega arith) (omega arith)
-computed_few first row.Xod None = counted (computed_of first row.Xod None) 5 9 tt refl (simp counts) (omega arith) (omega arith)
-computed_few first row.Xod (Some c) = counted (computed_of first row.Xod (Some c)) 5 9 tt refl (simp counts) (omega arith) (omega arith)
+computed_few : (first : ℕ) (l : LogicRow) (c : Option ℕ) → HasSizes first (type_of_row l ∷ []) (computed_of first l c)
+computed_few first row.Aw None = with_sizes _ 5 16 tt refl (simp counts) (omega arith) (omega arith) (simp order_equations (omega arith)) refl
+computed_few first row.Aw (Some c) = with_sizes _ 5 15 tt refl (simp counts) (omega arith) (omega arith) (simp order_equations (omega arith)) refl
+computed_few first row.Ow None = with_sizes _ 5 16 tt refl (simp counts) (omega arith) (omega arith) (simp order_equations (omega arith)) refl
+computed_few first row.Ow (Some c) = with_sizes _ 5 15 tt refl (simp counts) (omega arith) (omega arith) (simp order_equations (omega arith)) refl
+computed_few first row.Xow None = with_sizes _ 5 16 tt refl (simp counts) (omega arith) (omega arith) (simp order_equations (omega arith)) refl
+computed_few first row.Xow (Some c) = with_sizes _ 5 15 tt refl (simp counts) (omega arith) (omega arith) (simp order_equations (omega arith)) refl
+computed_few first row.Ad None = with_sizes _ 5 9 tt refl (simp counts) (omega arith) (omega arith) (simp order_equations (omega arith)) refl
+computed_few first row.Ad (Some c) = with_sizes _ 5 9 tt refl (simp counts) (omega arith) (omega arith) (simp order_equations (omega arith)) refl
+computed_few first row.Od None = with_sizes _ 5 9 tt refl (simp counts) (omega arith) (omega arith) (simp order_equations (omega arith)) refl
+computed_few first row.Od (Some c) = with_sizes _ 5 9 tt refl (simp counts) (omega arith) (omega arith) (simp order_equations (omega arith)) refl
+computed_few first row.Xod None = with_sizes _ 5 9 tt refl (simp counts) (omega arith) (omega arith) (simp order_equations (omega arith)) refl
+computed_few first row.Xod (Some c) = with_sizes _ 5 9 tt refl (simp counts) (omega arith) (omega arith) (simp order_equations (omega arith)) refl
 
-pub logic_few : (first : ℕ) (l : LogicRow) (c : Option ℕ) → AreFew (logic_of first l c)
+pub logic_few : (first : ℕ) (l : LogicRow) (c : Option ℕ) → HasSizes first (types_of_logic l c) (logic_of first l c)
 logic_few first l None = computed_few first l None
-logic_few first l (Some c) = either_few (is_fixed l c) (fixed_of c) (computed_of first l (Some c)) (fixed_few c) (computed_few first l (Some c))
+logic_few first l (Some c) = by (is_fixed l c)
+  where
+    by : (b : Bool) → HasSizes first (if b then [] else type_of_row l ∷ []) (if b then fixed_of c else computed_of first l (Some c))
+    by true = fixed_few first c
+    by false = computed_few first l (Some c)
 
 -- Conversions
 
-pub itd_few : AreFew itd_of
-itd_few = counted itd_of 1 3 tt refl (simp counts) (omega arith) (omega arith)
+pub itd_few : (first : ℕ) → HasSizes first [] itd_of
+itd_few first = with_sizes _ 1 3 tt refl (simp counts) (omega arith) (omega arith) (simp order_equations) refl
 
-pub invi_few : AreFew invi_of
-invi_few = counted invi_of 1 8 tt refl (simp counts) (omega arith) (omega arith)
+pub invi_few : (first : ℕ) → HasSizes first [] invi_of
+invi_few first = with_sizes _ 1 8 tt refl (simp counts) (omega arith) (omega arith) (simp order_equations) refl
 
-pub invd_few : AreFew invd_of
-invd_few = counted invd_of 1 2 tt refl (simp counts) (omega arith) (omega arith)
+pub invd_few : (first : ℕ) → HasSizes first [] invd_of
+invd_few first = with_sizes _ 1 2 tt refl (simp counts) (omega arith) (omega arith) (simp order_equations) refl
 
-pub caw_few : AreFew caw_of
-caw_few = counted caw_of 1 9 tt refl (simp counts) (omega arith) (omega arith)
+pub caw_few : (first : ℕ) → HasSizes first [] caw_of
+caw_few first = with_sizes _ 1 9 tt refl (simp counts) (omega arith) (omega arith) (simp order_equations) refl
 
-pub cad_few : AreFew cad_of
-cad_few = counted cad_of 1 27 tt refl (simp counts) (omega arith) (omega arith)
+pub cad_few : (first : ℕ) → HasSizes first [] cad_of
+cad_few first = with_sizes _ 1 27 tt refl (simp counts) (omega arith) (omega arith) (simp order_equations) refl

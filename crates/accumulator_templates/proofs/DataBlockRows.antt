@@ -16,7 +16,8 @@ use Rattle.accumulator_templates.specs.DataBlocks.{block_exchange_of, block_open
 use Rattle.accumulator_templates.proofs.AccumulatorRows.{taken}
 use Rattle.accumulator_templates.proofs.Worths.{word}
 use Rattle.row_templates.specs.Builders.{constant_of, convert_of, read_of, set_of}
-use Rattle.row_templates.proofs.Alike.{AreAlike, AreInRange, IsKept}
+use Rattle.row_templates.specs.Related.{AreAlike}
+use Rattle.instruction_laws.specs.Ranges.{AreInRange}
 use Rattle.row_templates.proofs.RegisterRows.{IsRow, registers_after}
 use Rattle.row_templates.proofs.Stages.{known, parts, stage}
 
@@ -30,7 +31,7 @@ wide_number n h = omega arith
 module _ (g : List Located) (s : State) (used : ℕ) (r : RegisterValues) (sta : ℤ) (range : AreInRange r) where
   -- a register takes the number of a data block
 
-  db_alike : (e : Expr) (n : ℕ) → AreAlike IsKept (db_opened n r) (registers_after (set_of reg.DbNo e ∷ []) (word n ∷ []) (known r sta))
+  db_alike : (e : Expr) (n : ℕ) → AreAlike (db_opened n r) (registers_after (set_of reg.DbNo e ∷ []) (word n ∷ []) (known r sta))
   db_alike e n reg.Sta asked = elim asked [ ]
   db_alike e n q asked = refl
 
@@ -43,7 +44,7 @@ module _ (g : List Located) (s : State) (used : ℕ) (r : RegisterValues) (sta :
         range = record { accu1 = range.accu1; accu2 = range.accu2; ar1 = range.ar1; ar2 = range.ar2; db = h; di = range.di };
       }
 
-  di_alike : (e : Expr) (n : ℕ) → AreAlike IsKept (di_opened n r) (registers_after (set_of reg.DiNo e ∷ []) (word n ∷ []) (known r sta))
+  di_alike : (e : Expr) (n : ℕ) → AreAlike (di_opened n r) (registers_after (set_of reg.DiNo e ∷ []) (word n ∷ []) (known r sta))
   di_alike e n reg.Sta asked = elim asked [ ]
   di_alike e n q asked = refl
 
@@ -69,7 +70,7 @@ module _ (g : List Located) (s : State) (used : ℕ) (r : RegisterValues) (sta :
   abbrev exchanged_values : List Value
   exchanged_values = word r.db ∷ word r.di ∷ word r.db ∷ []
 
-  exchanged_alike : AreAlike IsKept (dbs_exchanged r) (registers_after (block_exchange_of used) exchanged_values (known r sta))
+  exchanged_alike : AreAlike (dbs_exchanged r) (registers_after (block_exchange_of used) exchanged_values (known r sta))
   exchanged_alike reg.Sta asked = elim asked [ ]
   exchanged_alike q asked = refl
 

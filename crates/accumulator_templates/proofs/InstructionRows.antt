@@ -1,16 +1,14 @@
--- The statements of each instruction do its row of the instruction table.
-use Rattle.std.proofs.Common.{◌≡◌, ℕ, ◌+◌, ◌≤◌, Bool, true, false, if◌then◌else◌, List, [], ◌∷◌, length, Option, Some, None, refl, arith}
-use Rattle.std.specs.Prelude.{ℤ, pos}
-use Rattle.std.specs.Ordering.{int_eq}
+-- The statements of each instruction serve it: they do its row of the instruction table, and are a template.
+use Rattle.std.proofs.Common.{◌≡◌, ℕ, ◌≤◌, List, [], ◌++◌, length, refl, sym, subst, arith}
+use Rattle.std.specs.Prelude.{ℤ}
+use Rattle.s7_base.specs.declared.register.Reg.{Reg}
 use Rattle.s7_base.specs.declared.register.Reg.TheVariants as reg
-use Rattle.s7_base.specs.declared.word.Width.{Width}
-use Rattle.stl_tree.specs.Accepted.{HasOperand, IsOpenArg}
+use Rattle.stl_tree.specs.Accepted.{HasOperand}
 use Rattle.stl_tree.specs.DataBlocks.{db_opened, di_opened}
-use Rattle.stl_tree.specs.Instructions.{effect_of}
-use Rattle.stl_tree.specs.Now.{Activation, Now, next}
-use Rattle.stl_tree.specs.Reads.{is_fixed}
+use Rattle.stl_tree.specs.Instructions.{effect_of, on_registers}
+use Rattle.stl_tree.specs.Now.{Now}
+use Rattle.stl_tree.specs.Reads.{reads_of}
 use Rattle.stl_tree.specs.Registers.{RegisterValues}
-use Rattle.stl_tree.specs.declared.accumulator.LogicRow.{LogicRow}
 use Rattle.stl_tree.specs.declared.accumulator.UnaryRow.TheVariants as unary
 use Rattle.stl_tree.specs.declared.program.LoadArg.{LoadArg}
 use Rattle.stl_tree.specs.declared.program.LoadArg.TheVariants as arg
@@ -18,147 +16,161 @@ use Rattle.stl_tree.specs.declared.program.Op.{Op}
 use Rattle.stl_tree.specs.declared.program.Op.TheVariants as op
 use Rattle.stl_tree.specs.declared.program.OpenArg.{OpenArg}
 use Rattle.stl_tree.specs.declared.program.OpenArg.TheVariants as open_arg
-use Rattle.stl_tree.specs.declared.program.Operand.{Operand}
-use Rattle.st_tree.specs.Meaning.{Calls, body_meaning}
+use Rattle.st_tree.specs.Meaning.{body_meaning}
 use Rattle.st_tree.specs.State.{State}
-use Rattle.st_tree.specs.declared.expr.Expr.{Expr}
+use Rattle.st_tree.specs.WellTyped.{Sight}
+use Rattle.st_tree.specs.declared.expr.StType.{StType}
 use Rattle.st_tree.specs.declared.program.Located.{Located}
 use Rattle.st_tree.specs.declared.program.Stmt.{Stmt}
-use Rattle.accumulator_templates.specs.Conversions.{cad_of, caw_of, invd_of, invi_of, itd_of}
-use Rattle.accumulator_templates.specs.DataBlocks.{block_exchange_of, block_open_of, number_load_of, types_of_block_exchange, types_of_block_open}
-use Rattle.accumulator_templates.specs.Logic.{computed_of, fixed_of, logic_of, type_of_row, types_of_logic}
-use Rattle.accumulator_templates.specs.Moves.{exchange_of, load_of, pop_of, push_of, status_load_of, status_store_of, transfer_of, types_of_exchange, types_of_load}
-use Rattle.accumulator_templates.specs.Sums.{add_dword_of, add_word_of, dec_of, inc_of, unless_zero}
+use Rattle.instruction_laws.specs.Ranges.{AreInRange}
+use Rattle.graph_rules.proofs.Runs.{locals_set}
+use Rattle.row_templates.specs.DoesRow.{DoesRow}
+use Rattle.row_templates.specs.Templates.{AreTyped, Do, IsPlainBody, Serves}
+use Rattle.row_templates.proofs.Obligations.{HasSizes, by_sizes}
+use Rattle.row_templates.proofs.ReadRegisters.{AllRead, Has}
+use Rattle.row_templates.proofs.RegisterRows.{IsRow, row_does}
+use Rattle.row_templates.proofs.Typing.{no_statement}
+use Rattle.accumulator_templates.specs.AccumulatorLaw.{AccumulatorServes}
+use Rattle.accumulator_templates.specs.DataBlocks.{block_open_of, types_of_block_open}
+use Rattle.accumulator_templates.specs.Moves.{load_of, types_of_load}
 use Rattle.accumulator_templates.proofs.ConversionRows.{cad_row, caw_row, invd_row, invi_row, itd_row}
+use Rattle.accumulator_templates.proofs.CountRows.{add_dword_few, add_word_few, block_exchange_few, block_open_few, cad_few, caw_few, dec_few, exchange_few, inc_few, invd_few, invi_few, itd_few, load_few, logic_few, number_load_few, pop_few, push_few, status_load_few, status_store_few, transfer_few}
 use Rattle.accumulator_templates.proofs.DataBlockRows.{block_exchange_row, db_number_row, db_row, di_number_row, di_row, open_db_row, open_di_row}
 use Rattle.accumulator_templates.proofs.LoadRows.{load_does as place_loaded}
 use Rattle.accumulator_templates.proofs.LogicRows.{logic_row}
 use Rattle.accumulator_templates.proofs.MoveRows.{constant_row, exchange_row, pop_row, push_row}
 use Rattle.accumulator_templates.proofs.OpenRows.{word_does}
+use Rattle.accumulator_templates.proofs.PlainRows.{add_dword_plain, add_word_plain, block_exchange_plain, cad_plain, caw_plain, db_number_load_plain, dec_plain, di_number_load_plain, exchange_plain, inc_plain, invd_plain, invi_plain, itd_plain, load_plain, logic_plain, open_db_plain, open_di_plain, pop_plain, push_plain, status_load_plain, status_store_plain, transfer_plain}
+use Rattle.accumulator_templates.proofs.ReadRows.{add_dword_reads, add_word_reads, block_exchange_reads, block_open_reads, cad_reads, caw_reads, dec_reads, exchange_reads, inc_reads, invd_reads, invi_reads, itd_reads, load_reads, logic_reads, number_load_reads, pop_reads, push_reads, status_load_reads, status_store_reads, transfer_reads}
 use Rattle.accumulator_templates.proofs.StatusRows.{status_load_row, status_store_row}
 use Rattle.accumulator_templates.proofs.SumRows.{add_dword_row, add_word_row, dec_row, inc_row}
-use Rattle.accumulator_templates.proofs.TransferRows.{transfer_does as place_written}
-use Rattle.row_templates.specs.Builders.{set_of}
-use Rattle.row_templates.specs.Fetching.{types_reached}
-use Rattle.row_templates.proofs.Alike.{AreInRange, Related}
-use Rattle.row_templates.proofs.DoesRow.{DoesRow}
-use Rattle.row_templates.proofs.Locals.{own_of}
-use Rattle.row_templates.proofs.RegisterRows.{IsRow, locals_set, row_does}
+use Rattle.accumulator_templates.proofs.TransferRows.{transfer_does}
 
-none_set : (n : ℤ) (e : Expr) → locals_set (unless_zero n e) ≡ 0
-none_set n e = by (int_eq n (pos 0))
-  where
-    by : (b : Bool) → locals_set (if b then [] else set_of reg.Accu1 e ∷ []) ≡ 0
-    by true = refl
-    by false = refl
+-- an instruction whose row works on registers alone
+by_row : (o : Op) (first : ℕ) (types : List StType) (body : List Stmt) (row : RegisterValues → RegisterValues) → locals_set body ≡ length types
+    → ((g : List Located) (s : State) (r : RegisterValues) (sta : ℤ) → AreInRange r → IsRow g s first body r (row r) sta)
+    → ((now : Now) → effect_of o now ≡ on_registers row now) → Do o first types body
+by_row o first types body row sets is_row effect g calls units frames now s related room =
+    subst (DoesRow (body_meaning g calls body units s) units first frames s now.memory) (sym (effect now))
+    (row_does g s first calls units body frames now (row now.registers) related (is_row g s now.registers (s.registers reg.Sta) related.range) (omega arith))
 
--- word logic sets the locals that it takes
-logic_sets : (first : ℕ) (l : LogicRow) (c : Option ℕ) → locals_set (logic_of first l c) ≡ length (types_of_logic l c)
-logic_sets first l None = refl
-logic_sets first l (Some c) = by (is_fixed l c)
-  where
-    by : (b : Bool) → locals_set (if b then fixed_of c else computed_of first l (Some c)) ≡ length (if b then [] else type_of_row l ∷ [])
-    by true = refl
-    by false = refl
+load_does : (a : LoadArg) (first : ℕ) → HasOperand (op.Load a) → Do (op.Load a) first (types_of_load a) (load_of first a)
+load_does (arg.At o w) first h = λ g calls units frames now s related room. place_loaded g frames now s related calls units first o w h.1 room
+load_does (arg.Constant c) first h =
+    by_row (op.Load (arg.Constant c)) first [] _ _ refl (λ g s r sta range. constant_row g s first r sta range c h) (λ now. refl)
 
--- in related states that have room for their locals behind the first ones that are used
-module _ (g : List Located) (calls : Calls) (units : ℕ) (acts : List Activation) (now : Now) (s : State) (related : Related acts now s) (used : ℕ) where
-  -- some statements do the row of an instruction
-  abbrev pub Do : List Stmt → Op → Type 0
-  Do body o = DoesRow (body_meaning g calls body units s) units used acts s now.memory (effect_of o now)
+open_db_does : (d : OpenArg) (first : ℕ) → HasOperand (op.OpenDb d) → Do (op.OpenDb d) first (types_of_block_open d) (block_open_of first reg.DbNo d)
+open_db_does (open_arg.Number n) first h =
+    let most : n ≤ 65535 = h.1 in
+    by_row (op.OpenDb (open_arg.Number n)) first [] _ _ refl (λ g s r sta range. open_db_row g s first r sta range n (omega arith)) (λ now. refl)
+open_db_does (open_arg.At o) first h = λ g calls units frames now s related room.
+    word_does g frames calls units reg.DbNo db_opened db_row now s related first o h.1 room
 
-  -- how many locals there are
-  abbrev room : ℕ
-  room = length (own_of s.activations)
+open_di_does : (d : OpenArg) (first : ℕ) → HasOperand (op.OpenDi d) → Do (op.OpenDi d) first (types_of_block_open d) (block_open_of first reg.DiNo d)
+open_di_does (open_arg.Number n) first h =
+    let most : n ≤ 65535 = h.1 in
+    by_row (op.OpenDi (open_arg.Number n)) first [] _ _ refl (λ g s r sta range. open_di_row g s first r sta range n (omega arith)) (λ now. refl)
+open_di_does (open_arg.At o) first h = λ g calls units frames now s related room.
+    word_does g frames calls units reg.DiNo di_opened di_row now s related first o h.1 room
 
-  abbrev r : RegisterValues
-  r = now.registers
+-- an instruction, by what is shown of its statements one thing at a time
+module _ (o : Op) (first : ℕ) (types : List StType) (body : List Stmt) (sizes : HasSizes first types body)
+    (reads : (P : Reg → Type 0) → Has P (reads_of o) → AllRead P (body ++ []))
+    (plain : (sight : Sight) → AreTyped sight first types → IsPlainBody sight (body ++ [])) where
+  serves : Do o first types body → Serves o first types body
+  serves does = by_sizes o first types body sizes does reads plain
 
-  abbrev sta : ℤ
-  sta = s.registers reg.Sta
+  row_serves : (row : RegisterValues → RegisterValues)
+      → ((g : List Located) (s : State) (r : RegisterValues) (sta : ℤ) → AreInRange r → IsRow g s first body r (row r) sta)
+      → ((now : Now) → effect_of o now ≡ on_registers row now) → Serves o first types body
+  row_serves row is_row effect = serves (by_row o first types body row sizes.sets is_row effect)
 
-  abbrev range : AreInRange r
-  range = related.range
-
-  does : (body : List Stmt) (after : RegisterValues) → IsRow g s used body r after sta → used + locals_set body ≤ room
-      → DoesRow (body_meaning g calls body units s) units used acts s now.memory (next (record now { registers = after }))
-  does body after row h = row_does g s used calls units body acts now after related row h
-
-  pub load_does : (a : LoadArg) → HasOperand (op.Load a) → used + length (types_of_load a) ≤ room → Do (load_of used a) (op.Load a)
-  load_does (arg.At o w) h few = place_loaded g acts now s related calls units used o w h.1 few
-  load_does (arg.Constant c) h few = does (load_of used (arg.Constant c)) _ (constant_row g s used r sta range c h) (omega arith)
-
-  pub transfer_does : (o : Operand) (w : Width) → HasOperand (op.Transfer o w) → used + length (types_reached o) ≤ room → Do (transfer_of used o w) (op.Transfer o w)
-  transfer_does o w h few = place_written g acts now s related calls units used o w h.1 few
-
-  pub open_db_does : (d : OpenArg) → IsOpenArg d → used + length (types_of_block_open d) ≤ room → Do (block_open_of used reg.DbNo d) (op.OpenDb d)
-  open_db_does (open_arg.Number n) h few =
-      let most : n ≤ 65535 = h.1 in does (block_open_of used reg.DbNo (open_arg.Number n)) _ (open_db_row g s used r sta range n (omega arith)) (omega arith)
-  open_db_does (open_arg.At o) h few = word_does g acts calls units reg.DbNo db_opened db_row now s related used o h.1 few
-
-  pub open_di_does : (d : OpenArg) → IsOpenArg d → used + length (types_of_block_open d) ≤ room → Do (block_open_of used reg.DiNo d) (op.OpenDi d)
-  open_di_does (open_arg.Number n) h few =
-      let most : n ≤ 65535 = h.1 in does (block_open_of used reg.DiNo (open_arg.Number n)) _ (open_di_row g s used r sta range n (omega arith)) (omega arith)
-  open_di_does (open_arg.At o) h few = word_does g acts calls units reg.DiNo di_opened di_row now s related used o h.1 few
-
-  pub block_exchange_does : used + length types_of_block_exchange ≤ room → Do (block_exchange_of used) op.ExchangeDb
-  block_exchange_does few = does (block_exchange_of used) _ (block_exchange_row g s used r sta range) (omega arith)
-
-  pub db_number_load_does : used ≤ room → Do (number_load_of reg.DbNo) op.LoadDbNo
-  db_number_load_does few = does (number_load_of reg.DbNo) _ (db_number_row g s used r sta range) (omega arith)
-
-  pub di_number_load_does : used ≤ room → Do (number_load_of reg.DiNo) op.LoadDiNo
-  di_number_load_does few = does (number_load_of reg.DiNo) _ (di_number_row g s used r sta range) (omega arith)
-
-  pub status_load_does : used ≤ room → Do status_load_of op.LoadStw
-  status_load_does few = does status_load_of _ (status_load_row g s used r sta range) (omega arith)
-
-  pub status_store_does : used ≤ room → Do status_store_of op.TransferStw
-  status_store_does few = does status_store_of _ (status_store_row g s used r sta range) (omega arith)
-
-  pub exchange_does : used + length types_of_exchange ≤ room → Do (exchange_of used) op.Tak
-  exchange_does few = does (exchange_of used) _ (exchange_row g s used r sta range) (omega arith)
-
-  pub push_does : used ≤ room → Do push_of op.Push
-  push_does few = does push_of _ (push_row g s used r sta range) (omega arith)
-
-  pub pop_does : used ≤ room → Do pop_of op.Pop
-  pop_does few = does pop_of _ (pop_row g s used r sta range) (omega arith)
-
-  pub add_word_does : (n : ℤ) → used ≤ room → Do (add_word_of n) (op.AddWord n)
-  add_word_does n few =
-      let none : locals_set (add_word_of n) ≡ 0 = none_set n _ in
-      does (add_word_of n) _ (add_word_row g s used r sta range n) (omega arith)
-
-  pub add_dword_does : (n : ℤ) → used ≤ room → Do (add_dword_of n) (op.AddDword n)
-  add_dword_does n few =
-      let none : locals_set (add_dword_of n) ≡ 0 = none_set n _ in
-      does (add_dword_of n) _ (add_dword_row g s used r sta range n) (omega arith)
-
-  pub inc_does : (n : ℕ) → used ≤ room → Do (inc_of n) (op.Inc n)
-  inc_does n few =
-      let none : locals_set (inc_of n) ≡ 0 = none_set (pos n) _ in
-      does (inc_of n) _ (inc_row g s used r sta range n) (omega arith)
-
-  pub dec_does : (n : ℕ) → used ≤ room → Do (dec_of n) (op.Dec n)
-  dec_does n few =
-      let none : locals_set (dec_of n) ≡ 0 = none_set (pos n) _ in
-      does (dec_of n) _ (dec_row g s used r sta range n) (omega arith)
-
-  pub logic_does : (l : LogicRow) (c : Option ℕ) → used + length (types_of_logic l c) ≤ room → Do (logic_of used l c) (op.Logic l c)
-  logic_does l c few = does (logic_of used l c) _ (logic_row g s used r sta range l c) (omega (arith, logic_sets used l c))
-
-  pub itd_does : used ≤ room → Do itd_of (op.Unary unary.Itd)
-  itd_does few = does itd_of _ (itd_row g s used r sta range) (omega arith)
-
-  pub invi_does : used ≤ room → Do invi_of (op.Unary unary.Invi)
-  invi_does few = does invi_of _ (invi_row g s used r sta range) (omega arith)
-
-  pub invd_does : used ≤ room → Do invd_of (op.Unary unary.Invd)
-  invd_does few = does invd_of _ (invd_row g s used r sta range) (omega arith)
-
-  pub caw_does : used ≤ room → Do caw_of (op.Unary unary.Caw)
-  caw_does few = does caw_of _ (caw_row g s used r sta range) (omega arith)
-
-  pub cad_does : used ≤ room → Do cad_of (op.Unary unary.Cad)
-  cad_does few = does cad_of _ (cad_row g s used r sta range) (omega arith)
+pub accumulator_serves : AccumulatorServes
+accumulator_serves =
+    record {
+      load = λ a first h.
+          serves (op.Load a) first _ _ (load_few first a) (λ P has. load_reads P [] tt first a has)
+          (λ sight typed. load_plain sight [] (no_statement sight) first a h typed) (load_does a first h);
+      transfer = λ o w first h.
+          serves (op.Transfer o w) first _ _ (transfer_few first o w) (λ P has. transfer_reads P [] tt first o w has)
+          (λ sight typed. transfer_plain sight [] (no_statement sight) first o w h typed)
+          (λ g calls units frames now s related room. transfer_does g frames now s related calls units first o w h.1 room);
+      status_load = λ first.
+          row_serves op.LoadStw first _ _ (status_load_few first) (λ P has. status_load_reads P [] tt has)
+          (λ sight typed. status_load_plain sight [] (no_statement sight))
+          _ (λ g s r sta range. status_load_row g s first r sta range) (λ now. refl);
+      status_store = λ first.
+          row_serves op.TransferStw first _ _ (status_store_few first) (λ P has. status_store_reads P [] tt has)
+          (λ sight typed. status_store_plain sight [] (no_statement sight))
+          _ (λ g s r sta range. status_store_row g s first r sta range) (λ now. refl);
+      exchange = λ first.
+          row_serves op.Tak first _ _ (exchange_few first) (λ P has. exchange_reads P [] tt first has)
+          (λ sight typed. exchange_plain sight [] (no_statement sight) first typed)
+          _ (λ g s r sta range. exchange_row g s first r sta range) (λ now. refl);
+      push = λ first.
+          row_serves op.Push first _ _ (push_few first) (λ P has. push_reads P [] tt has)
+          (λ sight typed. push_plain sight [] (no_statement sight))
+          _ (λ g s r sta range. push_row g s first r sta range) (λ now. refl);
+      pop = λ first.
+          row_serves op.Pop first _ _ (pop_few first) (λ P has. pop_reads P [] tt has)
+          (λ sight typed. pop_plain sight [] (no_statement sight))
+          _ (λ g s r sta range. pop_row g s first r sta range) (λ now. refl);
+      open_db = λ d first h.
+          serves (op.OpenDb d) first _ _ (block_open_few first reg.DbNo d) (λ P has. block_open_reads P [] tt first reg.DbNo d has)
+          (λ sight typed. open_db_plain sight [] (no_statement sight) first d h typed) (open_db_does d first h);
+      open_di = λ d first h.
+          serves (op.OpenDi d) first _ _ (block_open_few first reg.DiNo d) (λ P has. block_open_reads P [] tt first reg.DiNo d has)
+          (λ sight typed. open_di_plain sight [] (no_statement sight) first d h typed) (open_di_does d first h);
+      block_exchange = λ first.
+          row_serves op.ExchangeDb first _ _ (block_exchange_few first) (λ P has. block_exchange_reads P [] tt first has)
+          (λ sight typed. block_exchange_plain sight [] (no_statement sight) first typed)
+          _ (λ g s r sta range. block_exchange_row g s first r sta range) (λ now. refl);
+      db_number_load = λ first.
+          row_serves op.LoadDbNo first _ _ (number_load_few first reg.DbNo) (λ P has. number_load_reads P [] tt reg.DbNo has)
+          (λ sight typed. db_number_load_plain sight [] (no_statement sight))
+          _ (λ g s r sta range. db_number_row g s first r sta range) (λ now. refl);
+      di_number_load = λ first.
+          row_serves op.LoadDiNo first _ _ (number_load_few first reg.DiNo) (λ P has. number_load_reads P [] tt reg.DiNo has)
+          (λ sight typed. di_number_load_plain sight [] (no_statement sight))
+          _ (λ g s r sta range. di_number_row g s first r sta range) (λ now. refl);
+      add_word = λ n first h.
+          row_serves (op.AddWord n) first _ _ (add_word_few first n) (λ P has. add_word_reads P [] tt n has)
+          (λ sight typed. add_word_plain sight [] (no_statement sight) n h)
+          _ (λ g s r sta range. add_word_row g s first r sta range n) (λ now. refl);
+      add_dword = λ n first h.
+          row_serves (op.AddDword n) first _ _ (add_dword_few first n) (λ P has. add_dword_reads P [] tt n has)
+          (λ sight typed. add_dword_plain sight [] (no_statement sight) n h)
+          _ (λ g s r sta range. add_dword_row g s first r sta range n) (λ now. refl);
+      inc = λ n first h.
+          row_serves (op.Inc n) first _ _ (inc_few first n) (λ P has. inc_reads P [] tt n has)
+          (λ sight typed. inc_plain sight [] (no_statement sight) n h)
+          _ (λ g s r sta range. inc_row g s first r sta range n) (λ now. refl);
+      dec = λ n first h.
+          row_serves (op.Dec n) first _ _ (dec_few first n) (λ P has. dec_reads P [] tt n has)
+          (λ sight typed. dec_plain sight [] (no_statement sight) n h)
+          _ (λ g s r sta range. dec_row g s first r sta range n) (λ now. refl);
+      logic = λ l c first h.
+          row_serves (op.Logic l c) first _ _ (logic_few first l c) (λ P has. logic_reads P [] tt first l c has)
+          (λ sight typed. logic_plain sight [] (no_statement sight) first l c h typed)
+          _ (λ g s r sta range. logic_row g s first r sta range l c) (λ now. refl);
+      itd = λ first.
+          row_serves (op.Unary unary.Itd) first _ _ (itd_few first) (λ P has. itd_reads P [] tt has)
+          (λ sight typed. itd_plain sight [] (no_statement sight))
+          _ (λ g s r sta range. itd_row g s first r sta range) (λ now. refl);
+      invi = λ first.
+          row_serves (op.Unary unary.Invi) first _ _ (invi_few first) (λ P has. invi_reads P [] tt has)
+          (λ sight typed. invi_plain sight [] (no_statement sight))
+          _ (λ g s r sta range. invi_row g s first r sta range) (λ now. refl);
+      invd = λ first.
+          row_serves (op.Unary unary.Invd) first _ _ (invd_few first) (λ P has. invd_reads P [] tt has)
+          (λ sight typed. invd_plain sight [] (no_statement sight))
+          _ (λ g s r sta range. invd_row g s first r sta range) (λ now. refl);
+      caw = λ first.
+          row_serves (op.Unary unary.Caw) first _ _ (caw_few first) (λ P has. caw_reads P [] tt has)
+          (λ sight typed. caw_plain sight [] (no_statement sight))
+          _ (λ g s r sta range. caw_row g s first r sta range) (λ now. refl);
+      cad = λ first.
+          row_serves (op.Unary unary.Cad) first _ _ (cad_few first) (λ P has. cad_reads P [] tt has)
+          (λ sight typed. cad_plain sight [] (no_statement sight))
+          _ (λ g s r sta range. cad_row g s first r sta range) (λ now. refl);
+    }

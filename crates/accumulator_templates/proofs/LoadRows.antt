@@ -12,7 +12,7 @@ use Rattle.s7_base.specs.declared.word.Width.TheVariants as width
 use Rattle.stl_tree.specs.Accepted.{IsOperand}
 use Rattle.stl_tree.specs.Accumulators.{accu_pushed, loaded, read_number}
 use Rattle.stl_tree.specs.Instructions.{loaded_from, on_registers}
-use Rattle.stl_tree.specs.Now.{Activation, Now, with_value}
+use Rattle.stl_tree.specs.Now.{Now, with_value}
 use Rattle.stl_tree.specs.declared.program.LoadArg.TheVariants as arg
 use Rattle.stl_tree.specs.declared.program.Operand.{Operand}
 use Rattle.st_tree.specs.Meaning.{Calls, body_meaning}
@@ -33,10 +33,11 @@ use Rattle.accumulator_templates.proofs.ReadNumbers.{number_fits}
 use Rattle.accumulator_templates.proofs.Worths.{dword}
 use Rattle.row_templates.specs.Builders.{convert_of, read_of, set_of}
 use Rattle.row_templates.specs.Fetching.{fetched_of, types_fetched}
-use Rattle.row_templates.proofs.Alike.{AreAlike, AreInRange, IsKept, Related, keep_registers}
-use Rattle.row_templates.proofs.DoesRow.{DoesRow, Leads, Stops}
+use Rattle.row_templates.specs.Related.{AreAlike, Frames, Related}
+use Rattle.instruction_laws.specs.Ranges.{AreInRange}
+use Rattle.row_templates.proofs.Alike.{keep_registers, same_areas}
+use Rattle.row_templates.specs.DoesRow.{DoesRow, Leads, Stops, own_of}
 use Rattle.row_templates.proofs.Fetching.{fetched_row, number_shown, number_value}
-use Rattle.row_templates.proofs.Locals.{own_of}
 use Rattle.row_templates.proofs.MemoryRows.{by_value}
 
 -- What is read, extended to a DWORD
@@ -82,7 +83,7 @@ module _ (g : List Located) (t : State) (e : Expr) where
 
 -- The row
 
-module _ (g : List Located) (acts : List Activation) (now : Now) (s : State) (related : Related acts now s) where
+module _ (g : List Located) (frames : Frames) (now : Now) (s : State) (related : Related frames now s) where
   -- the states once ACCU2 has what ACCU1 holds
   abbrev pushed : State
   pushed = record s { registers = with_register reg.Accu2 (pos now.registers.accu1) s.registers }
@@ -90,7 +91,7 @@ module _ (g : List Located) (acts : List Activation) (now : Now) (s : State) (re
   abbrev pushed_now : Now
   pushed_now = record now { registers = accu_pushed now.registers }
 
-  pushed_alike : AreAlike IsKept (accu_pushed now.registers) pushed.registers
+  pushed_alike : AreAlike (accu_pushed now.registers) pushed.registers
   pushed_alike reg.Accu2 asked = refl
   pushed_alike q asked = related.registers q asked
 
@@ -99,22 +100,22 @@ module _ (g : List Located) (acts : List Activation) (now : Now) (s : State) (re
       let range : AreInRange now.registers = related.range in
       record { accu1 = range.accu1; accu2 = range.accu1; ar1 = range.ar1; ar2 = range.ar2; db = range.db; di = range.di }
 
-  pushed_related : Related acts pushed_now pushed
-  pushed_related = keep_registers IsKept acts now s related IsKept (accu_pushed now.registers) pushed.registers pushed_alike pushed_range
+  pushed_related : Related frames pushed_now pushed
+  pushed_related = keep_registers frames now s related (accu_pushed now.registers) pushed.registers pushed_alike pushed_range
 
   -- and once a number has been loaded
   module _ (v : ℕ) where
     abbrev holding : State
     holding = record pushed { registers = with_register reg.Accu1 (pos v) pushed.registers }
 
-    holding_alike : AreAlike IsKept (loaded v now.registers) holding.registers
+    holding_alike : AreAlike (loaded v now.registers) holding.registers
     holding_alike reg.Accu1 asked = refl
     holding_alike q asked = pushed_alike q asked
 
-    holding_related : v < 2 ^ 32 → Related acts (record now { registers = loaded v now.registers }) holding
+    holding_related : v < 2 ^ 32 → Related frames (record now { registers = loaded v now.registers }) holding
     holding_related small =
         let range : AreInRange now.registers = related.range in
-        keep_registers IsKept acts pushed_now pushed pushed_related IsKept (loaded v now.registers) holding.registers holding_alike
+        keep_registers frames pushed_now pushed pushed_related (loaded v now.registers) holding.registers holding_alike
         (record { accu1 = small; accu2 = range.accu1; ar1 = range.ar1; ar2 = range.ar2; db = range.db; di = range.di })
 
   module _ (calls : Calls) (units used : ℕ) (e : Expr) where
@@ -125,7 +126,7 @@ module _ (g : List Located) (acts : List Activation) (now : Now) (s : State) (re
     pushes = assign_goes_on g calls (var.Register reg.Accu2) (read_of reg.Accu1) (set_of reg.Accu1 e ∷ []) units s pushed (dword now.registers.accu1) accu1_worth refl
 
     loads : (v : ℕ) → v < 2 ^ 32 → value g e pushed ≡ Ok (dword v)
-        → Leads (body_meaning g calls (taken_of e) units s) units used acts s (record now { registers = loaded v now.registers })
+        → Leads (body_meaning g calls (taken_of e) units s) units used frames s (record now { registers = loaded v now.registers })
     loads v small worth =
         record {
           to = holding v;
@@ -140,15 +141,15 @@ module _ (g : List Located) (acts : List Activation) (now : Now) (s : State) (re
         record {
           at = pushed;
           stops = pushes ∙ assign_stops_at_value g calls (var.Register reg.Accu1) e [] units pushed f worth;
-          memory = related.memory;
+          areas = same_areas frames now s related;
         }
 
   -- an expression that is worth what is read at a place; each area holds bytes, so that what is read has its width
   taken_does : (calls : Calls) (units used : ℕ) (w : Width) (p : Place) (e : Expr) → value g e pushed ≡ read_place (type_of_width w) p now.memory
-      → DoesRow (body_meaning g calls (taken_of (extended_of w e)) units s) units used acts s now.memory
+      → DoesRow (body_meaning g calls (taken_of (extended_of w e)) units s) units used frames s now.memory
       (with_value (read_number w p now.memory) (λ (v : ℕ). on_registers (loaded v) now))
   taken_does calls units used w p e read =
-      by_value (body_meaning g calls (taken_of (extended_of w e)) units s) units used acts s now.memory (λ (v : ℕ). on_registers (loaded v) now) (read_number w p now.memory)
+      by_value (body_meaning g calls (taken_of (extended_of w e)) units s) units used frames s now.memory (λ (v : ℕ). on_registers (loaded v) now) (read_number w p now.memory)
       (λ v found. loads calls units used (extended_of w e) v (wide w v (fits v found)) (worth ∙ ap (λ (r : Result ℕ Fault). and_then r (λ n. Ok (dword n))) found))
       (λ f found. load_stops calls units used (extended_of w e) f (worth ∙ ap (λ (r : Result ℕ Fault). and_then r (λ n. Ok (dword n))) found))
     where
@@ -165,12 +166,12 @@ module _ (g : List Located) (acts : List Activation) (now : Now) (s : State) (re
       wide width.Dword v h = omega arith
 
 -- L of an operand, which is fetched before ACCU1 moves to ACCU2
-pub load_does : (g : List Located) (acts : List Activation) (now : Now) (s : State) → Related acts now s → (calls : Calls) (units used : ℕ) (o : Operand) (w : Width) → IsOperand w o
+pub load_does : (g : List Located) (frames : Frames) (now : Now) (s : State) → Related frames now s → (calls : Calls) (units used : ℕ) (o : Operand) (w : Width) → IsOperand w o
     → used + length (types_fetched o w) ≤ length (own_of s.activations)
-    → DoesRow (body_meaning g calls (load_of used (arg.At o w)) units s) units used acts s now.memory (loaded_from (arg.At o w) now)
-load_does g acts now s related calls units used o w lies room =
-    fetched_row g calls units acts now s related used o w lies (read_number w) (number_value w) (number_shown w)
+    → DoesRow (body_meaning g calls (load_of used (arg.At o w)) units s) units used frames s now.memory (loaded_from (arg.At o w) now)
+load_does g frames now s related calls units used o w lies room =
+    fetched_row g calls units frames now s related used o w lies (read_number w) (number_value w) (number_shown w)
     (λ (p : Place) (after : Now) (v : ℕ). on_registers (loaded v) after) (taken_of (extended_of w (fetched_of used o w))) room
     (λ f is t done.
-    taken_does g acts f.after t done.related calls units (used + length (types_fetched o w)) w f.place (fetched_of used o w)
-    (done.worth (pushed g acts f.after t done.related) refl refl refl refl))
+    taken_does g frames f.after t done.related calls units (used + length (types_fetched o w)) w f.place (fetched_of used o w)
+    (done.worth (pushed g frames f.after t done.related) refl refl refl refl))

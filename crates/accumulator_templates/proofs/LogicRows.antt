@@ -27,7 +27,8 @@ use Rattle.accumulator_templates.specs.Parts.{with_low_of}
 use Rattle.accumulator_templates.proofs.Patterns.{whole_replaced}
 use Rattle.accumulator_templates.proofs.Worths.{dword, low_worth, word}
 use Rattle.row_templates.specs.Builders.{local_of}
-use Rattle.row_templates.proofs.Alike.{AreAlike, AreInRange, IsKept}
+use Rattle.row_templates.specs.Related.{AreAlike}
+use Rattle.instruction_laws.specs.Ranges.{AreInRange}
 use Rattle.row_templates.proofs.RegisterRows.{IsRow, registers_after}
 use Rattle.row_templates.proofs.Stages.{known, parts, stage}
 use Rattle.row_templates.proofs.Truths.{literal_worth}
@@ -153,7 +154,7 @@ module _ (g : List Located) (s : State) (used : ℕ) (r : RegisterValues) (sta :
   placed_worth row.Xod p small = whole_placed (dword p) p (simp parts)
 
   computed_alike : (l : LogicRow) (c : Option ℕ) (p : ℕ)
-      → AreAlike IsKept (logic_result (width_of l) p r) (registers_after (computed_of used l c) (computed_values l r p) (known r sta))
+      → AreAlike (logic_result (width_of l) p r) (registers_after (computed_of used l c) (computed_values l r p) (known r sta))
   computed_alike l c p reg.Sta asked = elim asked [ ]
   computed_alike l c p q asked = refl
 
@@ -183,7 +184,7 @@ module _ (g : List Located) (s : State) (used : ℕ) (r : RegisterValues) (sta :
         range = in_range (with_part width.Dword r.accu1 c) (after_logic (not (c == 0)) r.status) (placed_fits row.Ad r.accu1 c range.accu1 small);
       }
     where
-      alike : AreAlike IsKept (logic_result width.Dword c r) (registers_after (fixed_of c) (fixed_values c) (known r sta))
+      alike : AreAlike (logic_result width.Dword c r) (registers_after (fixed_of c) (fixed_values c) (known r sta))
       alike reg.Accu1 asked = ap pos (sym (whole_replaced r.accu1 c range.accu1))
       alike reg.Sta asked = elim asked [ ]
       alike q asked = refl

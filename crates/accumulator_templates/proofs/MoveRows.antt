@@ -13,7 +13,8 @@ use Rattle.accumulator_templates.specs.Parts.{dword_of}
 use Rattle.accumulator_templates.proofs.AccumulatorRows.{one_set, taken, two_set}
 use Rattle.accumulator_templates.proofs.Worths.{dword}
 use Rattle.row_templates.specs.Builders.{read_of}
-use Rattle.row_templates.proofs.Alike.{AreAlike, AreInRange, IsKept}
+use Rattle.row_templates.specs.Related.{AreAlike}
+use Rattle.instruction_laws.specs.Ranges.{AreInRange}
 use Rattle.row_templates.proofs.RegisterRows.{IsRow, registers_after}
 use Rattle.row_templates.proofs.Stages.{known, parts}
 
@@ -21,7 +22,7 @@ abbrev exchanged_values : RegisterValues → List Value
 exchanged_values r = dword r.accu1 ∷ dword r.accu2 ∷ dword r.accu1 ∷ []
 
 module _ (g : List Located) (s : State) (used : ℕ) (r : RegisterValues) (sta : ℤ) (range : AreInRange r) where
-  exchanged_alike : AreAlike IsKept (accus_exchanged r) (registers_after (exchange_of used) (exchanged_values r) (known r sta))
+  exchanged_alike : AreAlike (accus_exchanged r) (registers_after (exchange_of used) (exchanged_values r) (known r sta))
   exchanged_alike reg.Sta asked = elim asked [ ]
   exchanged_alike q asked = refl
 

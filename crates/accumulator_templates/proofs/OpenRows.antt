@@ -10,7 +10,7 @@ use Rattle.s7_base.specs.declared.word.Width.TheVariants as width
 use Rattle.stl_tree.specs.Accepted.{IsOperand}
 use Rattle.stl_tree.specs.Accumulators.{read_number}
 use Rattle.stl_tree.specs.Instructions.{block_opened, on_registers}
-use Rattle.stl_tree.specs.Now.{Activation, Now, with_value}
+use Rattle.stl_tree.specs.Now.{Now, with_value}
 use Rattle.stl_tree.specs.Registers.{RegisterValues}
 use Rattle.stl_tree.specs.declared.program.OpenArg.TheVariants as arg
 use Rattle.stl_tree.specs.declared.program.Operand.{Operand}
@@ -28,10 +28,11 @@ use Rattle.accumulator_templates.proofs.ReadNumbers.{number_fits}
 use Rattle.accumulator_templates.proofs.Worths.{word}
 use Rattle.row_templates.specs.Builders.{set_of}
 use Rattle.row_templates.specs.Fetching.{fetched_of, types_fetched}
-use Rattle.row_templates.proofs.Alike.{AreInRange, Related}
-use Rattle.row_templates.proofs.DoesRow.{DoesRow, Stops}
+use Rattle.row_templates.specs.Related.{Frames, Related}
+use Rattle.row_templates.proofs.Alike.{same_areas}
+use Rattle.instruction_laws.specs.Ranges.{AreInRange}
+use Rattle.row_templates.specs.DoesRow.{DoesRow, Stops, own_of}
 use Rattle.row_templates.proofs.Fetching.{fetched_row, number_shown, number_value}
-use Rattle.row_templates.proofs.Locals.{own_of}
 use Rattle.row_templates.proofs.MemoryRows.{by_value}
 use Rattle.row_templates.proofs.RegisterRows.{IsRow, row_does}
 use Rattle.row_templates.proofs.Stages.{known, stage, stage_begins}
@@ -48,20 +49,20 @@ Opens q row =
     (g : List Located) (s : State) (used : ℕ) (r : RegisterValues) (sta : ℤ) → AreInRange r → (e : Expr) (n : ℕ) → n < 2 ^ 16
     → value g e (stage s used [] (known r sta)) ≡ Ok (word n) → IsRow g s used (set_of q e ∷ []) r (row n r) sta
 
-module _ (g : List Located) (acts : List Activation) (calls : Calls) (units : ℕ) (q : Reg) (row : ℕ → RegisterValues → RegisterValues) (opens : Opens q row) where
+module _ (g : List Located) (frames : Frames) (calls : Calls) (units : ℕ) (q : Reg) (row : ℕ → RegisterValues → RegisterValues) (opens : Opens q row) where
   -- from an expression that is worth what is read at a place
-  word_opens : (now : Now) (s : State) → Related acts now s → (used : ℕ) (p : Place) (e : Expr) → used ≤ length (own_of s.activations)
+  word_opens : (now : Now) (s : State) → Related frames now s → (used : ℕ) (p : Place) (e : Expr) → used ≤ length (own_of s.activations)
       → value g e s ≡ read_place type.Word p now.memory
-      → DoesRow (body_meaning g calls (set_of q e ∷ []) units s) units used acts s now.memory (with_value (read_word p now.memory) (λ (v : ℕ). on_registers (row v) now))
+      → DoesRow (body_meaning g calls (set_of q e ∷ []) units s) units used frames s now.memory (with_value (read_word p now.memory) (λ (v : ℕ). on_registers (row v) now))
   word_opens now s related used p e room worth =
-      by_value (body_meaning g calls (set_of q e ∷ []) units s) units used acts s now.memory (λ (v : ℕ). on_registers (row v) now) (read_word p now.memory) goes stops
+      by_value (body_meaning g calls (set_of q e ∷ []) units s) units used frames s now.memory (λ (v : ℕ). on_registers (row v) now) (read_word p now.memory) goes stops
     where
       goes : (v : ℕ) → read_word p now.memory ≡ Ok v
-          → DoesRow (body_meaning g calls (set_of q e ∷ []) units s) units used acts s now.memory (on_registers (row v) now)
+          → DoesRow (body_meaning g calls (set_of q e ∷ []) units s) units used frames s now.memory (on_registers (row v) now)
       goes v found =
           let small : v < 2 ^ 16 = number_fits width.Word p now.memory v related.bytes found in
           let begins : s ≡ stage s used [] (known now.registers (s.registers reg.Sta)) = stage_begins s used now.registers related.registers room in
-          row_does g s used calls units (set_of q e ∷ []) acts now (row v now.registers) related
+          row_does g s used calls units (set_of q e ∷ []) frames now (row v now.registers) related
           (opens g s used now.registers (s.registers reg.Sta) related.range e v small
           (ap (value g e) (sym begins) ∙ worth ∙ word_read (read_word p now.memory) v small found)) (omega arith)
 
@@ -71,13 +72,13 @@ module _ (g : List Located) (acts : List Activation) (calls : Calls) (units : �
             at = s;
             stops = assign_stops_at_value g calls (var.Register q) e [] units s f
                 (worth ∙ ap (λ (r : Result ℕ Fault). and_then r (λ n. Ok (typed type.Word (pos n)))) found);
-            memory = related.memory;
+            areas = same_areas frames now s related;
           }
 
-  pub word_does : (now : Now) (s : State) → Related acts now s → (used : ℕ) (o : Operand) → IsOperand width.Word o → used + length (types_fetched o width.Word) ≤ length (own_of s.activations)
-      → DoesRow (body_meaning g calls (block_open_of used q (arg.At o)) units s) units used acts s now.memory (block_opened row (arg.At o) now)
+  pub word_does : (now : Now) (s : State) → Related frames now s → (used : ℕ) (o : Operand) → IsOperand width.Word o → used + length (types_fetched o width.Word) ≤ length (own_of s.activations)
+      → DoesRow (body_meaning g calls (block_open_of used q (arg.At o)) units s) units used frames s now.memory (block_opened row (arg.At o) now)
   word_does now s related used o lies room =
-      fetched_row g calls units acts now s related used o width.Word lies (read_number width.Word) (number_value width.Word) (number_shown width.Word)
+      fetched_row g calls units frames now s related used o width.Word lies (read_number width.Word) (number_value width.Word) (number_shown width.Word)
       (λ (p : Place) (after : Now) (v : ℕ). on_registers (row v) after) (set_of q (fetched_of used o width.Word) ∷ []) room
       (λ f is t done.
       let many : length (own_of t.activations) ≡ length (own_of s.activations) = done.as_many in

@@ -42,7 +42,8 @@ use Rattle.accumulator_templates.specs.Sums.{add_dword_of, add_word_of, dec_of, 
 use Rattle.row_templates.specs.Builders.{constant_of, convert_of, read_of, set_of}
 use Rattle.row_templates.specs.Fetching.{fetched_of, types_reached, writing_of}
 use Rattle.row_templates.proofs.FetchBounds.{fetch_plain, fetched_is, reach_plain, writing_plain}
-use Rattle.row_templates.proofs.Typing.{AreTyped, IsOf, IsPlainBody, binary_is, constant_is, convert_is, first_typed, literal_is, local_is, local_plain, more, register_is, select_is, set_plain, shift_is, unary_is}
+use Rattle.row_templates.specs.Templates.{AreTyped, IsPlainBody}
+use Rattle.row_templates.proofs.Typing.{IsOf, binary_is, constant_is, convert_is, first_typed, literal_is, local_is, local_plain, more, register_is, select_is, set_plain, shift_is, unary_is}
 
 -- constants of their types
 
@@ -72,7 +73,7 @@ module _ (sight : Sight) where
 
   any_bit_is : {n : ℕ} {e : Expr} (mask : ℕ) → is_value type.Dword (pos mask) ≡ true → IsOf sight type.Dword n e → IsOf sight type.Bool (3 + n) (any_bit_of e mask)
   any_bit_is mask h k =
-      more sight (omega arith) (binary_is sight binary.Ne refl (binary_is sight binary.And refl k (constant_is sight h)) (constant_is sight refl))
+      more sight (omega arith) (binary_is sight binary.Ne tt refl (binary_is sight binary.And tt refl k (constant_is sight h)) (constant_is sight refl))
 
   bits_where_is : {n : ℕ} {e : Expr} (mask : ℕ) → is_value type.Dword (pos mask) ≡ true → IsOf sight type.Bool n e → IsOf sight type.Dword (3 + n) (bits_where_of e mask)
   bits_where_is mask h k = more sight (omega arith) (select_is sight k (constant_is sight refl) (constant_is sight h))
@@ -91,11 +92,11 @@ module _ (sight : Sight) where
 
   with_byte_is : {n : ℕ} {e : Expr} → IsOf sight type.Byte n e → IsOf sight type.Dword (4 + n) (with_byte_of e)
   with_byte_is h =
-      more sight (omega arith) (binary_is sight binary.Or refl (binary_is sight binary.And refl one_is (constant_is sight refl)) (extended_is width.Byte h))
+      more sight (omega arith) (binary_is sight binary.Or tt refl (binary_is sight binary.And tt refl one_is (constant_is sight refl)) (extended_is width.Byte h))
 
   with_low_is : {n : ℕ} {e : Expr} → IsOf sight type.Word n e → IsOf sight type.Dword (4 + n) (with_low_of e)
   with_low_is h =
-      more sight (omega arith) (binary_is sight binary.Or refl (binary_is sight binary.And refl one_is (constant_is sight refl)) (extended_is width.Word h))
+      more sight (omega arith) (binary_is sight binary.Or tt refl (binary_is sight binary.And tt refl one_is (constant_is sight refl)) (extended_is width.Word h))
 
   zero_is : (w : Width) → IsOf sight (type_of_width w) 1 (expr.Literal (type_of_width w) (pos 0))
   zero_is width.Bit = constant_is sight refl
@@ -107,7 +108,7 @@ module _ (sight : Sight) where
       → IsOf sight type.Dword (5 + n) (with_flag_of e r mask)
   with_flag_is r mask t h k =
       more sight (omega arith)
-      (binary_is sight binary.Or refl k (bits_where_is mask h (subst (λ (ty : StType). IsOf sight ty 1 (read_of r)) t (register_is sight r))))
+      (binary_is sight binary.Or tt refl k (bits_where_is mask h (subst (λ (ty : StType). IsOf sight ty 1 (read_of r)) t (register_is sight r))))
 
   -- Word logic
 
@@ -121,12 +122,12 @@ module _ (sight : Sight) where
   other_is l None h = cut_is (width_of l) two_is
 
   combined_is : (l : LogicRow) (c : Option ℕ) → IsOfWidth (width_of l) c → IsOf sight (type_of_row l) 5 (combined_of l c)
-  combined_is row.Aw c h = binary_is sight binary.And refl (cut_is width.Word one_is) (other_is row.Aw c h)
-  combined_is row.Ow c h = binary_is sight binary.Or refl (cut_is width.Word one_is) (other_is row.Ow c h)
-  combined_is row.Xow c h = binary_is sight binary.Xor refl (cut_is width.Word one_is) (other_is row.Xow c h)
-  combined_is row.Ad c h = binary_is sight binary.And refl (cut_is width.Dword one_is) (other_is row.Ad c h)
-  combined_is row.Od c h = binary_is sight binary.Or refl (cut_is width.Dword one_is) (other_is row.Od c h)
-  combined_is row.Xod c h = binary_is sight binary.Xor refl (cut_is width.Dword one_is) (other_is row.Xod c h)
+  combined_is row.Aw c h = binary_is sight binary.And tt refl (cut_is width.Word one_is) (other_is row.Aw c h)
+  combined_is row.Ow c h = binary_is sight binary.Or tt refl (cut_is width.Word one_is) (other_is row.Ow c h)
+  combined_is row.Xow c h = binary_is sight binary.Xor tt refl (cut_is width.Word one_is) (other_is row.Xow c h)
+  combined_is row.Ad c h = binary_is sight binary.And tt refl (cut_is width.Dword one_is) (other_is row.Ad c h)
+  combined_is row.Od c h = binary_is sight binary.Or tt refl (cut_is width.Dword one_is) (other_is row.Od c h)
+  combined_is row.Xod c h = binary_is sight binary.Xor tt refl (cut_is width.Dword one_is) (other_is row.Xod c h)
 
   placed_is : (l : LogicRow) (e : Expr) → IsOf sight (type_of_row l) 1 e → IsOf sight type.Dword 5 (with_pattern_of l e)
   placed_is row.Aw e h = with_low_is h
@@ -250,22 +251,22 @@ module _ (sight : Sight) where
     pub add_word_plain : (n : ℤ) → is_over 16 n ≡ false → IsPlainBody sight (add_word_of n ++ rest)
     add_word_plain n h =
         unless_zero_plain n _ (omega arith)
-        (with_low_is (convert_is sight refl (binary_is sight binary.Add refl (convert_is sight refl one_is) (constant_is sight (int_value n h)))))
+        (with_low_is (convert_is sight refl (binary_is sight binary.Add tt refl (convert_is sight refl one_is) (constant_is sight (int_value n h)))))
 
     pub add_dword_plain : (n : ℤ) → is_over 32 n ≡ false → IsPlainBody sight (add_dword_of n ++ rest)
     add_dword_plain n h =
         unless_zero_plain n _ (omega arith)
-        (convert_is sight refl (binary_is sight binary.Add refl (convert_is sight refl one_is) (constant_is sight (dint_value n h))))
+        (convert_is sight refl (binary_is sight binary.Add tt refl (convert_is sight refl one_is) (constant_is sight (dint_value n h))))
 
     pub inc_plain : (n : ℕ) → n < 2 ^ 8 → IsPlainBody sight (inc_of n ++ rest)
     inc_plain n h =
         unless_zero_plain (pos n) _ (omega arith)
-        (with_byte_is (convert_is sight refl (binary_is sight binary.Add refl (convert_is sight refl one_is) (constant_is sight (byte_value n h)))))
+        (with_byte_is (convert_is sight refl (binary_is sight binary.Add tt refl (convert_is sight refl one_is) (constant_is sight (byte_value n h)))))
 
     pub dec_plain : (n : ℕ) → n < 2 ^ 8 → IsPlainBody sight (dec_of n ++ rest)
     dec_plain n h =
         unless_zero_plain (pos n) _ (omega arith)
-        (with_byte_is (convert_is sight refl (binary_is sight binary.Sub refl (convert_is sight refl one_is) (constant_is sight (byte_value n h)))))
+        (with_byte_is (convert_is sight refl (binary_is sight binary.Sub tt refl (convert_is sight refl one_is) (constant_is sight (byte_value n h)))))
 
     -- Word logic
 
@@ -282,7 +283,7 @@ module _ (sight : Sight) where
         → IsPlainBody sight (computed_of first l c ++ rest)
     computed_plain first l c h own =
         local_plain sight _ _ _ (omega arith) own (combined_is l c h)
-        (result_plain _ _ (omega arith) (omega arith) (binary_is sight binary.Ne refl (local_is sight own) (zero_is (width_of l))) (placed_is l _ (local_is sight own)))
+        (result_plain _ _ (omega arith) (omega arith) (binary_is sight binary.Ne tt refl (local_is sight own) (zero_is (width_of l))) (placed_is l _ (local_is sight own)))
 
     pub logic_plain : (first : ℕ) (l : LogicRow) (c : Option ℕ) → HasOperand (op.Logic l c) → AreTyped sight first (types_of_logic l c)
         → IsPlainBody sight (logic_of first l c ++ rest)
@@ -311,9 +312,9 @@ module _ (sight : Sight) where
     pub cad_plain : IsPlainBody sight (cad_of ++ rest)
     cad_plain =
         one_plain reversed_value (omega arith)
-        (binary_is sight binary.Or refl
-        (binary_is sight binary.Or refl
-        (binary_is sight binary.Or refl
+        (binary_is sight binary.Or tt refl
+        (binary_is sight binary.Or tt refl
+        (binary_is sight binary.Or tt refl
         (shift_is sight shift.Shl refl (low_byte_is one_is) (constant_is sight refl))
         (shift_is sight shift.Shl refl (byte_above_is 8 refl) (constant_is sight refl)))
         (shift_is sight shift.Shl refl (byte_above_is 16 refl) (constant_is sight refl)))

@@ -21,7 +21,8 @@ use Rattle.accumulator_templates.proofs.AccumulatorRows.{pushed_registers, taken
 use Rattle.accumulator_templates.proofs.Patterns.{tested_bit}
 use Rattle.accumulator_templates.proofs.Worths.{dword, low_first}
 use Rattle.row_templates.specs.Builders.{read_of}
-use Rattle.row_templates.proofs.Alike.{AreAlike, AreInRange, IsKept}
+use Rattle.row_templates.specs.Related.{AreAlike}
+use Rattle.instruction_laws.specs.Ranges.{AreInRange}
 use Rattle.row_templates.proofs.RegisterRows.{IsRow, registers_after}
 use Rattle.row_templates.proofs.Stages.{known, parts, stage}
 
@@ -91,7 +92,7 @@ module _ (g : List Located) (s : State) (used : ℕ) (r : RegisterValues) (sta :
       flag (bit_at r.accu1 1 == 1) ∷ flag (bit_at r.accu1 4 == 1) ∷ flag (bit_at r.accu1 5 == 1) ∷ flag (bit_at r.accu1 6 == 1)
       ∷ flag (bit_at r.accu1 7 == 1) ∷ flag (bit_at r.accu1 8 == 1) ∷ []
 
-  stored_alike : AreAlike IsKept (status_stored r) (registers_after status_store_of stored_values (known r sta))
+  stored_alike : AreAlike (status_stored r) (registers_after status_store_of stored_values (known r sta))
   unfolding bits_of has_bit
   stored_alike reg.Sta asked = elim asked [ ]
   stored_alike q asked = refl

@@ -21,7 +21,7 @@ use Rattle.accumulator_templates.proofs.AccumulatorRows.{one_set, one_stays, wit
 use Rattle.accumulator_templates.proofs.Patterns.{byte_difference, byte_sum, nothing_added_16, nothing_added_32, nothing_added_8, nothing_taken_8, pattern_below_32, pattern_below_8, same_pattern_32, whole_replaced}
 use Rattle.accumulator_templates.proofs.Worths.{byte, byte_worth, dword, low_worth, word}
 use Rattle.row_templates.specs.Builders.{set_of}
-use Rattle.row_templates.proofs.Alike.{AreInRange}
+use Rattle.instruction_laws.specs.Ranges.{AreInRange}
 use Rattle.row_templates.proofs.Numbers.{pattern_below, same_pattern}
 use Rattle.row_templates.proofs.RegisterRows.{IsRow}
 use Rattle.row_templates.proofs.Stages.{known, parts, stage}

@@ -11,7 +11,7 @@ use Rattle.s7_base.specs.declared.word.Width.TheVariants as width
 use Rattle.stl_tree.specs.Accepted.{IsOperand}
 use Rattle.stl_tree.specs.Accumulators.{part, write_number}
 use Rattle.stl_tree.specs.Instructions.{transferred}
-use Rattle.stl_tree.specs.Now.{Activation, Now}
+use Rattle.stl_tree.specs.Now.{Now}
 use Rattle.stl_tree.specs.declared.program.Operand.{Operand}
 use Rattle.st_tree.specs.Meaning.{Calls, body_meaning}
 use Rattle.st_tree.specs.State.{State, write_place}
@@ -26,9 +26,8 @@ use Rattle.accumulator_templates.proofs.Patterns.{tested_bit}
 use Rattle.accumulator_templates.proofs.Worths.{byte, dword, word}
 use Rattle.row_templates.specs.Builders.{read_of}
 use Rattle.row_templates.specs.Fetching.{types_reached}
-use Rattle.row_templates.proofs.Alike.{Related}
-use Rattle.row_templates.proofs.DoesRow.{DoesRow}
-use Rattle.row_templates.proofs.Locals.{own_of}
+use Rattle.row_templates.specs.Related.{Frames, Related}
+use Rattle.row_templates.specs.DoesRow.{DoesRow, own_of}
 use Rattle.row_templates.proofs.Fetching.{reached_row}
 
 -- the lowest bits of an accumulator as a value of a width
@@ -56,7 +55,7 @@ written width.Byte p a m = ap (λ (n : ℕ). write_byte p n m) (twice_8 a)
 written width.Word p a m = ap (λ (n : ℕ). write_word p n m) (twice_16 a)
 written width.Dword p a m = refl
 
-module _ (g : List Located) (acts : List Activation) (now : Now) (s : State) (related : Related acts now s) where
+module _ (g : List Located) (frames : Frames) (now : Now) (s : State) (related : Related frames now s) where
   cut_worth : (w : Width) → value g (cut_of w (read_of reg.Accu1)) s ≡ Ok (cut_value w now.registers.accu1)
   cut_worth width.Bit =
       let e = related.registers reg.Accu1 tt in
@@ -67,12 +66,12 @@ module _ (g : List Located) (acts : List Activation) (now : Now) (s : State) (re
   cut_worth width.Dword = let e = related.registers reg.Accu1 tt in simp (value_equations, e)
 
 -- T of an operand, whose lowest bits of ACCU1 are written once it was reached
-pub transfer_does : (g : List Located) (acts : List Activation) (now : Now) (s : State) → Related acts now s → (calls : Calls) (units used : ℕ) (o : Operand) (w : Width) → IsOperand w o
+pub transfer_does : (g : List Located) (frames : Frames) (now : Now) (s : State) → Related frames now s → (calls : Calls) (units used : ℕ) (o : Operand) (w : Width) → IsOperand w o
     → used + length (types_reached o) ≤ length (own_of s.activations)
-    → DoesRow (body_meaning g calls (transfer_of used o w) units s) units used acts s now.memory (transferred o w now)
-transfer_does g acts now s related calls units used o w lies room =
-    reached_row g calls units acts now s related used o w lies (cut_of w (read_of reg.Accu1)) (λ (after : Now). cut_value w after.registers.accu1)
-    (λ after t relates. cut_worth g acts after t relates w)
+    → DoesRow (body_meaning g calls (transfer_of used o w) units s) units used frames s now.memory (transferred o w now)
+transfer_does g frames now s related calls units used o w lies room =
+    reached_row g calls units frames now s related used o w lies (cut_of w (read_of reg.Accu1)) (λ (after : Now). cut_value w after.registers.accu1)
+    (λ after t relates. cut_worth g frames after t relates w)
     (λ (p : Place) (after : Now). write_number w p (part w after.registers.accu1) after.memory)
     (λ p after. written w p after.registers.accu1 after.memory)
     (λ (done : Now). done) [] room

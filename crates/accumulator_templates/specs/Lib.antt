@@ -4,3 +4,4 @@ pub mod DataBlocks
 pub mod Sums
 pub mod Logic
 pub mod Conversions
+pub mod AccumulatorLaw

@@ -3,9 +3,11 @@
 //!
 //! Stands on `row_templates`. Each function puts the statements of one row behind some steps, as the definition of
 //! that row has them. What takes locals is told the number of the first free one, and has a function for their types.
-//! The proofs say of each row that its statements do what the row does, read only what it reads, and are small,
-//! well typed and low.
+//! The crate promises of each instruction that its statements do what it does, read only what it reads, are few and
+//! small, and are those of a plain graph: well typed, low and without a fault by division.
 #![tactic(auto)]
+
+ghost use Rattle.accumulator_templates.specs.AccumulatorLaw.{AccumulatorServes};
 
 pub use conversions::{push_cad, push_caw, push_invd, push_invi, push_itd};
 pub use data_blocks::{
@@ -25,3 +27,10 @@ mod logic;
 mod moves;
 mod parts;
 mod sums;
+
+/// The statements of each of these instructions do what the instruction does. They read the registers alone that it
+/// reads, are at most eleven with at most 91 nodes of expressions, and are well typed, low and without a fault by
+/// division; their locals are written before they are read.
+pub fn accumulators_serve()
+    ensures { AccumulatorServes }
+{}

@@ -17,7 +17,9 @@ use Rattle.st_tree.specs.declared.expr.StType.{StType}
 use Rattle.st_tree.specs.declared.program.Located.{Located}
 use Rattle.st_tree.specs.declared.state.Value.{Value}
 use Rattle.row_templates.specs.Builders.{local_of}
-use Rattle.row_templates.proofs.Alike.{AreAlike, AreInRange, IsKept, any_status}
+use Rattle.row_templates.specs.Related.{AreAlike}
+use Rattle.instruction_laws.specs.Ranges.{AreInRange}
+use Rattle.row_templates.proofs.Alike.{any_status}
 use Rattle.row_templates.proofs.RegisterRows.{IsRow, registers_after}
 use Rattle.row_templates.proofs.Stages.{known, parts, stage}
 use Rattle.arithmetic_templates.specs.Comparisons.{compared_of, comparison_of}
@@ -45,18 +47,10 @@ module _ (g : List Located) (s : State) (used : ℕ) (r : RegisterValues) (sta :
   comparison_worth : (t : Test) (ty : StType) (x y : ℤ) (registers : Reg → ℤ)
       → value g (comparison_of t (local_of used) (local_of (used + 1))) (stage s used (numbers_kept ty x y) registers) ≡ Ok (flag (holds t x y))
   comparison_worth test.Eq ty x y registers = simp parts
-  comparison_worth test.Ne ty x y registers = simp parts
-  comparison_worth test.Gt ty x y registers = simp parts
-  comparison_worth test.Lt ty x y registers = simp parts
-  comparison_worth test.Ge ty x y registers = simp parts
-  comparison_worth test.Le ty x y registers = simp parts
-  comparison_worth test.Uo ty x y registers = simp parts
-  comparison_worth test.Ov ty x y registers = simp parts
-  comparison_worth test.Os ty x y registers = simp parts
-  comparison_worth test.Br ty x y registers = simp parts
+  comparison_worth other ty x y registers = simp parts
 
   compared_alike : (t : Test) (w : Width) (x y : ℤ)
-      → AreAlike IsKept (compared_numbers t x y r) (registers_after (compared_of used t w) (compared_values t (narrow w) x y) (known r sta))
+      → AreAlike (compared_numbers t x y r) (registers_after (compared_of used t w) (compared_values t (narrow w) x y) (known r sta))
   compared_alike t w x y reg.Sta asked = elim asked [ ]
   compared_alike t w x y q asked = refl
 
@@ -87,5 +81,4 @@ module _ (g : List Located) (s : State) (used : ℕ) (r : RegisterValues) (sta :
         alike = compared_alike t width.Dword x y;
         range = any_status r (compared t width.Dword r).status range;
       }
-  compared_row t width.Bit calculated = elim calculated [ ]
-  compared_row t width.Byte calculated = elim calculated [ ]
+  compared_row t other calculated = elim calculated [ ]

@@ -20,7 +20,8 @@ use Rattle.st_tree.specs.declared.expr.StType.{StType}
 use Rattle.st_tree.specs.declared.expr.StType.TheVariants as type
 use Rattle.st_tree.specs.declared.program.Located.{Located}
 use Rattle.st_tree.specs.declared.state.Value.{Value}
-use Rattle.row_templates.proofs.Alike.{AreAlike, AreInRange, IsKept}
+use Rattle.row_templates.specs.Related.{AreAlike}
+use Rattle.instruction_laws.specs.Ranges.{AreInRange}
 use Rattle.row_templates.proofs.Numbers.{or_numbers, over_word, pattern_below, wide_low}
 use Rattle.row_templates.proofs.RegisterRows.{IsRow, registers_after}
 use Rattle.row_templates.proofs.Stages.{known, parts, stage}
@@ -176,7 +177,7 @@ module _ (g : List Located) (s : State) (used : ℕ) where
     abbrev remainder_after_row : RegisterValues
     remainder_after_row = after_division (none_of width.Dword) (none_of width.Dword) (remainder width.Dword) (pattern 32 (remainder width.Dword)) r
 
-    remainder_alike : AreAlike IsKept remainder_after_row
+    remainder_alike : AreAlike remainder_after_row
         (registers_after (divisor_kept_of used width.Dword ++ remainder_in_dword_of used) remainder_values (known r sta))
     unfolding divisor_kept_of remainder_in_dword_of
     remainder_alike reg.Sta asked = elim asked [ ]
@@ -215,7 +216,7 @@ module _ (g : List Located) (s : State) (used : ℕ) where
     abbrev dword_after_row : RegisterValues
     dword_after_row = after_division (none_of width.Dword) dword_over (quotient width.Dword) (pattern 32 (quotient width.Dword)) r
 
-    dword_alike : AreAlike IsKept dword_after_row
+    dword_alike : AreAlike dword_after_row
         (registers_after (divisor_kept_of used width.Dword ++ quotient_in_dword_of used) dword_values (known r sta))
     unfolding divisor_kept_of quotient_in_dword_of
     dword_alike reg.Sta asked = elim asked [ ]
@@ -270,7 +271,7 @@ module _ (g : List Located) (s : State) (used : ℕ) where
     abbrev words_after_row : RegisterValues
     words_after_row = after_division (none_of width.Word) words_over (quotient width.Word) both_words r
 
-    words_alike : AreAlike IsKept words_after_row
+    words_alike : AreAlike words_after_row
         (registers_after (divisor_kept_of used width.Word ++ quotient_in_words_of used) words_values (known r sta))
     unfolding divisor_kept_of quotient_in_words_of
     words_alike reg.Sta asked = elim asked [ ]

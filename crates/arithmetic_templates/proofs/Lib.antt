@@ -1,6 +1,7 @@
 pub mod ComparisonRows
 pub mod DivisionRows
 pub mod FewReads
+pub mod LawRows
 pub mod PlainRows
 pub mod ProductRows
 pub mod ResultRows

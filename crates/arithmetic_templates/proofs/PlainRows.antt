@@ -1,6 +1,6 @@
 -- The statements of each row are well typed and nest little, their expressions are low, and they call nothing, where the
 -- locals have their types.
-use Rattle.std.proofs.Common.{◌≡◌, ℕ, ◌+◌, ◌≤◌, max, true, false, List, [], ◌∷◌, ◌++◌, Some, refl, arith}
+use Rattle.std.proofs.Common.{◌≡◌, ℕ, ◌+◌, ◌≤◌, max, true, false, List, [], ◌∷◌, ◌++◌, Some, inr, refl, arith}
 use Rattle.std.specs.Prelude.{pos}
 use Rattle.s7_base.specs.declared.register.Reg.{Reg}
 use Rattle.s7_base.specs.declared.register.Reg.TheVariants as reg
@@ -22,8 +22,11 @@ use Rattle.st_tree.specs.declared.expr.StType.TheVariants as type
 use Rattle.st_tree.specs.declared.expr.UnaryOp.TheVariants as unary
 use Rattle.st_tree.specs.declared.expr.Var.TheVariants as var
 use Rattle.st_tree.specs.declared.program.Stmt.{Stmt}
+use Rattle.graph_rules.proofs.Divisors.{IsNoDivision}
+use Rattle.graph_rules.specs.Divisors.{IsSureDivisor}
 use Rattle.row_templates.specs.Builders.{local_of, or_of, read_of, unary_of}
-use Rattle.row_templates.proofs.Typing.{AreTyped, IsBool, IsOf, IsPlainBody, binary_is, cleared_plain, constant_is, convert_is, first_typed, literal_is, local_is, local_plain, more, or_is, register_is, select_is, set_plain, shift_is, unary_is}
+use Rattle.row_templates.specs.Templates.{AreTyped, IsPlainBody}
+use Rattle.row_templates.proofs.Typing.{IsBool, IsOf, binary_is, cleared_plain, constant_is, convert_is, first_typed, literal_is, local_is, local_plain, more, or_is, quotient_is, register_is, remainder_is, select_is, set_plain, shift_is, unary_is}
 use Rattle.arithmetic_templates.specs.Calculations.{both_words_of, calculated_of, divided_of, division_ending_of, divisor_kept_of, divisor_of, negated_of, operated_of, product_of, quotient_in_dword_of, quotient_in_words_of, quotient_over_of, remainder_in_dword_of, result_of, types_of_calculated, types_of_negated, zero_of}
 use Rattle.arithmetic_templates.specs.Comparisons.{compared_of, comparison_of, types_of_compared}
 use Rattle.arithmetic_templates.specs.Numbers.{differs_of, cut_of, ending_of, narrow, negative_of, positive_of, wide, wide_number_of, with_number_of}
@@ -42,63 +45,29 @@ wide_numbers : (w : Width) → IsNumbers (wide w)
 wide_numbers width.Dword = (refl, refl, refl)
 wide_numbers other = (refl, refl, refl)
 
-widens : (w : Width) → is_conversion (narrow w) (wide w) ≡ true
-widens width.Dword = refl
-widens other = refl
-
-cuts : (w : Width) → is_conversion (wide w) (narrow w) ≡ true
-cuts width.Dword = refl
-cuts other = refl
-
-loads : (w : Width) → is_conversion type.Dword (narrow w) ≡ true
-loads width.Dword = refl
-loads other = refl
-
-stores : (w : Width) → is_conversion (wide w) type.Dword ≡ true
-stores width.Dword = refl
-stores other = refl
-
 -- the other signs of comparisons
 same_signs : (w : Width) → (type_on_equals binary.Eq (narrow w) ≡ Some type.Bool) × (type_on_equals binary.Ne (narrow w) ≡ Some type.Bool)
     × (type_on_equals binary.Ge (narrow w) ≡ Some type.Bool) × (type_on_equals binary.Le (narrow w) ≡ Some type.Bool)
 same_signs width.Dword = (refl, refl, refl, refl)
 same_signs other = (refl, refl, refl, refl)
 
-differ : (w : Width) → type_on_equals binary.Ne (wide w) ≡ Some type.Bool
-differ width.Dword = refl
-differ other = refl
+-- between its own type and the wider one, and in the wider one
+record Rules (w : Width) : Type 0 where
+  widens : is_conversion (narrow w) (wide w) ≡ true
+  cuts : is_conversion (wide w) (narrow w) ≡ true
+  loads : is_conversion type.Dword (narrow w) ≡ true
+  stores : is_conversion (wide w) type.Dword ≡ true
+  differ : type_on_equals binary.Ne (wide w) ≡ Some type.Bool
+  equals : type_on_equals binary.Eq (wide w) ≡ Some type.Bool
+  one_value : is_value (wide w) (pos 1) ≡ true
+  divides : type_on_equals binary.Div (wide w) ≡ Some (wide w)
+  leaves : type_on_equals binary.Mod (wide w) ≡ Some (wide w)
+  multiplies : type_on_equals binary.Mul (wide w) ≡ Some (wide w)
+  negates : type_of_unary unary.Minus (wide w) ≡ Some (wide w)
 
-equals : (w : Width) → type_on_equals binary.Eq (wide w) ≡ Some type.Bool
-equals width.Dword = refl
-equals other = refl
-
-one_value : (w : Width) → is_value (wide w) (pos 1) ≡ true
-one_value width.Dword = refl
-one_value other = refl
-
-divides : (w : Width) → type_on_equals binary.Div (wide w) ≡ Some (wide w)
-divides width.Dword = refl
-divides other = refl
-
-leaves : (w : Width) → type_on_equals binary.Mod (wide w) ≡ Some (wide w)
-leaves width.Dword = refl
-leaves other = refl
-
-adds : (w : Width) → type_on_equals binary.Add (wide w) ≡ Some (wide w)
-adds width.Dword = refl
-adds other = refl
-
-subtracts : (w : Width) → type_on_equals binary.Sub (wide w) ≡ Some (wide w)
-subtracts width.Dword = refl
-subtracts other = refl
-
-multiplies : (w : Width) → type_on_equals binary.Mul (wide w) ≡ Some (wide w)
-multiplies width.Dword = refl
-multiplies other = refl
-
-negates : (w : Width) → type_of_unary unary.Minus (wide w) ≡ Some (wide w)
-negates width.Dword = refl
-negates other = refl
+rules : (w : Width) → Rules w
+rules width.Dword = record { widens = refl; cuts = refl; loads = refl; stores = refl; differ = refl; equals = refl; one_value = refl; divides = refl; leaves = refl; multiplies = refl; negates = refl }
+rules other = record { widens = refl; cuts = refl; loads = refl; stores = refl; differ = refl; equals = refl; one_value = refl; divides = refl; leaves = refl; multiplies = refl; negates = refl }
 
 module _ (sight : Sight) where
   -- a local is of a type
@@ -112,58 +81,65 @@ module _ (sight : Sight) where
   accu2_is = register_is sight reg.Accu2
 
   wide_is : (w : Width) (r : Reg) → IsOf sight type.Dword 1 (read_of r) → IsOf sight (wide w) 3 (wide_number_of w r)
-  wide_is w r h = convert_is sight (widens w) (convert_is sight (loads w) h)
+  wide_is w r h = convert_is sight (rules w).widens (convert_is sight (rules w).loads h)
 
   cut_is : (w : Width) (i : ℕ) → IsLocal i (wide w) → IsOf sight (narrow w) 2 (cut_of w i)
-  cut_is w i h = convert_is sight (cuts w) (local_is sight h)
+  cut_is w i h = convert_is sight (rules w).cuts (local_is sight h)
 
   differs_is : {n : ℕ} (w : Width) (e : Expr) (i : ℕ) → IsOf sight (narrow w) n e → IsLocal i (wide w) → IsBool sight (1 + max (1 + n) 1) (differs_of w e i)
-  differs_is w e i h k = binary_is sight binary.Ne (differ w) (convert_is sight (widens w) h) (local_is sight k)
+  differs_is w e i h k = binary_is sight binary.Ne tt (rules w).differ (convert_is sight (rules w).widens h) (local_is sight k)
 
   positive_is : (ty : StType) (i : ℕ) → IsNumbers ty → IsLocal i ty → IsBool sight 2 (positive_of ty i)
-  positive_is ty i numbers h = binary_is sight binary.Gt numbers.0 (local_is sight h) (constant_is sight numbers.2)
+  positive_is ty i numbers h = binary_is sight binary.Gt tt numbers.0 (local_is sight h) (constant_is sight numbers.2)
 
   negative_is : (ty : StType) (i : ℕ) → IsNumbers ty → IsLocal i ty → IsBool sight 2 (negative_of ty i)
-  negative_is ty i numbers h = binary_is sight binary.Lt numbers.1 (local_is sight h) (constant_is sight numbers.2)
+  negative_is ty i numbers h = binary_is sight binary.Lt tt numbers.1 (local_is sight h) (constant_is sight numbers.2)
 
   with_number_is : {n : ℕ} (w : Width) (e : Expr) → IsOf sight (narrow w) n e → IsOf sight type.Dword (3 + n) (with_number_of w e)
   with_number_is width.Dword e h = more sight (omega arith) (convert_is sight refl h)
   with_number_is other e h =
       more sight (omega arith)
-      (or_dword (binary_is sight binary.And refl accu1_is (constant_is sight refl)) (convert_is sight refl (convert_is sight refl h)))
+      (or_dword (binary_is sight binary.And tt refl accu1_is (constant_is sight refl)) (convert_is sight refl (convert_is sight refl h)))
     where
       or_dword : {m n : ℕ} {e f : Expr} → IsOf sight type.Dword m e → IsOf sight type.Dword n f → IsOf sight type.Dword (1 + max m n) (or_of e f)
-      or_dword h k = binary_is sight binary.Or refl h k
+      or_dword h k = binary_is sight binary.Or tt refl h k
 
-  operated_is : (op : BinaryOp) (w : Width) → type_on_equals op (wide w) ≡ Some (wide w) → IsOf sight (wide w) 4 (operated_of op w)
-  operated_is op w h = binary_is sight op h (wide_is w reg.Accu2 accu2_is) (wide_is w reg.Accu1 accu1_is)
+  operated_is : (op : BinaryOp) → IsNoDivision op → (w : Width) → type_on_equals op (wide w) ≡ Some (wide w) → IsOf sight (wide w) 4 (operated_of op w)
+  operated_is op other w h = binary_is sight op other h (wide_is w reg.Accu2 accu2_is) (wide_is w reg.Accu1 accu1_is)
 
   zero_is : (w : Width) (i : ℕ) → IsLocal i (wide w) → IsBool sight 2 (zero_of (wide w) i)
-  zero_is w i h = binary_is sight binary.Eq (equals w) (local_is sight h) (constant_is sight (wide_numbers w).2)
+  zero_is w i h = binary_is sight binary.Eq tt (rules w).equals (local_is sight h) (constant_is sight (wide_numbers w).2)
 
   divisor_is : (w : Width) (i : ℕ) → IsLocal i (wide w) → IsOf sight (wide w) 3 (divisor_of (wide w) i)
   unfolding divisor_of
-  divisor_is w i h = select_is sight (zero_is w i h) (local_is sight h) (constant_is sight (one_value w))
+  divisor_is w i h = select_is sight (zero_is w i h) (local_is sight h) (constant_is sight (rules w).one_value)
 
-  divided_is : (op : BinaryOp) (w : Width) (i : ℕ) → type_on_equals op (wide w) ≡ Some (wide w) → IsLocal i (wide w) → IsOf sight (wide w) 4 (divided_of op w i)
-  divided_is op w i h k = binary_is sight op h (wide_is w reg.Accu2 accu2_is) (divisor_is w i k)
+  divisor_is_sure : (w : Width) (i : ℕ) → IsSureDivisor (divisor_of (wide w) i)
+  unfolding divisor_of
+  divisor_is_sure w i = inr (record { ty = wide w; number = local_of i; select = refl })
+
+  quotient_in_wide : (w : Width) (i : ℕ) → IsLocal i (wide w) → IsOf sight (wide w) 4 (divided_of binary.Div w i)
+  quotient_in_wide w i h = quotient_is sight (divisor_is_sure w i) (rules w).divides (wide_is w reg.Accu2 accu2_is) (divisor_is w i h)
+
+  remainder_in_wide : (w : Width) (i : ℕ) → IsLocal i (wide w) → IsOf sight (wide w) 4 (divided_of binary.Mod w i)
+  remainder_in_wide w i h = remainder_is sight (divisor_is_sure w i) (rules w).leaves (wide_is w reg.Accu2 accu2_is) (divisor_is w i h)
 
   quotient_over_is : (w : Width) (none i : ℕ) → IsLocal none type.Bool → IsLocal i (wide w) → IsBool sight 5 (quotient_over_of w none i)
   quotient_over_is w none i h k = or_is sight (local_is sight h) (differs_is w (cut_of w i) i (cut_is w i k) k)
 
   both_words_is : (quotient remainder : ℕ) → IsLocal quotient type.Dint → IsLocal remainder type.Dint → IsOf sight type.Dword 4 (both_words_of quotient remainder)
   both_words_is quotient remainder h k =
-      binary_is sight binary.Or refl (shift_is sight shift.Shl refl (convert_is sight refl (local_is sight k)) (constant_is sight refl))
+      binary_is sight binary.Or tt refl (shift_is sight shift.Shl refl (convert_is sight refl (local_is sight k)) (constant_is sight refl))
       (convert_is sight refl (convert_is sight refl (local_is sight h)))
 
   comparison_is : (t : Test) (w : Width) (i : ℕ) → IsLocal i (narrow w) → IsLocal (i + 1) (narrow w)
       → IsBool sight 2 (comparison_of t (local_of i) (local_of (i + 1)))
-  comparison_is test.Eq w i h k = binary_is sight binary.Eq (same_signs w).0 (local_is sight h) (local_is sight k)
-  comparison_is test.Ne w i h k = binary_is sight binary.Ne (same_signs w).1 (local_is sight h) (local_is sight k)
-  comparison_is test.Gt w i h k = binary_is sight binary.Gt (narrow_numbers w).0 (local_is sight h) (local_is sight k)
-  comparison_is test.Lt w i h k = binary_is sight binary.Lt (narrow_numbers w).1 (local_is sight h) (local_is sight k)
-  comparison_is test.Ge w i h k = binary_is sight binary.Ge (same_signs w).2 (local_is sight h) (local_is sight k)
-  comparison_is test.Le w i h k = binary_is sight binary.Le (same_signs w).3 (local_is sight h) (local_is sight k)
+  comparison_is test.Eq w i h k = binary_is sight binary.Eq tt (same_signs w).0 (local_is sight h) (local_is sight k)
+  comparison_is test.Ne w i h k = binary_is sight binary.Ne tt (same_signs w).1 (local_is sight h) (local_is sight k)
+  comparison_is test.Gt w i h k = binary_is sight binary.Gt tt (narrow_numbers w).0 (local_is sight h) (local_is sight k)
+  comparison_is test.Lt w i h k = binary_is sight binary.Lt tt (narrow_numbers w).1 (local_is sight h) (local_is sight k)
+  comparison_is test.Ge w i h k = binary_is sight binary.Ge tt (same_signs w).2 (local_is sight h) (local_is sight k)
+  comparison_is test.Le w i h k = binary_is sight binary.Le tt (same_signs w).3 (local_is sight h) (local_is sight k)
   comparison_is other w i h k = more sight (omega arith) (literal_is sight false)
 
   module _ (rest : List Stmt) (plain : IsPlainBody sight rest) where
@@ -193,10 +169,10 @@ module _ (sight : Sight) where
       product_plain w types =
           let first : IsLocal used (wide w) = first_typed sight used (wide w) (type.Bool ∷ []) types in
           let second : IsLocal (used + 1) type.Bool = types 1 type.Bool refl in
-          local_plain sight _ _ _ (omega arith) first (operated_is binary.Mul w (multiplies w))
+          local_plain sight _ _ _ (omega arith) first (operated_is binary.Mul tt w (rules w).multiplies)
           (local_plain sight _ _ _ (omega arith) second (differs_is w (cut_of w used) used (cut_is w used first) first)
           (ending_plain _ _ (used + 1) _ (omega arith) (omega arith) (omega arith) (positive_is (wide w) used (wide_numbers w) first)
-          (negative_is (wide w) used (wide_numbers w) first) second (convert_is sight (stores w) (local_is sight first))))
+          (negative_is (wide w) used (wide_numbers w) first) second (convert_is sight (rules w).stores (local_is sight first))))
 
       -- what divisions end with
       division_ending_plain : {n : ℕ} (w : Width) (none over signed : ℕ) (accu1 : Expr) → n ≤ 31 → IsLocal none type.Bool → IsLocal over type.Bool
@@ -215,8 +191,8 @@ module _ (sight : Sight) where
           let over : IsLocal (used + 4) type.Bool = types 4 type.Bool refl in
           local_plain sight _ _ _ (omega arith) first (wide_is width.Word reg.Accu1 accu1_is)
           (local_plain sight _ _ _ (omega arith) none (zero_is width.Word used first)
-          (local_plain sight _ _ _ (omega arith) quotient (divided_is binary.Div width.Word used refl first)
-          (local_plain sight _ _ _ (omega arith) remainder (divided_is binary.Mod width.Word used refl first)
+          (local_plain sight _ _ _ (omega arith) quotient (quotient_in_wide width.Word used first)
+          (local_plain sight _ _ _ (omega arith) remainder (remainder_in_wide width.Word used first)
           (local_plain sight _ _ _ (omega arith) over (quotient_over_is width.Word (used + 1) (used + 2) none quotient)
           (division_ending_plain width.Word (used + 1) (used + 4) (used + 2) _ (omega arith) none over quotient (both_words_is (used + 2) (used + 3) quotient remainder))))))
 
@@ -229,7 +205,7 @@ module _ (sight : Sight) where
           let over : IsLocal (used + 3) type.Bool = types 3 type.Bool refl in
           local_plain sight _ _ _ (omega arith) first (wide_is width.Dword reg.Accu1 accu1_is)
           (local_plain sight _ _ _ (omega arith) none (zero_is width.Dword used first)
-          (local_plain sight _ _ _ (omega arith) quotient (divided_is binary.Div width.Dword used refl first)
+          (local_plain sight _ _ _ (omega arith) quotient (quotient_in_wide width.Dword used first)
           (local_plain sight _ _ _ (omega arith) over (quotient_over_is width.Dword (used + 1) (used + 2) none quotient)
           (division_ending_plain width.Dword (used + 1) (used + 3) (used + 2) _ (omega arith) none over quotient (convert_is sight refl (local_is sight quotient))))))
 
@@ -241,34 +217,34 @@ module _ (sight : Sight) where
           let remainder : IsLocal (used + 2) type.Lint = types 2 type.Lint refl in
           local_plain sight _ _ _ (omega arith) first (wide_is width.Dword reg.Accu1 accu1_is)
           (local_plain sight _ _ _ (omega arith) none (zero_is width.Dword used first)
-          (local_plain sight _ _ _ (omega arith) remainder (divided_is binary.Mod width.Dword used refl first)
+          (local_plain sight _ _ _ (omega arith) remainder (remainder_in_wide width.Dword used first)
           (division_ending_plain width.Dword (used + 1) (used + 1) (used + 2) _ (omega arith) none none remainder (convert_is sight refl (local_is sight remainder)))))
 
       -- Each row
 
       pub calculated_plain : (a : Arith) → AreTyped sight used (types_of_calculated a) → IsPlainBody sight (calculated_of used a ++ rest)
-      calculated_plain row.AddI types = result_plain width.Word (operated_of binary.Add width.Word) (omega arith) (operated_is binary.Add width.Word refl) types
-      calculated_plain row.SubI types = result_plain width.Word (operated_of binary.Sub width.Word) (omega arith) (operated_is binary.Sub width.Word refl) types
+      calculated_plain row.AddI types = result_plain width.Word (operated_of binary.Add width.Word) (omega arith) (operated_is binary.Add tt width.Word refl) types
+      calculated_plain row.SubI types = result_plain width.Word (operated_of binary.Sub width.Word) (omega arith) (operated_is binary.Sub tt width.Word refl) types
       calculated_plain row.MulI types = product_plain width.Word types
       calculated_plain row.DivI types = words_plain types
-      calculated_plain row.AddD types = result_plain width.Dword (operated_of binary.Add width.Dword) (omega arith) (operated_is binary.Add width.Dword refl) types
-      calculated_plain row.SubD types = result_plain width.Dword (operated_of binary.Sub width.Dword) (omega arith) (operated_is binary.Sub width.Dword refl) types
+      calculated_plain row.AddD types = result_plain width.Dword (operated_of binary.Add width.Dword) (omega arith) (operated_is binary.Add tt width.Dword refl) types
+      calculated_plain row.SubD types = result_plain width.Dword (operated_of binary.Sub width.Dword) (omega arith) (operated_is binary.Sub tt width.Dword refl) types
       calculated_plain row.MulD types = product_plain width.Dword types
       calculated_plain row.DivD types = dword_plain types
       calculated_plain row.Mod types = remainder_plain types
 
       pub negated_plain : (w : Width) → AreTyped sight used (types_of_negated w) → IsPlainBody sight (negated_of used w ++ rest)
       negated_plain w types =
-          result_plain w (unary_of unary.Minus (wide_number_of w reg.Accu1)) (omega arith) (unary_is sight unary.Minus (negates w) (wide_is w reg.Accu1 accu1_is)) types
+          result_plain w (unary_of unary.Minus (wide_number_of w reg.Accu1)) (omega arith) (unary_is sight unary.Minus (rules w).negates (wide_is w reg.Accu1 accu1_is)) types
 
       pub compared_plain : (t : Test) (w : Width) → AreTyped sight used (types_of_compared w) → IsPlainBody sight (compared_of used t w ++ rest)
       compared_plain t w types =
           let first : IsLocal used (narrow w) = first_typed sight used (narrow w) (narrow w ∷ []) types in
           let second : IsLocal (used + 1) (narrow w) = types 1 (narrow w) refl in
-          local_plain sight _ _ _ (omega arith) first (convert_is sight (loads w) accu2_is)
-          (local_plain sight _ _ _ (omega arith) second (convert_is sight (loads w) accu1_is)
+          local_plain sight _ _ _ (omega arith) first (convert_is sight (rules w).loads accu2_is)
+          (local_plain sight _ _ _ (omega arith) second (convert_is sight (rules w).loads accu1_is)
           (set_plain sight _ _ _ (omega arith) (comparison_is t w used first second)
-          (set_plain sight _ _ _ (omega arith) (binary_is sight binary.Gt (narrow_numbers w).0 (local_is sight first) (local_is sight second))
-          (set_plain sight _ _ _ (omega arith) (binary_is sight binary.Lt (narrow_numbers w).1 (local_is sight first) (local_is sight second))
+          (set_plain sight _ _ _ (omega arith) (binary_is sight binary.Gt tt (narrow_numbers w).0 (local_is sight first) (local_is sight second))
+          (set_plain sight _ _ _ (omega arith) (binary_is sight binary.Lt tt (narrow_numbers w).1 (local_is sight first) (local_is sight second))
           (set_plain sight _ _ _ (omega arith) (literal_is sight false)
           (cleared_plain sight true rest plain))))))

@@ -15,7 +15,8 @@ use Rattle.st_tree.specs.declared.state.Value.{Value}
 use Rattle.st_tree.specs.declared.expr.BinaryOp.TheVariants as binary
 use Rattle.st_tree.specs.declared.expr.StType.TheVariants as type
 use Rattle.st_tree.specs.declared.program.Located.{Located}
-use Rattle.row_templates.proofs.Alike.{AreAlike, AreInRange, IsKept}
+use Rattle.row_templates.specs.Related.{AreAlike}
+use Rattle.instruction_laws.specs.Ranges.{AreInRange}
 use Rattle.row_templates.proofs.Numbers.{or_numbers, over_word, wide_low}
 use Rattle.row_templates.proofs.RegisterRows.{IsRow, registers_after}
 use Rattle.row_templates.proofs.Stages.{known, parts}
@@ -41,7 +42,7 @@ module _ (g : List Located) (s : State) (used : ℕ) (r : RegisterValues) (sta :
   abbrev product : Width → ℤ
   product w = signed_part w r.accu2 *ℤ signed_part w r.accu1
 
-  product_alike : (w : Width) (z : ℤ) → AreAlike IsKept (product_in w z r) (registers_after (product_of used w) (product_values w z r) (known r sta))
+  product_alike : (w : Width) (z : ℤ) → AreAlike (product_in w z r) (registers_after (product_of used w) (product_values w z r) (known r sta))
   product_alike w z reg.Sta asked = elim asked [ ]
   product_alike w z q asked = refl
 
@@ -52,8 +53,7 @@ module _ (g : List Located) (s : State) (used : ℕ) (r : RegisterValues) (sta :
   product_worth : (w : Width) → IsCalculated w → IsWorth g s used r sta range w (operated_of binary.Mul w) (product w)
   product_worth width.Word calculated = simp (parts, wide_low, wide_product)
   product_worth width.Dword calculated = simp (parts, wide_dword, wide_dword_product)
-  product_worth width.Bit calculated = elim calculated [ ]
-  product_worth width.Byte calculated = elim calculated [ ]
+  product_worth other calculated = elim calculated [ ]
 
   row_of : (w : Width) → IsCalculated w → (z : ℤ) → IsWorth g s used r sta range w (operated_of binary.Mul w) z → IsRow g s used (product_of used w) r (product_in w z r) sta
   row_of width.Word calculated z h =
@@ -78,8 +78,7 @@ module _ (g : List Located) (s : State) (used : ℕ) (r : RegisterValues) (sta :
         alike = product_alike width.Dword z;
         range = product_range width.Dword z;
       }
-  row_of width.Bit calculated z h = elim calculated [ ]
-  row_of width.Byte calculated z h = elim calculated [ ]
+  row_of other calculated z h = elim calculated [ ]
 
   pub product_row : (w : Width) → IsCalculated w → IsRow g s used (product_of used w) r (product_in w (product w) r) sta
   product_row w calculated = row_of w calculated (product w) (product_worth w calculated)

@@ -20,7 +20,8 @@ use Rattle.st_tree.specs.declared.expr.StType.TheVariants as type
 use Rattle.st_tree.specs.declared.expr.UnaryOp.TheVariants as unary
 use Rattle.st_tree.specs.declared.program.Located.{Located}
 use Rattle.row_templates.specs.Builders.{unary_of}
-use Rattle.row_templates.proofs.Alike.{AreAlike, AreInRange, IsKept}
+use Rattle.row_templates.specs.Related.{AreAlike}
+use Rattle.instruction_laws.specs.Ranges.{AreInRange}
 use Rattle.row_templates.proofs.Numbers.{or_numbers, over_word, pattern_below, put_low, same_pattern, wide_low, wide_sum}
 use Rattle.row_templates.proofs.RegisterRows.{IsRow, registers_after}
 use Rattle.row_templates.proofs.Stages.{known, parts, stage}
@@ -52,7 +53,7 @@ module _ (g : List Located) (s : State) (used : ℕ) (r : RegisterValues) (sta :
   abbrev pub IsWorth : Width → Expr → ℤ → Type 0
   IsWorth w e z = value g e (stage s used [] (known r sta)) ≡ Ok (record { ty = wide w; n = z })
 
-  result_alike : (w : Width) (e : Expr) (z : ℤ) → AreAlike IsKept (result_in w z r) (registers_after (result_of used w e) (result_values w z r) (known r sta))
+  result_alike : (w : Width) (e : Expr) (z : ℤ) → AreAlike (result_in w z r) (registers_after (result_of used w e) (result_values w z r) (known r sta))
   result_alike w e z reg.Sta asked = elim asked [ ]
   result_alike w e z q asked = refl
 
@@ -90,28 +91,24 @@ module _ (g : List Located) (s : State) (used : ℕ) (r : RegisterValues) (sta :
         alike = result_alike width.Dword e z;
         range = record { accu1 = omega arith; accu2 = range.accu2; ar1 = range.ar1; ar2 = range.ar2; db = range.db; di = range.di };
       }
-  result_row width.Bit calculated e z h = elim calculated [ ]
-  result_row width.Byte calculated e z h = elim calculated [ ]
+  result_row other calculated e z h = elim calculated [ ]
 
   -- the numbers in the accumulators, x in ACCU2 and y in ACCU1
 
   sum_worth : (w : Width) → IsCalculated w → IsWorth w (operated_of binary.Add w) (signed_part w r.accu2 +ℤ signed_part w r.accu1)
   sum_worth width.Word calculated = simp (parts, wide_low, wide_sum)
   sum_worth width.Dword calculated = simp (parts, wide_dword, wide_dword_sum)
-  sum_worth width.Bit calculated = elim calculated [ ]
-  sum_worth width.Byte calculated = elim calculated [ ]
+  sum_worth other calculated = elim calculated [ ]
 
   difference_worth : (w : Width) → IsCalculated w → IsWorth w (operated_of binary.Sub w) (signed_part w r.accu2 -ℤ signed_part w r.accu1)
   difference_worth width.Word calculated = simp (parts, wide_low, wide_difference)
   difference_worth width.Dword calculated = simp (parts, wide_dword, wide_dword_difference)
-  difference_worth width.Bit calculated = elim calculated [ ]
-  difference_worth width.Byte calculated = elim calculated [ ]
+  difference_worth other calculated = elim calculated [ ]
 
   negative_worth : (w : Width) → IsCalculated w → IsWorth w (unary_of unary.Minus (wide_number_of w reg.Accu1)) (neg_ℤ (signed_part w r.accu1))
   negative_worth width.Word calculated = simp (parts, wide_low, wide_negative)
   negative_worth width.Dword calculated = simp (parts, wide_dword, wide_dword_negative)
-  negative_worth width.Bit calculated = elim calculated [ ]
-  negative_worth width.Byte calculated = elim calculated [ ]
+  negative_worth other calculated = elim calculated [ ]
 
   -- + - and NEG
 

@@ -7,7 +7,7 @@ use Rattle.status_word.specs.declared.test.Test.{Test}
 use Rattle.stl_tree.specs.Accepted.{IsComparison}
 use Rattle.stl_tree.specs.Arithmetic.{calculated, compared, negated}
 use Rattle.stl_tree.specs.Instructions.{effect_of}
-use Rattle.stl_tree.specs.Now.{Activation, Now, next}
+use Rattle.stl_tree.specs.Now.{Now, next}
 use Rattle.stl_tree.specs.Registers.{RegisterValues}
 use Rattle.stl_tree.specs.declared.accumulator.Arith.{Arith}
 use Rattle.stl_tree.specs.declared.accumulator.Arith.TheVariants as row
@@ -16,9 +16,9 @@ use Rattle.st_tree.specs.Meaning.{Calls, body_meaning}
 use Rattle.st_tree.specs.State.{State}
 use Rattle.st_tree.specs.declared.program.Located.{Located}
 use Rattle.st_tree.specs.declared.program.Stmt.{Stmt}
-use Rattle.row_templates.proofs.Alike.{AreInRange, Related}
-use Rattle.row_templates.proofs.DoesRow.{DoesRow}
-use Rattle.row_templates.proofs.Locals.{own_of}
+use Rattle.row_templates.specs.Related.{Frames, Related}
+use Rattle.instruction_laws.specs.Ranges.{AreInRange}
+use Rattle.row_templates.specs.DoesRow.{DoesRow, own_of}
 use Rattle.row_templates.proofs.RegisterRows.{IsRow, locals_set, row_does}
 use Rattle.arithmetic_templates.specs.Calculations.{calculated_of, divisor_kept_of, negated_of, quotient_in_dword_of, quotient_in_words_of, remainder_in_dword_of, types_of_calculated, types_of_negated}
 use Rattle.arithmetic_templates.specs.Comparisons.{compared_of, types_of_compared}
@@ -27,26 +27,18 @@ use Rattle.arithmetic_templates.proofs.DivisionRows.{quotient_in_dword_row, quot
 use Rattle.arithmetic_templates.proofs.ProductRows.{product_row}
 use Rattle.arithmetic_templates.proofs.ResultRows.{IsCalculated, difference_row, negative_row, sum_row}
 
-calculated_locals : (a : Arith) (used : ℕ) → locals_set (calculated_of used a) ≡ length (types_of_calculated a)
+pub calculated_locals : (a : Arith) (used : ℕ) → locals_set (calculated_of used a) ≡ length (types_of_calculated a)
 unfolding divisor_kept_of quotient_in_words_of quotient_in_dword_of remainder_in_dword_of
 calculated_locals row.AddI used = refl
-calculated_locals row.SubI used = refl
-calculated_locals row.MulI used = refl
-calculated_locals row.DivI used = refl
-calculated_locals row.AddD used = refl
-calculated_locals row.SubD used = refl
-calculated_locals row.MulD used = refl
-calculated_locals row.DivD used = refl
-calculated_locals row.Mod used = refl
+calculated_locals other used = refl
 
 -- a comparison is one of numbers of 16 or 32 bits
 is_compared : (t : Test) (w : Width) → IsComparison t w → IsCalculated w
 is_compared t width.Word h = tt
 is_compared t width.Dword h = tt
-is_compared t width.Bit h = elim h [ ]
-is_compared t width.Byte h = elim h [ ]
+is_compared t other h = elim h [ ]
 
-module _ (g : List Located) (calls : Calls) (units : ℕ) (acts : List Activation) (now : Now) (s : State) (related : Related acts now s) (used : ℕ) where
+module _ (g : List Located) (calls : Calls) (units : ℕ) (frames : Frames) (now : Now) (s : State) (related : Related frames now s) (used : ℕ) where
   abbrev range : AreInRange now.registers
   range = related.range
 
@@ -63,22 +55,22 @@ module _ (g : List Located) (calls : Calls) (units : ℕ) (acts : List Activatio
 
   does : (body : List Stmt) (after : RegisterValues) → IsRow g s used body now.registers after (s.registers reg.Sta)
       → used + locals_set body ≤ length (own_of s.activations)
-      → DoesRow (body_meaning g calls body units s) units used acts s now.memory (next (record now { registers = after }))
-  does body after is_row room = row_does g s used calls units body acts now after related is_row room
+      → DoesRow (body_meaning g calls body units s) units used frames s now.memory (next (record now { registers = after }))
+  does body after is_row room = row_does g s used calls units body frames now after related is_row room
 
   pub calculated_does : (a : Arith) → used + length (types_of_calculated a) ≤ length (own_of s.activations)
-      → DoesRow (body_meaning g calls (calculated_of used a) units s) units used acts s now.memory (effect_of (op.Arith a) now)
+      → DoesRow (body_meaning g calls (calculated_of used a) units s) units used frames s now.memory (effect_of (op.Arith a) now)
   calculated_does a room =
       let same : locals_set (calculated_of used a) ≡ length (types_of_calculated a) = calculated_locals a used in
       does (calculated_of used a) (calculated a now.registers) (calculated_row a) (omega arith)
 
   -- NEGI and NEGD
   pub negated_does : (w : Width) → IsCalculated w → used + length (types_of_negated w) ≤ length (own_of s.activations)
-      → DoesRow (body_meaning g calls (negated_of used w) units s) units used acts s now.memory (next (record now { registers = negated w now.registers }))
+      → DoesRow (body_meaning g calls (negated_of used w) units s) units used frames s now.memory (next (record now { registers = negated w now.registers }))
   negated_does w h room =
       does (negated_of used w) (negated w now.registers) (negative_row g s used now.registers (s.registers reg.Sta) range w h) room
 
   pub compared_does : (t : Test) (w : Width) → IsComparison t w → used + length (types_of_compared w) ≤ length (own_of s.activations)
-      → DoesRow (body_meaning g calls (compared_of used t w) units s) units used acts s now.memory (effect_of (op.Compare t w) now)
+      → DoesRow (body_meaning g calls (compared_of used t w) units s) units used frames s now.memory (effect_of (op.Compare t w) now)
   compared_does t w h room =
       does (compared_of used t w) (compared t w now.registers) (compared_row g s used now.registers (s.registers reg.Sta) range t w (is_compared t w h)) room

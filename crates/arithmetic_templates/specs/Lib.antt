@@ -1,3 +1,4 @@
+pub mod ArithmeticLaw
 pub mod Calculations
 pub mod Comparisons
 pub mod Numbers

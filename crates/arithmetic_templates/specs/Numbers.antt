@@ -1,7 +1,7 @@
 -- The parts of which templates of calculations are made: numbers of a width and wider ones, and what ends a calculation.
 pub use Rattle.row_templates.specs.Builders.{with_low_of}
 use Rattle.std.specs.Prelude.{ℕ, pos, List, [], ◌∷◌, ◌++◌}
-use Rattle.row_templates.specs.Builders.{and_of, binary_of, constant_of, convert_of, local_of, or_of, read_of, set_of}
+use Rattle.row_templates.specs.Builders.{binary_of, constant_of, convert_of, local_of, or_of, read_of, set_of}
 use Rattle.s7_base.specs.declared.register.Reg.{Reg}
 use Rattle.s7_base.specs.declared.register.Reg.TheVariants as reg
 use Rattle.s7_base.specs.declared.word.Width.{Width}

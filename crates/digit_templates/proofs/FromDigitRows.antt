@@ -11,7 +11,7 @@ use Rattle.s7_base.specs.declared.word.Width.TheVariants as width
 use Rattle.stl_tree.specs.Accumulators.{part, with_number}
 use Rattle.stl_tree.specs.Conversions.{with_value_of_digits}
 use Rattle.stl_tree.specs.Instructions.{effect_of}
-use Rattle.stl_tree.specs.Now.{Activation, Now, next, with_value}
+use Rattle.stl_tree.specs.Now.{Now, next, with_value}
 use Rattle.stl_tree.specs.Registers.{RegisterValues}
 use Rattle.stl_tree.specs.declared.accumulator.UnaryRow.TheVariants as row
 use Rattle.stl_tree.specs.declared.program.Op.TheVariants as op
@@ -27,9 +27,10 @@ use Rattle.st_tree.specs.declared.expr.Var.TheVariants as var
 use Rattle.st_tree.specs.declared.program.Located.{Located}
 use Rattle.st_tree.specs.declared.state.Value.{Value}
 use Rattle.row_templates.specs.Builders.{convert_of, local_of, read_of, set_of, unary_of}
-use Rattle.row_templates.proofs.Alike.{AreAlike, AreInRange, IsKept, Related}
-use Rattle.row_templates.proofs.DoesRow.{DoesRow}
-use Rattle.row_templates.proofs.Locals.{own_of}
+use Rattle.instruction_laws.specs.Ranges.{AreInRange}
+use Rattle.row_templates.specs.Related.{AreAlike, Frames, Related}
+use Rattle.row_templates.proofs.Alike.{same_areas}
+use Rattle.row_templates.specs.DoesRow.{DoesRow, own_of}
 use Rattle.row_templates.proofs.Numbers.{pattern_below, put_low, same_pattern}
 use Rattle.row_templates.proofs.RegisterRows.{IsRow, registers_after, row_does}
 use Rattle.row_templates.proofs.Stages.{known, parts, stage}
@@ -85,7 +86,7 @@ abbrev btd_values : RegisterValues → ℤ → List Value
 btd_values r z = typed type.Dint z ∷ record { ty = type.Dword; n = pos (with_number width.Dword r.accu1 z) } ∷ []
 
 module _ (g : List Located) (s : State) (used : ℕ) (r : RegisterValues) (sta : ℤ) (range : AreInRange r) (z : ℤ) where
-  bti_alike : AreAlike IsKept (bti_after r z) (registers_after (bti_of used) (bti_values r z) (known r sta))
+  bti_alike : AreAlike (bti_after r z) (registers_after (bti_of used) (bti_values r z) (known r sta))
   bti_alike reg.Sta asked = elim asked [ ]
   bti_alike q asked = refl
 
@@ -102,7 +103,7 @@ module _ (g : List Located) (s : State) (used : ℕ) (r : RegisterValues) (sta :
         range = record { accu1 = omega arith; accu2 = range.accu2; ar1 = range.ar1; ar2 = range.ar2; db = range.db; di = range.di };
       }
 
-  btd_alike : AreAlike IsKept (btd_after r z) (registers_after (btd_of used) (btd_values r z) (known r sta))
+  btd_alike : AreAlike (btd_after r z) (registers_after (btd_of used) (btd_values r z) (known r sta))
   btd_alike reg.Sta asked = elim asked [ ]
   btd_alike q asked = refl
 
@@ -122,40 +123,40 @@ module _ (g : List Located) (s : State) (used : ℕ) (r : RegisterValues) (sta :
 
 -- What they do
 
-module _ (g : List Located) (calls : Calls) (units : ℕ) (acts : List Activation) (now : Now) (s : State) (related : Related acts now s) (used : ℕ) (room : used + 1 ≤ length (own_of s.activations)) where
+module _ (g : List Located) (calls : Calls) (units : ℕ) (frames : Frames) (now : Now) (s : State) (related : Related frames now s) (used : ℕ) (room : used + 1 ≤ length (own_of s.activations)) where
   holds : Holds g s now.registers.accu1
   holds = value_read g (var.Register reg.Accu1) s ∙ ap (λ (n : ℤ). Ok (record { ty = type.Dword; n = n })) (related.registers reg.Accu1 tt)
 
   bti_by : (read : Result ℤ Fault) → bcd_value 3 (part width.Word now.registers.accu1) ≡ read
-      → DoesRow (body_meaning g calls (bti_of used) units s) units used acts s now.memory
+      → DoesRow (body_meaning g calls (bti_of used) units s) units used frames s now.memory
       (with_value (with_value_of_digits width.Word now.registers read) (λ r. next (record now { registers = r })))
   bti_by (Ok z) e =
-      row_does g s used calls units (bti_of used) acts now (bti_after now.registers z) related
+      row_does g s used calls units (bti_of used) frames now (bti_after now.registers z) related
       (bti_row g s used now.registers (s.registers reg.Sta) related.range z e) room
   bti_by (Err f) e =
       record {
         at = s;
         stops = assign_stops_at_value g calls (var.Local used) _ (set_of reg.Accu1 (with_low_of (convert_of type.Int type.Word (local_of used))) ∷ []) units s f
             (word_digits g s now.registers.accu1 holds ∙ ap (from_digits type.Int) e);
-        memory = related.memory;
+        areas = same_areas frames now s related;
       }
 
-  pub bti_does : DoesRow (body_meaning g calls (bti_of used) units s) units used acts s now.memory (effect_of (op.Unary row.Bti) now)
+  pub bti_does : DoesRow (body_meaning g calls (bti_of used) units s) units used frames s now.memory (effect_of (op.Unary row.Bti) now)
   bti_does = bti_by (bcd_value 3 (part width.Word now.registers.accu1)) refl
 
   btd_by : (read : Result ℤ Fault) → bcd_value 7 (part width.Dword now.registers.accu1) ≡ read
-      → DoesRow (body_meaning g calls (btd_of used) units s) units used acts s now.memory
+      → DoesRow (body_meaning g calls (btd_of used) units s) units used frames s now.memory
       (with_value (with_value_of_digits width.Dword now.registers read) (λ r. next (record now { registers = r })))
   btd_by (Ok z) e =
-      row_does g s used calls units (btd_of used) acts now (btd_after now.registers z) related
+      row_does g s used calls units (btd_of used) frames now (btd_after now.registers z) related
       (btd_row g s used now.registers (s.registers reg.Sta) related.range z e) room
   btd_by (Err f) e =
       record {
         at = s;
         stops = assign_stops_at_value g calls (var.Local used) _ (set_of reg.Accu1 (convert_of type.Dint type.Dword (local_of used)) ∷ []) units s f
             (dword_digits g s now.registers.accu1 holds ∙ ap (from_digits type.Dint) e);
-        memory = related.memory;
+        areas = same_areas frames now s related;
       }
 
-  pub btd_does : DoesRow (body_meaning g calls (btd_of used) units s) units used acts s now.memory (effect_of (op.Unary row.Btd) now)
+  pub btd_does : DoesRow (body_meaning g calls (btd_of used) units s) units used frames s now.memory (effect_of (op.Unary row.Btd) now)
   btd_does = btd_by (bcd_value 7 (part width.Dword now.registers.accu1)) refl

@@ -12,7 +12,7 @@ use Rattle.status_word.specs.Results.{after_converted}
 use Rattle.stl_tree.specs.Accumulators.{signed_part, with_part}
 use Rattle.stl_tree.specs.Conversions.{to_digits, with_digits}
 use Rattle.stl_tree.specs.Instructions.{effect_of}
-use Rattle.stl_tree.specs.Now.{Activation, Now}
+use Rattle.stl_tree.specs.Now.{Now}
 use Rattle.stl_tree.specs.Registers.{RegisterValues}
 use Rattle.stl_tree.specs.declared.accumulator.UnaryRow.TheVariants as row
 use Rattle.stl_tree.specs.declared.program.Op.TheVariants as op
@@ -27,9 +27,9 @@ use Rattle.st_tree.specs.declared.program.Located.{Located}
 use Rattle.st_tree.specs.declared.program.Stmt.{Stmt}
 use Rattle.st_tree.specs.declared.state.Value.{Value}
 use Rattle.row_templates.specs.Builders.{constant_of, convert_of, local_of}
-use Rattle.row_templates.proofs.Alike.{AreAlike, AreInRange, IsKept, Related}
-use Rattle.row_templates.proofs.DoesRow.{DoesRow}
-use Rattle.row_templates.proofs.Locals.{own_of}
+use Rattle.row_templates.specs.Related.{AreAlike, Frames, Related}
+use Rattle.instruction_laws.specs.Ranges.{AreInRange}
+use Rattle.row_templates.specs.DoesRow.{DoesRow, own_of}
 use Rattle.row_templates.proofs.Numbers.{or_numbers, put_low, wide_low}
 use Rattle.row_templates.proofs.RegisterRows.{IsRow, registers_after, row_does}
 use Rattle.row_templates.proofs.Stages.{known, parts, stage}
@@ -74,7 +74,7 @@ module _ (g : List Located) (s : State) (used : ℕ) (r : RegisterValues) (sta :
   abbrev body : List Stmt
   body = measured_of ty used number greatest ++ written_of used pattern written
 
-  row_alike : AreAlike IsKept (after few q r) (registers_after body (values ty z p q few r) (known r sta))
+  row_alike : AreAlike (after few q r) (registers_after body (values ty z p q few r) (known r sta))
   row_alike reg.Sta asked = elim asked [ ]
   row_alike q asked = refl
 
@@ -239,13 +239,13 @@ module _ (g : List Located) (s : State) (used : ℕ) (r : RegisterValues) (sta :
 
 -- What they do
 
-module _ (g : List Located) (calls : Calls) (units : ℕ) (acts : List Activation) (now : Now) (s : State) (related : Related acts now s) (used : ℕ) (room : used + 4 ≤ length (own_of s.activations)) where
-  pub itb_does : DoesRow (body_meaning g calls (itb_of used) units s) units used acts s now.memory (effect_of (op.Unary row.Itb) now)
+module _ (g : List Located) (calls : Calls) (units : ℕ) (frames : Frames) (now : Now) (s : State) (related : Related frames now s) (used : ℕ) (room : used + 4 ≤ length (own_of s.activations)) where
+  pub itb_does : DoesRow (body_meaning g calls (itb_of used) units s) units used frames s now.memory (effect_of (op.Unary row.Itb) now)
   itb_does =
-      row_does g s used calls units (itb_of used) acts now (to_digits width.Word 3 now.registers) related
+      row_does g s used calls units (itb_of used) frames now (to_digits width.Word 3 now.registers) related
       (itb_row g s used now.registers (s.registers reg.Sta) related.range) room
 
-  pub dtb_does : DoesRow (body_meaning g calls (dtb_of used) units s) units used acts s now.memory (effect_of (op.Unary row.Dtb) now)
+  pub dtb_does : DoesRow (body_meaning g calls (dtb_of used) units s) units used frames s now.memory (effect_of (op.Unary row.Dtb) now)
   dtb_does =
-      row_does g s used calls units (dtb_of used) acts now (to_digits width.Dword 7 now.registers) related
+      row_does g s used calls units (dtb_of used) frames now (to_digits width.Dword 7 now.registers) related
       (dtb_row g s used now.registers (s.registers reg.Sta) related.range) room

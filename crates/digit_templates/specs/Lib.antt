@@ -1,2 +1,3 @@
+pub mod DigitLaw
 pub mod FromDigits
 pub mod ToDigits

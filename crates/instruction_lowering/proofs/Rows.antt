@@ -1,26 +1,32 @@
--- Each instruction that stands inside a node: its statements do what its row does.
+-- Each instruction that stands inside a node: its statements do what it does, and keep the open brackets.
 use Rattle.nesting_stack.specs.Entries.{most_open}
-use Rattle.std.proofs.Common.{◌≡◌, ◌≢◌, ℕ, suc, ◌≤◌, Bool, true, false, if◌then◌else◌, List, [], ◌∷◌, length, Some, None, refl}
+use Rattle.std.proofs.Common.{◌≡◌, ◌≢◌, ℕ, suc, ◌+◌, ◌≤◌, Bool, true, false, if◌then◌else◌, List, [], ◌∷◌, length, Some, None, refl, sym, ap, subst, ◌∙◌, arith}
 use Rattle.std.specs.Prelude.{nat_lt}
+use Rattle.s7_base.specs.declared.check.Check.{Check}
+use Rattle.s7_base.specs.declared.check.Entry.{Entry}
+use Rattle.status_word.specs.StatusBits.{entry_of}
 use Rattle.stl_tree.specs.Accepted.{HasOperand}
-use Rattle.stl_tree.specs.Brackets.{WithNumber, open_behind}
+use Rattle.stl_tree.specs.Brackets.{WithNumber, closed, closed_with, open_behind, pushed}
 use Rattle.stl_tree.specs.Instructions.{effect_of}
-use Rattle.stl_tree.specs.Now.{Activation, Now}
-use Rattle.stl_tree.specs.declared.program.BitArg.TheVariants as arg
+use Rattle.stl_tree.specs.Now.{Now}
 use Rattle.stl_tree.specs.declared.program.Op.{Op}
 use Rattle.stl_tree.specs.declared.program.Op.TheVariants as op
 use Rattle.st_tree.specs.Meaning.{Calls, body_meaning}
 use Rattle.st_tree.specs.State.{State}
 use Rattle.st_tree.specs.declared.program.Located.{Located}
-use Rattle.instruction_lowering.specs.declared.statements.OpenBracket.{OpenBracket}
+use Rattle.bit_templates.proofs.Serving.{bit_logic}
+use Rattle.bit_templates.specs.Brackets.{KeepBrackets, KeepsBracket, bracket_at, close_of}
+use Rattle.bit_templates.specs.declared.chain.Chain.{Chain}
+use Rattle.bit_templates.specs.declared.chain.OpenBracket.{OpenBracket}
+use Rattle.row_templates.specs.DoesRow.{Leads, own_of}
+use Rattle.row_templates.specs.Related.{Frames, Related}
+use Rattle.instruction_lowering.specs.inner.Temporaries.{types_of}
 use Rattle.instruction_lowering.specs.declared.statements.Spot.{Spot}
-use Rattle.instruction_lowering.specs.inner.Templates.{behind, statements_of}
-use Rattle.row_templates.proofs.Alike.{Related}
-use Rattle.instruction_lowering.proofs.BracketRows.{close_does, open_does}
-use Rattle.instruction_lowering.proofs.Does.{Does, IsInside}
-use Rattle.instruction_lowering.proofs.LiftedRows.{add_dword_does, add_word_does, assign_does, block_exchange_does, calculated_does, check_does, compared_does, db_number_load_does, dec_does, di_number_load_does, down_does, exchange_does, flag_does, inc_does, load_does, logic_does, open_db_does, open_di_does, pointer_exchange_does, pointer_load_does, pointer_move_does, pointer_store_does, pop_does, push_does, reset_does, rlda_does, rrda_does, set_does, shift_does, status_load_does, status_store_does, transfer_does, unary_does, up_does}
-use Rattle.instruction_lowering.proofs.StatusRows.{answer_worth, clear_rlo_does, nop_does, not_does, or_does, save_does, set_rlo_does}
-use Rattle.instruction_lowering.proofs.Temporaries.{Keeps}
+use Rattle.instruction_lowering.specs.inner.Templates.{behind, close_innermost, more, outer_of, statements_of}
+use Rattle.instruction_lowering.proofs.LeftBrackets.{IsStraight, brackets_left}
+use Rattle.instruction_lowering.proofs.Does.{Does, IsInside, does_row}
+use Rattle.instruction_lowering.proofs.Serving.{serves}
+use Rattle.instruction_lowering.proofs.Temporaries.{Keeps, as_many, kept_below}
 
 -- an instruction may stand at a spot
 abbrev pub CanStand : Op → Spot → Type 0
@@ -34,52 +40,84 @@ some_open : (brackets : List OpenBracket) → WithNumber (open_behind op.Close (
 some_open [] h e = elim h [ ]
 some_open (o ∷ outer) h e = cc
 
-module _ (g : List Located) (calls : Calls) (units : ℕ) (acts : List Activation) (now : Now) (s : State) (related : Related acts now s) (total : ℕ) (p : Spot) (keeps : Keeps total p now.brackets s.activations) where
-  pub does : (o : Op) → IsInside o → HasOperand o → CanStand o p → (behind o p).used ≤ total
-      → Does (body_meaning g calls (statements_of p o) units s) units total (behind o p) acts now.memory (effect_of o now)
-  does (op.Check c (arg.At o)) inside operand stands room = check_does g calls units acts now s related total p keeps c o operand room
-  does (op.Check c (arg.Flag t)) inside operand stands room =
-      flag_does g calls units acts now s related total p keeps c t (answer_worth g calls units acts now s related total p keeps t)
-  does op.OrAlone inside operand stands room = or_does g calls units acts now s related total p keeps
-  does (op.Bracket c) inside operand stands room =
-      open_does g calls units acts now s related total p keeps c (free (nat_lt (length p.brackets) most_open) (length p.brackets) stands) room
+-- the spot behind an instruction that opens and closes no bracket
+pub straight_behind : (o : Op) → IsStraight o → (p : Spot) → behind o p ≡ more (types_of o) p
+straight_behind (op.Bracket c) h p = elim h [ ]
+straight_behind op.Close h p = elim h [ ]
+straight_behind op.BlockEnd h p = elim h [ ]
+straight_behind o h p = refl
+
+module _ (g : List Located) (calls : Calls) (units : ℕ) (frames : Frames) (now : Now) (s : State) (related : Related frames now s) (total : ℕ) (p : Spot) (keeps : Keeps total p now.brackets s.activations) where
+  -- what an instruction's statements do at the spot
+  abbrev DoesHere : Op → Type 0
+  DoesHere o = Does (body_meaning g calls (statements_of p o) units s) units total (behind o p) frames now.memory (effect_of o now)
+
+  straight_does : (o : Op) → IsStraight o → HasOperand o → (behind o p).used ≤ total → DoesHere o
+  straight_does o straight h room =
+      let e = straight_behind o straight p in
+      let used : (behind o p).used ≡ p.used + length (types_of o) = ap (λ (q : Spot). q.used) e in
+      let long : length (own_of s.activations) ≡ total = keeps.0 in
+      does_row (body_meaning g calls (statements_of p o) units s) units total p (behind o p) frames s now.memory now.brackets (effect_of o now)
+      (ap (λ (q : Spot). q.brackets) e) (omega (arith, used)) (brackets_left now o straight) keeps
+      ((serves o straight h p).does g calls units frames now s related (omega (arith, used, long, room)))
+
+  -- A bracket is opened
+
+  -- there is room for one more
+  pushes : (e : Entry) → nat_lt (length p.brackets) most_open ≡ true → pushed e now.brackets ≡ e ∷ now.brackets
+  pushes e room =
+      ap (λ n. if nat_lt n most_open then e ∷ now.brackets else now.brackets) (as_many p.used p.brackets now.brackets (own_of s.activations) keeps.1)
+      ∙ ap (λ b. if b then e ∷ now.brackets else now.brackets) room
+
+  open_does : (c : Check) → nat_lt (length p.brackets) most_open ≡ true → p.used + 3 ≤ total → DoesHere (op.Bracket c)
+  open_does c free room =
+      let long : length (own_of s.activations) ≡ total = keeps.0 in
+      let opens = (bit_logic.opening c p.used).does g calls units frames now s related (omega (arith, long, room)) in
+      let e : Entry = entry_of c now.registers.status in (
+        opens.leads.to,
+        opens.leads.goes,
+        opens.leads.related,
+        (
+          opens.leads.as_many ∙ keeps.0,
+          subst (λ (entries : List Entry). KeepBrackets (p.used + 3) (bracket_at p.used c ∷ p.brackets) entries (own_of opens.leads.to.activations)) (sym (pushes e free)) (
+            opens.keeps,
+            kept_below p.used (p.used + 3) p.brackets now.brackets (own_of s.activations) (own_of opens.leads.to.activations) (omega arith) opens.leads.below keeps.1,
+          ),
+        ),
+      )
+
+  -- One is closed
+
+  closed_row : (o : OpenBracket) (e : Entry) (entries : List Entry) → now.brackets ≡ e ∷ entries → KeepsBracket p.used o e (own_of s.activations)
+      → Leads (body_meaning g calls (close_of o) units s) units p.used frames s (closed now)
+  closed_row o e entries same k =
+      subst (λ (chain : Chain). Leads (body_meaning g calls (close_of (record { check = o.check; kept = chain })) units s) units p.used frames s (closed now)) (sym k.kept)
+      ((bit_logic.closing k.first o.check p.used k.below).does g calls units frames now s related e entries same
+      (subst (λ (chain : Chain). KeepsBracket p.used (record { check = o.check; kept = chain }) e (own_of s.activations)) k.kept k))
+
+  by_open : (brackets : List OpenBracket) (entries : List Entry) → p.brackets ≡ brackets → now.brackets ≡ entries → brackets ≢ [] → KeepBrackets p.used brackets entries (own_of s.activations)
+      → DoesHere op.Close
+  by_open [] entries e f some kept = absurd (some refl)
+  by_open (o ∷ outer) [] e f some kept = elim kept [ ]
+  by_open (o ∷ outer) (x ∷ entries) e f some kept =
+      let row = closed_row o x entries f kept.0 in
+      subst (λ (brackets : List OpenBracket). Does (body_meaning g calls (close_innermost brackets) units s) units total (record { used = p.used; brackets = outer_of brackets }) frames now.memory (effect_of op.Close now))
+      (sym e) (
+        row.to,
+        row.goes,
+        row.related,
+        (
+          row.as_many ∙ keeps.0,
+          subst (λ (open_now : List Entry). KeepBrackets p.used outer open_now (own_of row.to.activations)) (sym (ap (λ (es : List Entry). (closed_with es now).brackets) f))
+              (kept_below p.used p.used outer entries (own_of s.activations) (own_of row.to.activations) (omega arith) row.below kept.1),
+        ),
+      )
+
+  -- Each
+
+  pub does : (o : Op) → IsInside o → HasOperand o → CanStand o p → (behind o p).used ≤ total → DoesHere o
+  does (op.Bracket c) inside operand stands room = open_does c (free (nat_lt (length p.brackets) most_open) (length p.brackets) stands) room
   does op.Close inside operand stands room =
-      close_does g calls units acts now s related total p keeps p.brackets now.brackets (some_open p.brackets stands) keeps.1
-  does (op.Assign o) inside operand stands room = assign_does g calls units acts now s related total p keeps o operand room
-  does (op.Set o) inside operand stands room = set_does g calls units acts now s related total p keeps o operand room
-  does (op.Reset o) inside operand stands room = reset_does g calls units acts now s related total p keeps o operand room
-  does op.SetRlo inside operand stands room = set_rlo_does g calls units acts now s related total p keeps
-  does op.ClearRlo inside operand stands room = clear_rlo_does g calls units acts now s related total p keeps
-  does op.NotRlo inside operand stands room = not_does g calls units acts now s related total p keeps
-  does op.Save inside operand stands room = save_does g calls units acts now s related total p keeps
-  does (op.EdgeUp o) inside operand stands room = up_does g calls units acts now s related total p keeps o operand room
-  does (op.EdgeDown o) inside operand stands room = down_does g calls units acts now s related total p keeps o operand room
-  does (op.Load a) inside operand stands room = load_does g calls units acts now s related total p keeps a operand room
-  does (op.Transfer o w) inside operand stands room = transfer_does g calls units acts now s related total p keeps o w operand room
-  does op.LoadStw inside operand stands room = status_load_does g calls units acts now s related total p keeps room
-  does op.TransferStw inside operand stands room = status_store_does g calls units acts now s related total p keeps room
-  does op.LoadDbNo inside operand stands room = db_number_load_does g calls units acts now s related total p keeps room
-  does op.LoadDiNo inside operand stands room = di_number_load_does g calls units acts now s related total p keeps room
-  does (op.Arith a) inside operand stands room = calculated_does g calls units acts now s related total p keeps a room
-  does (op.AddWord n) inside operand stands room = add_word_does g calls units acts now s related total p keeps n room
-  does (op.AddDword n) inside operand stands room = add_dword_does g calls units acts now s related total p keeps n room
-  does (op.Inc n) inside operand stands room = inc_does g calls units acts now s related total p keeps n room
-  does (op.Dec n) inside operand stands room = dec_does g calls units acts now s related total p keeps n room
-  does (op.Compare t w) inside operand stands room = compared_does g calls units acts now s related total p keeps t w operand room
-  does (op.Shift i by) inside operand stands room = shift_does g calls units acts now s related total p keeps i by room
-  does op.Rlda inside operand stands room = rlda_does g calls units acts now s related total p keeps room
-  does op.Rrda inside operand stands room = rrda_does g calls units acts now s related total p keeps room
-  does (op.Logic l c) inside operand stands room = logic_does g calls units acts now s related total p keeps l c room
-  does (op.Unary u) inside operand stands room = unary_does g calls units acts now s related total p keeps u room
-  does op.Tak inside operand stands room = exchange_does g calls units acts now s related total p keeps room
-  does op.Push inside operand stands room = push_does g calls units acts now s related total p keeps room
-  does op.Pop inside operand stands room = pop_does g calls units acts now s related total p keeps room
-  does (op.LoadAr a from) inside operand stands room = pointer_load_does g calls units acts now s related total p keeps a from operand room
-  does (op.StoreAr a to) inside operand stands room = pointer_store_does g calls units acts now s related total p keeps a to operand room
-  does op.ExchangeAr inside operand stands room = pointer_exchange_does g calls units acts now s related total p keeps room
-  does (op.AddAr a amount) inside operand stands room = pointer_move_does g calls units acts now s related total p keeps a amount room
-  does (op.OpenDb d) inside operand stands room = open_db_does g calls units acts now s related total p keeps d operand room
-  does (op.OpenDi d) inside operand stands room = open_di_does g calls units acts now s related total p keeps d operand room
-  does op.ExchangeDb inside operand stands room = block_exchange_does g calls units acts now s related total p keeps room
-  does op.Nop inside operand stands room = nop_does g calls units acts now s related total p keeps
+      by_open p.brackets now.brackets refl refl (some_open p.brackets stands) keeps.1
   does op.BlockEnd inside operand stands room = elim inside [ ]
+  does o inside operand stands room = straight_does o tt operand room

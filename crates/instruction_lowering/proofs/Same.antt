@@ -1,16 +1,17 @@
 -- A program and its graph program mean the same.
-use Rattle.std.proofs.Common.{◌≡◌, ℕ, zero, suc, ◌+◌, ◌*◌, ◌≤◌, false, List, [], ◌∷◌, map, length, Option, Some, None, refl, sym, ap, ◌∙◌, subst, arith}
+use Rattle.std.proofs.Common.{◌≡◌, ℕ, zero, suc, ◌*◌, ◌≤◌, ◌==◌, false, List, [], ◌∷◌, map, length, Option, Some, None, refl, sym, ap, ◌∙◌, subst, arith, true}
 use Rattle.std.specs.Prelude.{All, IsSome, find, option_map}
 use Rattle.std.proofs.lemmas.Simd.{map-map}
-use Rattle.memory_areas.specs.Areas.{Areas, Contents, with_areas, IsMemoryOf}
+use Rattle.memory_areas.specs.Areas.{Areas, with_areas, IsMemoryOf}
 use Rattle.memory_areas.specs.End.{Ended, Going}
 use Rattle.s7_base.specs.declared.outcome.Fault.{Fault}
 use Rattle.s7_base.specs.declared.register.Reg.TheVariants as reg
-use Rattle.stl_tree.specs.Accepted.{IsAccepted, IsAcceptedBlock}
+use Rattle.stl_tree.specs.Accepted.{IsAccepted, IsAcceptedBlock, IsEnded}
 use Rattle.stl_tree.specs.Now.{Activation, Now}
 use Rattle.stl_tree.specs.Registers.{start}
 use Rattle.stl_tree.specs.StlRun.{HasNoInstance, block_called, block_named, end_of, first_activation, running, size_of, steps_on, stl_run}
 use Rattle.stl_tree.specs.declared.program.Block.{Block}
+use Rattle.stl_tree.specs.declared.program.Formal.{Formal}
 use Rattle.memory_areas.specs.declared.call.BlockName.{BlockName}
 use Rattle.memory_areas.specs.declared.call.BlockName.TheVariants as name
 use Rattle.memory_areas.specs.declared.call.Call.{Call}
@@ -19,39 +20,92 @@ use Rattle.stl_tree.proofs.Runs.{over_stays}
 use Rattle.st_tree.proofs.FittingStart.{memory_holds}
 use Rattle.st_tree.specs.GraphRun.{Counting, FitsGraph, counted_run, each_node, each_pass, graph_run, heads_of, longest, most_nodes, nodes_do, pass_run, run_of_graph}
 use Rattle.st_tree.specs.Meaning.{Continues, Exits, Faults, NoUnits, Normal, Out, Returns}
-use Rattle.st_tree.specs.StRun.{FitsIfThere, FitsUnit, all_zero, end_seen, is_meant, is_program, registers_at_start, state_at_start, unit_called}
+use Rattle.st_tree.specs.StRun.{FitsIfThere, FitsUnit, all_zero, end_seen, formals_given, is_meant, is_program, registers_at_start, state_at_start, unit_called}
 use Rattle.st_tree.specs.State.{State}
 use Rattle.st_tree.specs.declared.graph.GraphPou.{GraphPou}
 use Rattle.st_tree.specs.declared.graph.GraphProgram.{GraphProgram}
 use Rattle.st_tree.specs.declared.program.Pou.{Pou}
 use Rattle.st_tree.specs.declared.program.StProgram.{StProgram}
-use Rattle.instruction_lowering.specs.Lowered.{AreUnitsOf, IsHeadOf, IsRead, Lowered, SameGraphRuns}
-use Rattle.instruction_lowering.specs.Temporaries.{types_in}
-use Rattle.instruction_lowering.specs.inner.Lowering.{head_for, lowered, node_of, temporaries, unit_of, used_behind}
+use Rattle.instruction_lowering.specs.Lowered.{AreUnitsOf, HasFormalsOf, IsExitBehind, IsExitOf, IsHeadOf, IsKindOf, IsNodeOf, IsRead, IsUnitOf, Lowered, SameGraphRuns, ends_block, is_end_alone}
+use Rattle.instruction_lowering.specs.inner.Temporaries.{types_in}
+use Rattle.instruction_lowering.specs.inner.Lowering.{head_for, lowered, node_of, steps_of, temporaries, unit_of, used_behind}
 use Rattle.instruction_lowering.specs.inner.Templates.{first_spot}
-use Rattle.row_templates.proofs.Alike.{AreAlike, AreInRange, IsKept, Related}
-use Rattle.instruction_lowering.proofs.Assignments.{are_writes}
-use Rattle.instruction_lowering.proofs.ReadRows.{of_body}
+use Rattle.instruction_laws.specs.Ranges.{AreInRange}
+use Rattle.row_templates.specs.Related.{AreAlike, AreFormals, Related}
+use Rattle.row_templates.proofs.Alike.{same_areas}
+use Rattle.instruction_lowering.proofs.PlainGraph.{are_named, unit_bounds}
 use Rattle.instruction_lowering.proofs.Bounds.{Begun, Side, back, begun_back, begun_forth, forth}
 use Rattle.instruction_lowering.proofs.Names.{IsAt, IsNumbered, block_at, block_of, found_each, found_numbered, found_of, found_size, meant, none_of, not_meant, position_of}
-use Rattle.instruction_lowering.proofs.TemporaryNames.{are_temporaries, so_many}
+use Rattle.instruction_lowering.proofs.TemporaryNames.{so_many}
 use Rattle.instruction_lowering.proofs.Temporaries.{Keeps}
-use Rattle.st_tree.specs.Calls.{zero_of}
-use Rattle.std.proofs.lemmas.List.{length-map}
-use Rattle.instruction_lowering.proofs.NodeRows.{few_nodes}
-use Rattle.instruction_lowering.proofs.SizeRows.{few_steps}
-use Rattle.instruction_lowering.proofs.Simulation.{Follows, Sees, at_node, both_end, ran, through, used_behind_all}
+use Rattle.st_tree.specs.Calls.{activation_of, zero_of}
+use Rattle.st_tree.specs.declared.state.Reference.{Reference}
+use Rattle.std.proofs.lemmas.Bool.Decides.{nat_tests}
+use Rattle.std.proofs.lemmas.List.{append-nil, length-map}
+use Rattle.st_tree.specs.Parts.{reads_in}
+use Rattle.st_tree.specs.declared.graph.StExit.TheVariants as exit_of
+use Rattle.st_tree.specs.declared.program.Stmt.{Stmt}
+use Rattle.stl_tree.specs.declared.program.Instr.{Instr}
+use Rattle.stl_tree.specs.declared.program.Op.{Op}
+use Rattle.row_templates.specs.Reading.{EachRegister}
+use Rattle.std.proofs.lemmas.List.Elements.{All-head, All-tail}
+use Rattle.instruction_lowering.proofs.Simulation.{Follows, Sees, Stack, at_node, both_end, ran, running_on, through, used_behind_all}
 
 -- Units
 
-head_is : (b : Block) → IsHeadOf b (head_for b)
-head_is b =
-    record { program = refl; name = refl; formals = refl; locals = are_temporaries 0 (types_in b.body); body = refl }
+kind_is : (n : BlockName) → IsKindOf n true
+kind_is (name.Ob n) = refl
+kind_is (name.Fc n) = tt
+kind_is (name.Fb n) = tt
 
-units_of : (blocks : List Block) → AreUnitsOf blocks (map unit_of blocks)
-units_of [] = tt
-units_of (b ∷ bs) =
-    (record { head = head_is b; node = node_of b.body; nodes = refl; exit = refl; only_end = refl; steps = are_writes b.body first_spot; reads = of_body (IsRead b.body) b.body first_spot (λ r read. read) tt; few = few_steps b.body first_spot; small = few_nodes b.body first_spot }, units_of bs)
+no_formals : (n : BlockName) → HasFormalsOf n [] []
+no_formals (name.Ob n) = refl
+no_formals (name.Fc n) = tt
+no_formals (name.Fb n) = refl
+
+head_is : (b : Block) → IsAcceptedBlock b → IsHeadOf b (head_for b)
+head_is b h =
+    record {
+      kind = kind_is b.name;
+      name = refl;
+      formals = subst (λ (fs : List Formal). HasFormalsOf b.name fs []) (sym h.formals) (no_formals b.name);
+      locals = are_named 0 (types_in b.body);
+      body = refl;
+    }
+
+-- a body that has its end word is left by it
+ends_by_end : (body : List Instr) → IsEnded body → IsExitOf body exit_of.End
+ends_by_end [] h = elim h [ ]
+ends_by_end (i ∷ []) h = subst (λ (o : Op). IsExitBehind o exit_of.End) (sym h) refl
+ends_by_end (i ∷ j ∷ rest) h = ends_by_end (j ∷ rest) h
+
+two_more : (n : ℕ) → (suc (suc n) == 1) ≡ false
+two_more n = grind (arith, nat_tests)
+
+end_alone : (body : List Instr) → IsEnded body → (length body == 1) ≡ is_end_alone body
+end_alone [] h = elim h [ ]
+end_alone (i ∷ []) h = sym (ap ends_block h)
+end_alone (i ∷ j ∷ rest) h = two_more (length rest)
+
+node_is : (b : Block) → IsAcceptedBlock b → IsNodeOf b.body (node_of b.body)
+node_is b h =
+    let bounds = unit_bounds b h in
+    let steps : List Stmt = steps_of first_spot b.body in
+    record {
+      exit = ends_by_end b.body h.ends;
+      only_end = end_alone b.body h.ends;
+      steps = bounds.writes;
+      reads = subst (EachRegister (IsRead b.body)) (sym (append-nil (reads_in steps))) bounds.reads;
+      few = omega (arith, bounds.few);
+      small = omega (arith, bounds.small);
+    }
+
+unit_is : (b : Block) → IsAcceptedBlock b → IsUnitOf b (unit_of b)
+unit_is b h = record { head = head_is b h; nodes = (node_is b h, tt) }
+
+units_of : (blocks : List Block) → All IsAcceptedBlock blocks → AreUnitsOf blocks (map unit_of blocks)
+units_of [] h = tt
+units_of (b ∷ bs) h = (unit_is b (All-head IsAcceptedBlock b bs h), units_of bs (All-tail IsAcceptedBlock b bs h))
 
 -- The block that is called
 
@@ -130,10 +184,10 @@ module _ (program : Program) (formed : All IsAcceptedBlock program.blocks) (call
   state memory = state_at_start (head_for b) call memory
 
   -- both begin alike: all registers are zero
-  start_alike : (called : BlockName) → (n : ℕ) → called ≡ name.Ob n → AreAlike IsKept start (registers_at_start called call.instance)
+  start_alike : (called : BlockName) → (n : ℕ) → called ≡ name.Ob n → AreAlike start (registers_at_start called call.instance)
   start_alike (name.Ob n) m e = zeros
     where
-      zeros : AreAlike IsKept start all_zero
+      zeros : AreAlike start all_zero
       zeros reg.Sta asked = elim asked [ ]
       zeros q asked = refl
   start_alike (name.Fc n) m e = cc
@@ -143,21 +197,42 @@ module _ (program : Program) (formed : All IsAcceptedBlock program.blocks) (call
   start_range =
       record { accu1 = omega arith; accu2 = omega arith; ar1 = omega arith; ar2 = omega arith; db = omega arith; di = omega arith }
 
-  start_related : (memory : Areas) → IsMemoryOf program.dbs memory → Related (first ∷ []) (now memory) (state memory)
-  start_related memory valid =
-      record { registers = start_alike call.block number.0 number.1; memory = refl; bytes = memory_holds program.dbs memory valid; activations = refl; depth = refl; range = start_range }
+  -- an organization block has no formals
+  start_formals : formals_given call.block [] call.actuals ≡ []
+  start_formals = ap (λ (called : BlockName). formals_given called [] call.actuals) number.1
 
-  start_keeps : (memory : Areas) → Keeps (used_behind first_spot b.body) first_spot [] (state memory).activations
-  start_keeps memory =
-      let all : used_behind first_spot b.body ≡ 0 + length (types_in b.body) = used_behind_all b.body first_spot in
-      let many : length (temporaries 0 (types_in b.body)) ≡ length (types_in b.body) = so_many 0 (types_in b.body) in
-      let long : length (temporaries 0 (types_in b.body)) ≡ used_behind first_spot b.body = omega arith in
-      (length-map (temporaries 0 (types_in b.body)) zero_of ∙ long, tt)
+  -- no unit waits for the first one
+  abbrev alone : Stack
+  alone = record { callers = []; units = [] }
+
+  start_related : (memory : Areas) → IsMemoryOf program.dbs memory → Related (running_on alone first) (now memory) (state memory)
+  start_related memory valid =
+      record {
+        registers = start_alike call.block number.0 number.1;
+        range = start_range;
+        memory = refl;
+        bytes = memory_holds program.dbs memory valid;
+        blocks = refl;
+        running = activation_of (head_for b) (formals_given call.block [] call.actuals);
+        units = refl;
+        depth = refl;
+        formals = subst (λ (references : List Reference). AreFormals (with_areas memory) [] [] references) (sym start_formals) tt;
+      }
+
+  -- the unit has the temporaries of all its instructions
+  abbrev total : ℕ
+  total = length (types_in b.body)
+
+  enough : used_behind first_spot b.body ≤ total
+  enough = let h = used_behind_all b.body first_spot in omega arith
+
+  start_keeps : (memory : Areas) → Keeps total first_spot [] (state memory).activations
+  start_keeps memory = (length-map (temporaries 0 (types_in b.body)) zero_of ∙ so_many 0 (types_in b.body), tt)
 
   -- behind the first block nothing follows
-  nothing_follows : (counts : Counting) (side : Side) (n : ℕ) → Follows program graph counts side (size_of program) n first [] (λ units s. Ended s.memory.areas None) 0
+  nothing_follows : (counts : Counting) (side : Side) (n : ℕ) → Follows program graph counts side (size_of program) n first alone (λ units s. Ended s.memory.areas None) 0
   nothing_follows counts side n j small units within to after s handed =
-      both_end side _ _ (ap end_of (over_stays j after.memory None) ∙ sym (ap (λ (m : Contents). Ended m.areas None) handed.memory))
+      both_end side _ _ (ap end_of (over_stays j after.memory None) ∙ sym (ap (λ (m : Areas). Ended m None) (same_areas (running_on alone (record first { at = to })) after s handed)))
 
   abbrev graph_from : Counting → Areas → ℕ → ℕ → Out
   graph_from counts memory most units = nodes_do counts graph most (node_of b.body ∷ []) 0 units (state memory)
@@ -175,7 +250,7 @@ module _ (program : Program) (formed : All IsAcceptedBlock program.blocks) (call
   simulated counts side memory valid n units most begun =
       let shape = found_each IsAcceptedBlock call.block program.blocks b at.found formed in
       let within : length b.body ≤ size_of program = found_size call.block program.blocks b at.found in
-      at_node program graph counts side (size_of program) n first [] b at.there refl shape.ends shape.operands shape.brackets (omega arith) (now memory) (state memory) (start_related memory valid) (start_keeps memory) units most 0 begun
+      at_node program graph counts side (size_of program) n first alone b at.there refl shape.ends shape.operands shape.brackets (omega arith) (now memory) (state memory) (start_related memory valid) total enough (start_keeps memory) units most 0 begun
       (λ units s. Ended s.memory.areas None) (nothing_follows counts side n)
 
   nodes_end : (memory : Areas) → IsMemoryOf program.dbs memory → (n : ℕ) (after : Areas) (fault : Option Fault) → stl_run program call memory n ≡ Ended after fault → graph_run graph call memory n ≡ Ended after fault
@@ -227,7 +302,7 @@ lowered_same program accepted =
     record {
       blocks = refl;
       globals = refl;
-      units = units_of program.blocks;
+      units = units_of program.blocks formed;
       fits = λ call fits. let i = some_of (block_called call.block program.blocks) fits in fits_graph program formed call i.0 i.1;
       fits_back = λ call numbered fits. fits_program program formed call call.block numbered fits;
       runs = λ call fits. let i = some_of (block_called call.block program.blocks) fits in same_runs program formed call i.0 i.1;

@@ -1,11 +1,11 @@
 -- A program and its graph run alike: one induction over the steps for both directions, on one lemma an instruction.
 use Rattle.nesting_stack.specs.Entries.{most_open}
-use Rattle.std.proofs.Common.{◌≡◌, ℕ, zero, suc, ◌+◌, ◌<◌, ◌≤◌, Bool, true, false, if◌then◌else◌, List, [], ◌∷◌, ◌++◌, length, Option, Some, None, refl, sym, ap, ◌∙◌, subst, ◌⊎◌, inl, inr, ⊎_elim, arith}
+use Rattle.std.proofs.Common.{◌≡◌, ℕ, zero, suc, pos, ◌+◌, ◌<◌, ◌≤◌, Bool, true, false, if◌then◌else◌, List, [], ◌∷◌, ◌++◌, length, Option, Some, None, refl, sym, ap, ◌∙◌, subst, ◌⊎◌, inl, inr, ⊎_elim, arith}
 use Rattle.std.specs.Prelude.{nat_lt, option_and_then, slice_get}
 use Rattle.std.proofs.Math.Nat.{eq-or-lt_of_le}
 use Rattle.std.proofs.lemmas.List.Elements.{All-head, All-tail}
 use Rattle.std.proofs.lemmas.List.{length-append}
-use Rattle.memory_areas.specs.Areas.{Areas, Contents}
+use Rattle.memory_areas.specs.Areas.{Areas}
 use Rattle.memory_areas.specs.End.{End, Ended, Going}
 use Rattle.status_word.specs.StatusBits.{after_end}
 use Rattle.s7_base.specs.declared.outcome.Fault.{Fault}
@@ -23,18 +23,24 @@ use Rattle.stl_tree.specs.declared.program.Program.{Program}
 use Rattle.stl_tree.proofs.Runs.{over_stays}
 use Rattle.st_tree.specs.GraphRun.{Counting, exit_meaning, graph_calls, nodes_do}
 use Rattle.st_tree.specs.Meaning.{Calls, Continues, Exits, Faults, NoUnits, Normal, Out, Returns, Sem, body_meaning, then_do}
-use Rattle.st_tree.specs.State.{State}
+use Rattle.st_tree.specs.State.{Activation as Running, State, with_register}
+use Rattle.st_tree.specs.declared.program.Located.{Located}
 use Rattle.st_tree.specs.declared.graph.GraphProgram.{GraphProgram}
 use Rattle.st_tree.specs.declared.graph.StExit.TheVariants as exit
 use Rattle.st_tree.specs.declared.graph.StNode.{StNode}
 use Rattle.st_tree.specs.declared.program.Stmt.{Stmt}
-use Rattle.instruction_lowering.specs.Temporaries.{ends_block, types_in, types_of}
+use Rattle.instruction_lowering.specs.Lowered.{ends_block}
+use Rattle.instruction_lowering.specs.inner.Temporaries.{types_in, types_of}
 use Rattle.instruction_lowering.specs.inner.Lowering.{node_of, steps_of, used_behind}
-use Rattle.instruction_lowering.specs.inner.Templates.{behind, first_spot, outer_of, statements_of}
-use Rattle.row_templates.proofs.TwoParts.{in_parts, then_in_parts}
-use Rattle.row_templates.proofs.Alike.{AreAlike, HandedOn, IsHandedOn, IsKept, Related, keep_bits, keep_position}
+use Rattle.instruction_lowering.specs.inner.Templates.{behind, end_word_of, first_spot, outer_of, statements_of}
+use Rattle.row_templates.proofs.TwoParts.{goes_on_behind, in_parts, then_in_parts}
+use Rattle.row_templates.proofs.Operands.{cleared_registers, clears, sets}
+use Rattle.row_templates.proofs.Truths.{literal_worth}
+use Rattle.row_templates.specs.Builders.{cleared, literal_of, set_of}
+use Rattle.row_templates.specs.Related.{AreAlike, Frames, Related}
+use Rattle.row_templates.proofs.Alike.{keep_bits, keep_position}
 use Rattle.instruction_lowering.proofs.Bounds.{Begun, Behind, Side, Within, back, IsBack, IsForth, first_step, forth, last_step, next_step, no_first_step, no_node, no_step}
-use Rattle.instruction_lowering.specs.declared.statements.OpenBracket.{OpenBracket}
+use Rattle.bit_templates.specs.declared.chain.OpenBracket.{OpenBracket}
 use Rattle.instruction_lowering.specs.declared.statements.Spot.{Spot}
 use Rattle.instruction_lowering.proofs.Does.{Does, IsInside}
 use Rattle.instruction_lowering.proofs.Rows.{does}
@@ -83,10 +89,10 @@ has_rest body at i is has j = let e : at + 1 + j ≡ at + suc j = omega arith in
 
 -- Spots
 
--- instructions that are left from a spot on: they have their operands, brackets are nested, and so many temporaries
--- are used behind them
+-- instructions that are left from a spot on: they have their operands, brackets are nested, and at most so many
+-- temporaries are used behind them
 abbrev pub AreLeft : ℕ → Spot → List Instr → Type 0
-AreLeft total q is = HaveOperands is × AreNested is (length q.brackets) × (used_behind q is ≡ total)
+AreLeft total q is = HaveOperands is × AreNested is (length q.brackets) × (used_behind q is ≤ total)
 
 abbrev HasItsOperand : Instr → Type 0
 HasItsOperand i = HasOperand i.op
@@ -95,41 +101,19 @@ HasItsOperand i = HasOperand i.op
 pub used_behind_one : (o : Op) (q : Spot) → (behind o q).used ≡ q.used + length (types_of o)
 used_behind_one (op.Bracket c) q = refl
 used_behind_one op.Close q = omega arith
-used_behind_one (op.Check c b) q = refl
-used_behind_one (op.Assign o) q = refl
-used_behind_one (op.Set o) q = refl
-used_behind_one (op.Reset o) q = refl
-used_behind_one (op.Load a) q = refl
-used_behind_one (op.Transfer o w) q = refl
-used_behind_one (op.LoadAr a from) q = refl
-used_behind_one (op.StoreAr a to) q = refl
-used_behind_one op.ExchangeAr q = refl
-used_behind_one (op.OpenDb d) q = refl
-used_behind_one (op.OpenDi d) q = refl
-used_behind_one op.ExchangeDb q = refl
-used_behind_one (op.EdgeUp o) q = refl
-used_behind_one (op.EdgeDown o) q = refl
-used_behind_one (op.Arith a) q = refl
-used_behind_one (op.Compare t w) q = refl
-used_behind_one (op.Shift i by) q = refl
-used_behind_one op.Rlda q = refl
-used_behind_one op.Rrda q = refl
-used_behind_one (op.Logic l c) q = refl
-used_behind_one (op.Unary u) q = refl
-used_behind_one op.Tak q = refl
-used_behind_one o q = omega arith
+used_behind_one o q = refl
 
 pub more_used : (o : Op) (q : Spot) → q.used ≤ (behind o q).used
 more_used o q = let e : (behind o q).used ≡ q.used + length (types_of o) = used_behind_one o q in omega arith
 
--- and so do those of a body
-pub used_behind_all : (is : List Instr) (q : Spot) → used_behind q is ≡ q.used + length (types_in is)
+-- and so do those of a body, up to its first end word
+pub used_behind_all : (is : List Instr) (q : Spot) → used_behind q is ≤ q.used + length (types_in is)
 used_behind_all [] q = omega arith
 used_behind_all (i ∷ is) q = by (ends_block i.op) (used_behind_one i.op q) (used_behind_all is (behind i.op q))
   where
-    by : (b : Bool) → (behind i.op q).used ≡ q.used + length (types_of i.op) → used_behind (behind i.op q) is ≡ (behind i.op q).used + length (types_in is)
-        → (if b then (behind i.op q).used else used_behind (behind i.op q) is) ≡ q.used + length (types_of i.op ++ (if b then [] else types_in is))
-    by true h k = omega (arith, length-append (types_of i.op) [])
+    by : (b : Bool) → (behind i.op q).used ≡ q.used + length (types_of i.op) → used_behind (behind i.op q) is ≤ (behind i.op q).used + length (types_in is)
+        → (if b then (behind i.op q).used else used_behind (behind i.op q) is) ≤ q.used + length (types_of i.op ++ types_in is)
+    by true h k = omega (arith, length-append (types_of i.op) (types_in is))
     by false h k = omega (arith, length-append (types_of i.op) (types_in is))
 
 pub used_grows : (is : List Instr) (q : Spot) → q.used ≤ used_behind q is
@@ -168,7 +152,7 @@ record StandsInside (q : Spot) (i : Instr) (is : List Instr) : Type 0 where
   used : used_behind q (i ∷ is) ≡ used_behind (behind i.op q) is
 
 stands : (q : Spot) (i : Instr) (is : List Instr) → IsEnded (i ∷ is)
-    → StandsInside q i is ⊎ ((i.op ≡ op.BlockEnd) × (steps_of q (i ∷ is) ≡ []))
+    → StandsInside q i is ⊎ ((i.op ≡ op.BlockEnd) × (steps_of q (i ∷ is) ≡ end_word_of))
 stands q i is h = by i.op refl
   where
     followed : (is : List Instr) → IsEnded (i ∷ is) → (i.op ≡ op.BlockEnd → ⊥) → IsEnded is
@@ -184,7 +168,7 @@ stands q i is h = by i.op refl
           used = ap (λ b. if b then (behind i.op q).used else used_behind (behind i.op q) is) not;
         }
 
-    by : (o : Op) → i.op ≡ o → StandsInside q i is ⊎ ((i.op ≡ op.BlockEnd) × (steps_of q (i ∷ is) ≡ []))
+    by : (o : Op) → i.op ≡ o → StandsInside q i is ⊎ ((i.op ≡ op.BlockEnd) × (steps_of q (i ∷ is) ≡ end_word_of))
     by op.BlockEnd e = inr (e, ap (λ (o : Op). statements_of q o ++ (if ends_block o then [] else steps_of (behind o q) is)) e)
     by o e = inl (goes_on (subst IsInside (sym e) tt) (λ end. other (sym e ∙ end)) (ap ends_block e))
       where
@@ -193,29 +177,51 @@ stands q i is h = by i.op refl
 
 -- The end word
 
-end_alike : (now : Now) (s : State) (acts : List Activation) → Related acts now s → AreAlike IsHandedOn (record now.registers { status = after_end now.registers.status }) s.registers
-end_alike now s acts related reg.Nfc asked = elim asked [ ]
-end_alike now s acts related reg.Sta asked = elim asked [ ]
-end_alike now s acts related reg.Orb asked = elim asked [ ]
-end_alike now s acts related reg.Os asked = elim asked [ ]
-end_alike now s acts related q asked = related.registers q tt
+module _ (g : List Located) (calls : Calls) (units : ℕ) (frames : Frames) (now : Now) (s : State) (related : Related frames now s) where
+  -- the state once OR, /FC and OS are cleared
+  abbrev ended_state : State
+  ended_state =
+      record s { registers = with_register reg.Os (pos 0) (cleared_registers g calls units false s.registers) }
 
--- it hands the registers and the memory on
-ends : (acts : List Activation) (now : Now) (s : State) → Related acts now s → HandedOn acts (with_status after_end now) s
-ends acts now s related = keep_bits IsKept acts now s related IsHandedOn (after_end now.registers.status) s.registers (end_alike now s acts related)
+  end_alike : AreAlike (record now.registers { status = after_end now.registers.status }) ended_state.registers
+  end_alike reg.Nfc asked = refl
+  end_alike reg.Orb asked = refl
+  end_alike reg.Os asked = refl
+  end_alike reg.Sta asked = elim asked [ ]
+  end_alike q asked = related.registers q asked
+
+  -- its statements lead there, and the state is that of the ended block
+  end_goes : body_meaning g calls end_word_of units s ≡ Normal units ended_state
+  end_goes =
+      goes_on_behind g calls (cleared false) units s (set_of reg.Os (literal_of false) ∷ []) units (record s { registers = cleared_registers g calls units false s.registers }) (clears g calls units false s)
+      ∙ sets g calls units reg.Os (literal_of false) false [] (record s { registers = cleared_registers g calls units false s.registers })
+      (literal_worth g (record s { registers = cleared_registers g calls units false s.registers }) false)
+
+  end_related : Related frames (with_status after_end now) ended_state
+  end_related = keep_bits frames now s related (after_end now.registers.status) ended_state.registers end_alike
 
 -- Runs
+
+-- what waits for the running block: the blocks that called it, the last one first, and their units, the first one first
+pub record Stack : Type 0 where
+  pub callers : List Activation
+  pub units : List Running
+
+-- the frames of a block that runs on a stack
+abbrev pub running_on : Stack → Activation → Frames
+running_on stack a = record { blocks = a ∷ stack.callers; waiting = stack.units }
 
 -- what can be seen n steps on
 abbrev pub ran : ℕ → Standing → End
 ran n here = end_of (steps_on n here)
 
 module _ (p : Program) (g : GraphProgram) (counts : Counting) (side : Side) (size : ℕ) where
-  -- what follows the unit of a running block, k, is what follows the block, for all numbers of steps up to n
-  abbrev pub Follows : ℕ → Activation → List Activation → (ℕ → State → End) → ℕ → Type 0
-  Follows n a waiting k debt =
-      (j : ℕ) → j ≤ n → (units : ℕ) → Behind side size j units debt → (at : ℕ) (now : Now) (s : State) → HandedOn (record a { at = at } ∷ waiting) now s
-      → Sees side (ran j (returned p (record a { at = at } ∷ waiting) now)) (k units s)
+  -- what follows the unit of a running block, k, is what follows the block, for all numbers of steps up to n; what waits
+  -- is as it was when the block was called
+  abbrev pub Follows : ℕ → Activation → Stack → (ℕ → State → End) → ℕ → Type 0
+  Follows n a stack k debt =
+      (j : ℕ) → j ≤ n → (units : ℕ) → Behind side size j units debt → (at : ℕ) (now : Now) (s : State) → Related (running_on stack (record a { at = at })) now s
+      → Sees side (ran j (returned p (record a { at = at } ∷ stack.callers) now)) (k units s)
 
   abbrev calls_within : ℕ → Calls
   calls_within most = graph_calls (λ begun. nodes_do counts g most begun 0) g
@@ -231,24 +237,24 @@ module _ (p : Program) (g : GraphProgram) (counts : Counting) (side : Side) (siz
   -- a node begins with its block
   abbrev pub AtNode : ℕ → Type 0
   AtNode n =
-      (a : Activation) (waiting : List Activation) (b : Block) → slice_get p.blocks a.block ≡ Some b → a.at ≡ 0 → IsEnded b.body → HaveOperands b.body → AreNested b.body 0 → a.at + length b.body ≤ size
-      → (now : Now) (s : State) → Related (a ∷ waiting) now s → Keeps (used_behind first_spot b.body) first_spot now.brackets s.activations → (units most debt : ℕ) → Begun side size n units most a.at debt
-      → (k : ℕ → State → End) → Follows n a waiting k debt
+      (a : Activation) (stack : Stack) (b : Block) → slice_get p.blocks a.block ≡ Some b → a.at ≡ 0 → IsEnded b.body → HaveOperands b.body → AreNested b.body 0 → a.at + length b.body ≤ size
+      → (now : Now) (s : State) → Related (running_on stack a) now s → (total : ℕ) → used_behind first_spot b.body ≤ total → Keeps total first_spot now.brackets s.activations → (units most debt : ℕ) → Begun side size n units most a.at debt
+      → (k : ℕ → State → End) → Follows n a stack k debt
       → Sees side (ran n (running p now)) (through (nodes_do counts g most (node_of b.body ∷ []) 0 units s) k)
 
   -- it goes on at an instruction
   abbrev Inside : ℕ → Type 0
   Inside n =
-      (a : Activation) (waiting : List Activation) (b : Block) → slice_get p.blocks a.block ≡ Some b → (nodes : List StNode) (is : List Instr) → HasFrom b.body a.at is → IsEnded is → (total : ℕ) (q : Spot) → AreLeft total q is → a.at + length is ≤ size
-      → (now : Now) (s : State) → Related (a ∷ waiting) now s → Keeps total q now.brackets s.activations → (units most debt : ℕ) → Within side size n units most a.at debt
-      → (k : ℕ → State → End) → Follows n a waiting k debt
+      (a : Activation) (stack : Stack) (b : Block) → slice_get p.blocks a.block ≡ Some b → (nodes : List StNode) (is : List Instr) → HasFrom b.body a.at is → IsEnded is → (total : ℕ) (q : Spot) → AreLeft total q is → a.at + length is ≤ size
+      → (now : Now) (s : State) → Related (running_on stack a) now s → Keeps total q now.brackets s.activations → (units most debt : ℕ) → Within side size n units most a.at debt
+      → (k : ℕ → State → End) → Follows n a stack k debt
       → Sees side (ran n (running p now)) (through (rest_of most nodes q is units s) k)
 
   -- One instruction
 
-  module _ (n : ℕ) (a : Activation) (waiting : List Activation) (b : Block) (there : slice_get p.blocks a.block ≡ Some b) (nodes : List StNode) (i : Instr) (is : List Instr) (has : HasFrom b.body a.at (i ∷ is)) (ending : IsEnded (i ∷ is)) (total : ℕ) (q : Spot) (left : AreLeft total q (i ∷ is)) (fits : a.at + suc (length is) ≤ size)
-      (now : Now) (s : State) (related : Related (a ∷ waiting) now s) (keeps : Keeps total q now.brackets s.activations) (units most debt : ℕ) (within : Within side size n units most (a.at + 1) debt)
-      (k : ℕ → State → End) (follows : Follows n a waiting k debt) (inside : Inside n) where
+  module _ (n : ℕ) (a : Activation) (stack : Stack) (b : Block) (there : slice_get p.blocks a.block ≡ Some b) (nodes : List StNode) (i : Instr) (is : List Instr) (has : HasFrom b.body a.at (i ∷ is)) (ending : IsEnded (i ∷ is)) (total : ℕ) (q : Spot) (left : AreLeft total q (i ∷ is)) (fits : a.at + suc (length is) ≤ size)
+      (now : Now) (s : State) (related : Related (running_on stack a) now s) (keeps : Keeps total q now.brackets s.activations) (units most debt : ℕ) (within : Within side size n units most (a.at + 1) debt)
+      (k : ℕ → State → End) (follows : Follows n a stack k debt) (inside : Inside n) where
     abbrev here : Sem
     here u t = body_meaning g.globals (calls_within most) (statements_of q i.op) u t
 
@@ -259,7 +265,7 @@ module _ (p : Program) (g : GraphProgram) (counts : Counting) (side : Side) (siz
     arrives : (goal : Standing → Type 0) → goal (after_effect p now (effect_of i.op now)) → goal (step_by (instruction p now.activations) p now)
     arrives goal h =
         subst (λ (o : Option Instr). goal (step_by o p now))
-        (sym (ap (instruction p) related.activations ∙ ap (option_and_then (λ (b : Block). slice_get b.body a.at)) there ∙ has_first b.body a.at i is has)) h
+        (sym (ap (instruction p) related.blocks ∙ ap (option_and_then (λ (b : Block). slice_get b.body a.at)) there ∙ has_first b.body a.at i is has)) h
 
     -- its statements are the first of those that are left
     splits : steps_of q (i ∷ is) ≡ statements_of q i.op ++ steps_of (behind i.op q) is → rest_of most nodes q (i ∷ is) units s ≡ then_do (here units s) later
@@ -268,81 +274,85 @@ module _ (p : Program) (g : GraphProgram) (counts : Counting) (side : Side) (siz
         ∙ ap (λ (o : Out). then_do o (leaves most nodes)) (in_parts g.globals (calls_within most) (statements_of q i.op) (steps_of (behind i.op q) is) units s)
         ∙ then_in_parts (here units s) (body_meaning g.globals (calls_within most) (steps_of (behind i.op q) is)) (leaves most nodes)
 
-    meets : (e : Effect) (o : Out) → IsEnded is → AreLeft total (behind i.op q) is → Does o units total (behind i.op q) (a ∷ waiting) now.memory e
+    meets : (e : Effect) (o : Out) → IsEnded is → AreLeft total (behind i.op q) is → Does o units total (behind i.op q) (running_on stack a) now.memory e
         → Sees side (ran n (after_effect p now e)) (through (then_do o later) k)
     meets (next after) o ends left done =
         subst (λ (x : Out). Sees side (ran n (after_effect p now (next after))) (through (then_do x later) k)) (sym done.1)
-        (inside (record a { at = a.at + 1 }) waiting b there nodes is (has_rest b.body a.at i is has) ends total (behind i.op q) left (omega arith)
-        (record after { activations = going_on after.activations }) done.0 (keep_position IsKept a waiting after done.0 done.2) done.3 units most debt within k follows)
+        (inside (record a { at = a.at + 1 }) stack b there nodes is (has_rest b.body a.at i is has) ends total (behind i.op q) left (omega arith)
+        (record after { activations = going_on after.activations }) done.0 (keep_position (running_on stack a) after done.0 done.2) done.3 units most debt within k follows)
     meets (fault f) o ends left done =
         both_end side _ _
-        (ap end_of (over_stays n now.memory (Some f)) ∙ sym (ap (λ (x : Out). through (then_do x later) k) done.1 ∙ ap (λ (m : Contents). Ended m.areas (Some f)) done.2))
+        (ap end_of (over_stays n now.memory (Some f)) ∙ sym (ap (λ (x : Out). through (then_do x later) k) done.1 ∙ ap (λ (m : Areas). Ended m (Some f)) done.2))
     meets (go to after) o ends left done = elim done [ ]
     meets (enter call after) o ends left done = elim done [ ]
     meets (leave after) o ends left done = elim done [ ]
 
     by_inside : StandsInside q i is → Sees side (ran (suc n) (running p now)) (through (rest_of most nodes q (i ∷ is) units s) k)
     by_inside h =
-        let later_used : used_behind (behind i.op q) is ≡ total = sym h.used ∙ left.2 in
+        let later_used : used_behind (behind i.op q) is ≤ total = subst (λ (m : ℕ). m ≤ total) h.used left.2 in
         let room : (behind i.op q).used ≤ used_behind (behind i.op q) is = used_grows is (behind i.op q) in
         arrives (λ stand. Sees side (ran n stand) (through (rest_of most nodes q (i ∷ is) units s) k))
         (subst (λ (x : Out). Sees side (ran n (after_effect p now (effect_of i.op now))) (through x k)) (sym (splits h.steps))
         (meets (effect_of i.op now) (here units s) h.ended (All-tail HasItsOperand i is left.0, nested_behind (AreNested is) i.op q h.inside left.1, later_used)
-        (does g.globals (calls_within most) units (a ∷ waiting) now s related total q keeps i.op h.inside
+        (does g.globals (calls_within most) units (running_on stack a) now s related total q keeps i.op h.inside
         (All-head HasItsOperand i is left.0) (can_stand (AreNested is) (open_behind i.op (length q.brackets)) left.1) (omega arith))))
 
-    by_end : (i.op ≡ op.BlockEnd) × (steps_of q (i ∷ is) ≡ []) → Sees side (ran (suc n) (running p now)) (through (rest_of most nodes q (i ∷ is) units s) k)
+    by_end : (i.op ≡ op.BlockEnd) × (steps_of q (i ∷ is) ≡ end_word_of) → Sees side (ran (suc n) (running p now)) (through (rest_of most nodes q (i ∷ is) units s) k)
     by_end h =
         let same : n ≤ n = omega arith in
         let small : a.at + 1 ≤ size = omega arith in
+        let frames : Frames = running_on stack a in
+        let t : State = ended_state g.globals (calls_within most) units frames now s related in
         arrives (λ stand. Sees side (ran n stand) (through (rest_of most nodes q (i ∷ is) units s) k))
         (subst (λ (x : Op). Sees side (ran n (after_effect p now (effect_of x now))) (through (rest_of most nodes q (i ∷ is) units s) k)) (sym h.0)
         (subst (λ (xs : List Stmt). Sees side (ran n (returned p now.activations (with_status after_end now))) (through (then_do (body_meaning g.globals (calls_within most) xs units s) (leaves most nodes)) k)) (sym h.1)
-        (subst (λ (acts : List Activation). Sees side (ran n (returned p acts (with_status after_end now))) (k units s)) (sym related.activations)
-        (follows n same units (last_step side size n units most a.at debt small within) a.at (with_status after_end now) s (ends (a ∷ waiting) now s related)))))
+        (subst (λ (o : Out). Sees side (ran n (returned p now.activations (with_status after_end now))) (through (then_do o (leaves most nodes)) k))
+        (sym (end_goes g.globals (calls_within most) units frames now s related))
+        (subst (λ (acts : List Activation). Sees side (ran n (returned p acts (with_status after_end now))) (k units t)) (sym related.blocks)
+        (follows n same units (last_step side size n units most a.at debt small within) a.at (with_status after_end now) t (end_related g.globals (calls_within most) units frames now s related))))))
 
     pub one_step : Sees side (ran (suc n) (running p now)) (through (rest_of most nodes q (i ∷ is) units s) k)
     one_step = ⊎_elim by_inside by_end (stands q i is ending)
 
   -- All of them, from fewer steps to more
 
-  fewer : (n m : ℕ) (a : Activation) (waiting : List Activation) (k : ℕ → State → End) (debt : ℕ) → n ≤ m → Follows m a waiting k debt → Follows n a waiting k debt
-  fewer n m a waiting k debt h follows j small = follows j (omega arith)
+  fewer : (n m : ℕ) (a : Activation) (stack : Stack) (k : ℕ → State → End) (debt : ℕ) → n ≤ m → Follows m a stack k debt → Follows n a stack k debt
+  fewer n m a stack k debt h follows j small = follows j (omega arith)
 
   not_empty : (is : List Instr) → IsEnded is → 1 ≤ length is
   not_empty [] ends = elim ends [ ]
   not_empty (i ∷ is) ends = omega arith
 
   node_none : AtNode 0
-  node_none a waiting b there start ends operands nested fits now s related keeps units most debt begun k follows =
+  node_none a stack b there start ends operands nested fits now s related total small keeps units most debt begun k follows =
       let some : 1 ≤ length b.body = not_empty b.body ends in
       none_forth side _ (no_first_step side size units most a.at debt (omega arith) begun)
 
   inside_none : Inside 0
-  inside_none a waiting b there nodes is has ends total q left fits now s related keeps units most debt within k follows =
+  inside_none a stack b there nodes is has ends total q left fits now s related keeps units most debt within k follows =
       let some : 1 ≤ length is = not_empty is ends in
       none_forth side _ (no_step side size units most a.at debt (omega arith) within)
 
   -- one more step, at an instruction of which nothing is known but that one is there
-  more_step : (n : ℕ) → Inside n → (a : Activation) (waiting : List Activation) (b : Block) → slice_get p.blocks a.block ≡ Some b → (nodes : List StNode) (is : List Instr) → HasFrom b.body a.at is → IsEnded is → (total : ℕ) (q : Spot) → AreLeft total q is → a.at + length is ≤ size
-      → (now : Now) (s : State) → Related (a ∷ waiting) now s → Keeps total q now.brackets s.activations → (units most debt : ℕ) → Within side size n units most (a.at + 1) debt
-      → (k : ℕ → State → End) → Follows n a waiting k debt
+  more_step : (n : ℕ) → Inside n → (a : Activation) (stack : Stack) (b : Block) → slice_get p.blocks a.block ≡ Some b → (nodes : List StNode) (is : List Instr) → HasFrom b.body a.at is → IsEnded is → (total : ℕ) (q : Spot) → AreLeft total q is → a.at + length is ≤ size
+      → (now : Now) (s : State) → Related (running_on stack a) now s → Keeps total q now.brackets s.activations → (units most debt : ℕ) → Within side size n units most (a.at + 1) debt
+      → (k : ℕ → State → End) → Follows n a stack k debt
       → Sees side (ran (suc n) (running p now)) (through (rest_of most nodes q is units s) k)
-  more_step n inside a waiting b there nodes [] has ends total q left fits now s related keeps units most debt within k follows = elim ends [ ]
-  more_step n inside a waiting b there nodes (i ∷ is) has ends total q left fits now s related keeps units most debt within k follows =
-      one_step n a waiting b there nodes i is has ends total q left (omega arith) now s related keeps units most debt within k follows inside
+  more_step n inside a stack b there nodes [] has ends total q left fits now s related keeps units most debt within k follows = elim ends [ ]
+  more_step n inside a stack b there nodes (i ∷ is) has ends total q left fits now s related keeps units most debt within k follows =
+      one_step n a stack b there nodes i is has ends total q left (omega arith) now s related keeps units most debt within k follows inside
 
   inside_next : (n : ℕ) → Inside n → Inside (suc n)
-  inside_next n inside a waiting b there nodes is has ends total q left fits now s related keeps units most debt within k follows =
-      more_step n inside a waiting b there nodes is has ends total q left fits now s related keeps units most debt (next_step side size n units most a.at debt within) k
-      (fewer n (suc n) a waiting k debt (omega arith) follows)
+  inside_next n inside a stack b there nodes is has ends total q left fits now s related keeps units most debt within k follows =
+      more_step n inside a stack b there nodes is has ends total q left fits now s related keeps units most debt (next_step side size n units most a.at debt within) k
+      (fewer n (suc n) a stack k debt (omega arith) follows)
 
   node_next : (n : ℕ) → Inside n → AtNode (suc n)
-  node_next n inside a waiting b there start ends operands nested fits now s related keeps units zero debt begun k follows = none_back side _ (no_node side size n units a.at debt begun)
-  node_next n inside a waiting b there start ends operands nested fits now s related keeps units (suc most) debt begun k follows =
-      more_step n inside a waiting b there (node_of b.body ∷ []) b.body (λ j. let e : a.at + j ≡ j = omega arith in ap (slice_get b.body) e) ends
-      (used_behind first_spot b.body) first_spot (operands, nested, refl) fits now s related keeps units most debt
-      (first_step side size n units most a.at debt begun) k (fewer n (suc n) a waiting k debt (omega arith) follows)
+  node_next n inside a stack b there start ends operands nested fits now s related total small keeps units zero debt begun k follows = none_back side _ (no_node side size n units a.at debt begun)
+  node_next n inside a stack b there start ends operands nested fits now s related total small keeps units (suc most) debt begun k follows =
+      more_step n inside a stack b there (node_of b.body ∷ []) b.body (λ j. let e : a.at + j ≡ j = omega arith in ap (slice_get b.body) e) ends
+      total first_spot (operands, nested, small) fits now s related keeps units most debt
+      (first_step side size n units most a.at debt begun) k (fewer n (suc n) a stack k debt (omega arith) follows)
 
   abbrev pub Both : ℕ → Type 0
   Both n = AtNode n × Inside n

@@ -1,31 +1,13 @@
 -- Temporaries: what the locals of the running unit keep of open brackets.
-use Rattle.std.proofs.Common.{◌≡◌, ℕ, suc, ◌+◌, ◌<◌, ◌≤◌, List, [], ◌∷◌, length, Some, refl, ap, ◌∙◌, arith}
+use Rattle.std.proofs.Common.{◌≡◌, ℕ, suc, ◌+◌, ◌<◌, ◌≤◌, List, [], ◌∷◌, length, refl, ap, ◌∙◌, arith}
 use Rattle.std.specs.Prelude.{slice_get}
 use Rattle.s7_base.specs.declared.check.Entry.{Entry}
 use Rattle.st_tree.specs.State.{Activation}
-use Rattle.st_tree.specs.Values.{flag}
 use Rattle.st_tree.specs.declared.state.Value.{Value}
-use Rattle.row_templates.proofs.Locals.{own_of}
-use Rattle.instruction_lowering.specs.declared.statements.OpenBracket.{OpenBracket}
+use Rattle.row_templates.specs.DoesRow.{own_of}
+use Rattle.bit_templates.specs.Brackets.{KeepBrackets, KeepsBracket}
+use Rattle.bit_templates.specs.declared.chain.OpenBracket.{OpenBracket}
 use Rattle.instruction_lowering.specs.declared.statements.Spot.{Spot}
-use Rattle.instruction_lowering.specs.inner.Templates.{chain_at}
-
--- three locals, below so many, keep what an open bracket has kept
-pub record KeepsBracket (used : ℕ) (o : OpenBracket) (e : Entry) (locals : List Value) : Type 0 where
-  pub first : ℕ
-  pub kept : o.kept ≡ chain_at first
-  pub below : first + 3 ≤ used
-  pub check : o.check ≡ e.check
-  pub rlo : slice_get locals first ≡ Some (flag e.rlo)
-  pub orb : slice_get locals (first + 1) ≡ Some (flag e.orb)
-  pub nfc : slice_get locals (first + 2) ≡ Some (flag e.nfc)
-
--- the open brackets of a text and those of a run, the innermost ones first
-abbrev pub KeepBrackets : ℕ → List OpenBracket → List Entry → List Value → Type 0
-KeepBrackets used [] [] locals = Unit {0}
-KeepBrackets used [] (e ∷ entries) locals = ⊥
-KeepBrackets used (o ∷ outer) [] locals = ⊥
-KeepBrackets used (o ∷ outer) (e ∷ entries) locals = KeepsBracket used o e locals × KeepBrackets used outer entries locals
 
 -- the running unit has so many locals, which keep the brackets that are open at a spot
 abbrev pub Keeps : ℕ → Spot → List Entry → List Activation → Type 0

@@ -8,7 +8,7 @@ use Rattle.st_tree.specs.Proper.{IsLocal}
 use Rattle.st_tree.specs.WellTyped.{keys_of, type_inside}
 use Rattle.st_tree.specs.declared.expr.StType.{StType}
 use Rattle.st_tree.specs.declared.program.Local.{Local}
-use Rattle.instruction_lowering.specs.Temporaries.{AreTemporaries}
+use Rattle.instruction_lowering.specs.inner.Temporaries.{AreTemporaries}
 use Rattle.instruction_lowering.specs.inner.Lowering.{temporaries}
 use Rattle.instruction_lowering.proofs.Names.{same_number}
 use Rattle.instruction_lowering.proofs.ProperNames.{Digits, decimal_digits, upper_digit}

@@ -1,2 +1,3 @@
 pub mod Lowering
 pub mod Templates
+pub mod Temporaries

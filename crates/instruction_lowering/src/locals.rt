@@ -1,21 +1,23 @@
 //! The temporaries of a unit.
 ghost use Rattle.std.specs.Prelude.{◌≡◌, ◌<◌, ◌^◌, ◌++◌, length, IfOk, OnOk};
-ghost use Rattle.instruction_lowering.specs.Temporaries.{ends_block, types_checked, types_in, types_of, types_of_edge, types_of_unary};
+ghost use Rattle.instruction_lowering.specs.Lowered.{ends_block};
+ghost use Rattle.instruction_lowering.specs.inner.Temporaries.{types_in, types_of, types_of_unary};
 ghost use Rattle.instruction_lowering.specs.inner.Lowering.{temporaries, temporary};
 
 use accumulator_templates::{
     types_of_block_exchange, types_of_block_open, types_of_exchange, types_of_load, types_of_logic,
 };
 use arithmetic_templates::{types_of_calculated, types_of_compared, types_of_negated};
+use bit_templates::{types_checked, types_of_bracket, types_of_edge};
 use digit_templates::{types_of_btd, types_of_bti, types_of_dtb, types_of_itb};
 use itoa::Buffer;
 use pointer_templates::{types_of_pointer_exchange, types_of_pointer_load, types_of_pointer_store};
-use row_templates::{may_fault, types_fetched, types_reached};
+use row_templates::{types_fetched, types_reached};
 use s7_base::{List, NoMemory, Width};
 use shift_templates::{types_of_shift, types_through_cc1};
 use st_tree::{Local, StType};
 use std::alloc::Global;
-use stl_tree::{BitArg, Instr, Op, Operand, UnaryRow};
+use stl_tree::{Instr, Op, UnaryRow};
 
 /// The temporaries of the instructions of a body, from `T1` on.
 pub fn locals_of(alloc: Global, body: &[Instr]) -> Result<List<Local>, NoMemory>
@@ -26,7 +28,7 @@ pub fn locals_of(alloc: Global, body: &[Instr]) -> Result<List<Local>, NoMemory>
     temporaries(alloc, types.as_slice())
 }
 
-/// The types of the temporaries of a body; nothing behind an end word is reached.
+/// The types of the temporaries of a body.
 fn types(alloc: Global, body: &[Instr]) -> Result<List<StType>, NoMemory>
     ensures { IfOk result (λ types. types ≡ types_in body.now) }
 {
@@ -34,9 +36,6 @@ fn types(alloc: Global, body: &[Instr]) -> Result<List<StType>, NoMemory>
     let mut rest = body;
     while let Some((instr, behind)) = rest.split_first() {
         push_all(&mut types, types_of(&instr.op))?;
-        if ends_block(&instr.op) {
-            break;
-        }
         rest = behind;
     }
     Ok(types)
@@ -67,7 +66,7 @@ pub fn types_of(op: &Op) -> &'static [StType]
         Op::ExchangeAr => types_of_pointer_exchange(),
         Op::OpenDb(block) | Op::OpenDi(block) => types_of_block_open(*block),
         Op::ExchangeDb => types_of_block_exchange(),
-        Op::Bracket(_) => &[StType::Bool, StType::Bool, StType::Bool],
+        Op::Bracket(_) => types_of_bracket(),
         Op::EdgeUp(operand) | Op::EdgeDown(operand) => types_of_edge(operand),
         Op::Arith(row) => types_of_calculated(*row),
         Op::Compare(_, width) => types_of_compared(*width),
@@ -77,35 +76,6 @@ pub fn types_of(op: &Op) -> &'static [StType]
         Op::Unary(row) => types_of_unary(*row),
         Op::Tak => types_of_exchange(),
         _ => &[],
-    }
-}
-
-/// Those of a check.
-fn types_checked(arg: &BitArg) -> &'static [StType]
-    ensures { result.now ≡ types_checked arg.now }
-{
-    match arg {
-        BitArg::At(operand) => types_fetched(operand, Width::Bit),
-        BitArg::Flag(_) => &[],
-    }
-}
-
-/// Those of an edge: its bit, where that may fault, and the RLO.
-fn types_of_edge(operand: &Operand) -> &'static [StType]
-    ensures { result.now ≡ types_of_edge operand.now }
-{
-    match *operand {
-        Operand::ByMemory(_, _, _) => &[StType::Dword, StType::Dword, StType::Bool, StType::Bool],
-        Operand::ByRegister(_, _, _) | Operand::Crossing(_, _) => {
-            &[StType::Dword, StType::Bool, StType::Bool]
-        }
-        _ => {
-            if may_fault(operand) {
-                &[StType::Bool, StType::Bool]
-            } else {
-                &[StType::Bool]
-            }
-        }
     }
 }
 

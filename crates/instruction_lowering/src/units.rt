@@ -2,7 +2,7 @@
 //!
 //! No instruction of the language so far jumps, so each unit is one node, which its end word ends.
 ghost use Rattle.std.specs.Prelude.{◌≡◌, ◌++◌, decimal, IfOk, OnOk};
-ghost use Rattle.st_tree.specs.Plain.{Plain};
+ghost use Rattle.graph_rules.specs.Plain.{Plain};
 ghost use Rattle.st_tree.specs.StRun.{called_name};
 ghost use Rattle.stl_tree.specs.Accepted.{IsAccepted};
 ghost use Rattle.instruction_lowering.specs.Lowered.{Lowered};

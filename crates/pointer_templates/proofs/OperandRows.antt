@@ -10,10 +10,10 @@ use Rattle.pointer_templates.proofs.ReadDwords.{pointer_fits, pointer_read}
 use Rattle.pointer_templates.specs.Pointers.{pointed_of, pointer_load_of, pointer_store_of}
 use Rattle.row_templates.specs.Builders.{read_of}
 use Rattle.row_templates.specs.Fetching.{fetched_of, types_fetched, types_reached}
-use Rattle.row_templates.proofs.Alike.{Related}
-use Rattle.row_templates.proofs.DoesRow.{DoesRow, Stops}
+use Rattle.row_templates.specs.Related.{Frames, Related}
+use Rattle.row_templates.specs.DoesRow.{DoesRow, Stops, own_of}
+use Rattle.row_templates.proofs.Alike.{same_areas}
 use Rattle.row_templates.proofs.Fetching.{fetched_row, number_shown, number_value, reached_row}
-use Rattle.row_templates.proofs.Locals.{own_of}
 use Rattle.row_templates.proofs.MemoryRows.{by_value}
 use Rattle.row_templates.proofs.Pointers.{dword, pointer_small, pointer_worth}
 use Rattle.row_templates.proofs.RegisterRows.{row_does}
@@ -35,7 +35,7 @@ use Rattle.stl_tree.specs.Accumulators.{read_number, write_number}
 use Rattle.stl_tree.specs.AddressRegisters.{pointer_in, with_pointer}
 use Rattle.stl_tree.specs.DataBlocks.{db_opened}
 use Rattle.stl_tree.specs.Instructions.{on_registers, pointed_from, pointer_stored}
-use Rattle.stl_tree.specs.Now.{Activation, Effect, Now, next, with_memory, with_value}
+use Rattle.stl_tree.specs.Now.{Effect, Now, next, with_memory, with_value}
 use Rattle.stl_tree.specs.Operands.{Found, aimed_by, aimed_in, found, found_at, place_in}
 use Rattle.stl_tree.specs.Reads.{register_of}
 use Rattle.stl_tree.specs.declared.program.Ar.{Ar}
@@ -91,20 +91,20 @@ module _ (a : Ar) (now : Now) where
 
 -- The rows
 
-module _ (g : List Located) (acts : List Activation) (calls : Calls) (units : ℕ) (a : Ar) where
+module _ (g : List Located) (frames : Frames) (calls : Calls) (units : ℕ) (a : Ar) where
   -- an address register takes an expression that is worth what is read at a place
-  read_points : (now : Now) (s : State) → Related acts now s → (used : ℕ) (p : Place) (e : Expr) → used ≤ length (own_of s.activations)
+  read_points : (now : Now) (s : State) → Related frames now s → (used : ℕ) (p : Place) (e : Expr) → used ≤ length (own_of s.activations)
       → value g e s ≡ read_place type.Dword p now.memory
-      → DoesRow (body_meaning g calls (pointed_of a e) units s) units used acts s now.memory (with_value (read_dword p now.memory) (λ (v : ℕ). on_registers (with_pointer a v) now))
+      → DoesRow (body_meaning g calls (pointed_of a e) units s) units used frames s now.memory (with_value (read_dword p now.memory) (λ (v : ℕ). on_registers (with_pointer a v) now))
   read_points now s related used p e room worth =
-      by_value (body_meaning g calls (pointed_of a e) units s) units used acts s now.memory (λ (v : ℕ). on_registers (with_pointer a v) now) (read_dword p now.memory) goes stops
+      by_value (body_meaning g calls (pointed_of a e) units s) units used frames s now.memory (λ (v : ℕ). on_registers (with_pointer a v) now) (read_dword p now.memory) goes stops
     where
       goes : (v : ℕ) → read_dword p now.memory ≡ Ok v
-          → DoesRow (body_meaning g calls (pointed_of a e) units s) units used acts s now.memory (on_registers (with_pointer a v) now)
+          → DoesRow (body_meaning g calls (pointed_of a e) units s) units used frames s now.memory (on_registers (with_pointer a v) now)
       goes v found =
           let small : v < 2 ^ 32 = pointer_fits p now.memory v related.bytes found in
           let begins : s ≡ stage s used [] (known now.registers (s.registers reg.Sta)) = stage_begins s used now.registers related.registers room in
-          row_does g s used calls units (pointed_of a e) acts now (with_pointer a v now.registers) related
+          row_does g s used calls units (pointed_of a e) frames now (with_pointer a v now.registers) related
           (pointed_row g s used now.registers (s.registers reg.Sta) related.range a e v small
           (ap (value g e) (sym begins) ∙ worth ∙ pointer_read (read_dword p now.memory) v small found)) (omega arith)
 
@@ -114,15 +114,15 @@ module _ (g : List Located) (acts : List Activation) (calls : Calls) (units : �
             at = s;
             stops = assign_stops_at_value g calls (var.Register (register_of a)) e [] units s f
                 (worth ∙ ap (λ (r : Result ℕ Fault). and_then r (λ n. Ok (typed type.Dword (pos n)))) found);
-            memory = related.memory;
+            areas = same_areas frames now s related;
           }
 
-  module _ (now : Now) (s : State) (related : Related acts now s) (used : ℕ) (o : Operand) (lies : IsOperand width.Dword o) where
+  module _ (now : Now) (s : State) (related : Related frames now s) (used : ℕ) (o : Operand) (lies : IsOperand width.Dword o) where
     -- LAR1 and LAR2 of an operand
     pub operand_loaded : used + length (types_fetched o width.Dword) ≤ length (own_of s.activations)
-        → DoesRow (body_meaning g calls (pointer_load_of used a (load.At o)) units s) units used acts s now.memory (pointed_from a (load.At o) now)
+        → DoesRow (body_meaning g calls (pointer_load_of used a (load.At o)) units s) units used frames s now.memory (pointed_from a (load.At o) now)
     operand_loaded room =
-        fetched_row g calls units acts now s related used o width.Dword lies (read_number width.Dword) (number_value width.Dword) (number_shown width.Dword)
+        fetched_row g calls units frames now s related used o width.Dword lies (read_number width.Dword) (number_value width.Dword) (number_shown width.Dword)
         (λ (p : Place) (after : Now) (v : ℕ). on_registers (with_pointer a v) after) (pointed_of a (fetched_of used o width.Dword)) room
         (λ f is t done.
         let many : length (own_of t.activations) ≡ length (own_of s.activations) = done.as_many in
@@ -130,12 +130,12 @@ module _ (g : List Located) (acts : List Activation) (calls : Calls) (units : �
 
     -- TAR1 and TAR2 into an operand
     pub operand_stored : used + length (types_reached o) ≤ length (own_of s.activations)
-        → DoesRow (body_meaning g calls (pointer_store_of used a (store.At o)) units s) units used acts s now.memory (pointer_stored a (store.At o) now)
+        → DoesRow (body_meaning g calls (pointer_store_of used a (store.At o)) units s) units used frames s now.memory (pointer_stored a (store.At o) now)
     operand_stored room =
-        subst (DoesRow (body_meaning g calls (pointer_store_of used a (store.At o)) units s) units used acts s now.memory)
-        (whole a now (pointer_small g s acts now related a) (found o now) (stays a now o))
-        (reached_row g calls units acts now s related used o width.Dword lies (read_of (register_of a)) (λ (after : Now). dword (pointer_in a after.registers))
-        (λ after t relates. pointer_worth g t acts after relates a)
+        subst (DoesRow (body_meaning g calls (pointer_store_of used a (store.At o)) units s) units used frames s now.memory)
+        (whole a now (pointer_small g s frames now related a) (found o now) (stays a now o))
+        (reached_row g calls units frames now s related used o width.Dword lies (read_of (register_of a)) (λ (after : Now). dword (pointer_in a after.registers))
+        (λ after t relates. pointer_worth g t frames after relates a)
         (λ (p : Place) (after : Now). write_number width.Dword p (pointer_in a after.registers % 2 ^ 32) after.memory)
         (λ p after. refl)
         (λ (done : Now). done) [] room

@@ -6,7 +6,8 @@ use Rattle.pointer_templates.specs.Pointers.{moved_of, pointed_of, pointer_excha
 use Rattle.row_templates.specs.Builders.{constant_of, read_of, set_of}
 use Rattle.row_templates.specs.Fetching.{fetched_of, writing_of}
 use Rattle.row_templates.proofs.FetchBounds.{fetch_plain, fetched_is, reach_plain, writing_plain}
-use Rattle.row_templates.proofs.Typing.{AreTyped, IsOf, IsPlainBody, binary_is, constant_is, convert_is, first_typed, local_is, local_plain, more, register_is, set_plain}
+use Rattle.row_templates.specs.Templates.{AreTyped, IsPlainBody}
+use Rattle.row_templates.proofs.Typing.{IsOf, binary_is, constant_is, convert_is, first_typed, local_is, local_plain, more, register_is, set_plain}
 use Rattle.s7_base.specs.declared.register.Reg.TheVariants as reg
 use Rattle.s7_base.specs.declared.word.Width.TheVariants as width
 use Rattle.st_tree.specs.State.{type_of_register}
@@ -48,8 +49,8 @@ module _ (sight : Sight) where
   moved_is : {n : ℕ} {e : Expr} (a : Ar) → n ≤ 20 → IsOf sight type.Dint n e → IsOf sight type.Dword 25 (moved_of a e)
   moved_is a small h =
       more sight (omega arith)
-      (binary_is sight binary.Or refl (binary_is sight binary.And refl (held_is a) (constant_is sight refl))
-      (binary_is sight binary.And refl (convert_is sight refl (binary_is sight binary.Add refl (convert_is sight refl (held_is a)) h)) (constant_is sight refl)))
+      (binary_is sight binary.Or tt refl (binary_is sight binary.And tt refl (held_is a) (constant_is sight refl))
+      (binary_is sight binary.And tt refl (convert_is sight refl (binary_is sight binary.Add tt refl (convert_is sight refl (held_is a)) h)) (constant_is sight refl)))
 
   module _ (rest : List Stmt) (plain : IsPlainBody sight rest) where
     -- an address register takes a pointer

@@ -6,7 +6,8 @@ use Rattle.memory_areas.specs.Pointers.{moved}
 use Rattle.pointer_templates.proofs.Amounts.{dint, moved_below, moved_worth, unmoved}
 use Rattle.pointer_templates.specs.Pointers.{low_number, moved_of, pointed_of, pointer_exchange_of, pointer_move_of, pointer_taken_of}
 use Rattle.row_templates.specs.Builders.{constant_of, read_of}
-use Rattle.row_templates.proofs.Alike.{AreAlike, AreInRange, IsKept}
+use Rattle.row_templates.specs.Related.{AreAlike}
+use Rattle.instruction_laws.specs.Ranges.{AreInRange}
 use Rattle.row_templates.proofs.Numbers.{wide_low}
 use Rattle.row_templates.proofs.Pointers.{dword}
 use Rattle.row_templates.proofs.RegisterRows.{IsRow, registers_after}
@@ -39,7 +40,7 @@ module _ (g : List Located) (s : State) (used : ℕ) (r : RegisterValues) (sta :
   pointed_range ar.One p h = record { accu1 = range.accu1; accu2 = range.accu2; ar1 = h; ar2 = range.ar2; db = range.db; di = range.di }
   pointed_range ar.Two p h = record { accu1 = range.accu1; accu2 = range.accu2; ar1 = range.ar1; ar2 = h; db = range.db; di = range.di }
 
-  pointed_alike : (a : Ar) (e : Expr) (p : ℕ) → AreAlike IsKept (with_pointer a p r) (registers_after (pointed_of a e) (dword p ∷ []) (known r sta))
+  pointed_alike : (a : Ar) (e : Expr) (p : ℕ) → AreAlike (with_pointer a p r) (registers_after (pointed_of a e) (dword p ∷ []) (known r sta))
   pointed_alike ar.One e p reg.Sta asked = elim asked [ ]
   pointed_alike ar.One e p q asked = refl
   pointed_alike ar.Two e p reg.Sta asked = elim asked [ ]
@@ -55,7 +56,7 @@ module _ (g : List Located) (s : State) (used : ℕ) (r : RegisterValues) (sta :
   stays a p same =
       record { values = []; have = tt; alike = alike a same; range = pointed_range a p (subst (λ (n : ℕ). n < 2 ^ 32) same (held_below a)) }
     where
-      alike : (a : Ar) → pointer_in a r ≡ p → AreAlike IsKept (with_pointer a p r) (registers_after [] [] (known r sta))
+      alike : (a : Ar) → pointer_in a r ≡ p → AreAlike (with_pointer a p r) (registers_after [] [] (known r sta))
       alike ar.One e reg.Ar1 asked = ap pos e
       alike ar.One e reg.Sta asked = elim asked [ ]
       alike ar.One e q asked = refl
@@ -81,7 +82,7 @@ module _ (g : List Located) (s : State) (used : ℕ) (r : RegisterValues) (sta :
 
   -- TAR1 and TAR2 alone, and into the other one
 
-  taken_alike : (a : Ar) → AreAlike IsKept (pointer_loaded a r) (registers_after (pointer_taken_of a) (dword r.accu1 ∷ dword (pointer_in a r) ∷ []) (known r sta))
+  taken_alike : (a : Ar) → AreAlike (pointer_loaded a r) (registers_after (pointer_taken_of a) (dword r.accu1 ∷ dword (pointer_in a r) ∷ []) (known r sta))
   taken_alike a reg.Sta asked = elim asked [ ]
   taken_alike a q asked = refl
 
@@ -106,7 +107,7 @@ module _ (g : List Located) (s : State) (used : ℕ) (r : RegisterValues) (sta :
   abbrev exchanged_values : List Value
   exchanged_values = dword r.ar1 ∷ dword r.ar2 ∷ dword r.ar1 ∷ []
 
-  exchanged_alike : AreAlike IsKept (pointers_exchanged r) (registers_after (pointer_exchange_of used) exchanged_values (known r sta))
+  exchanged_alike : AreAlike (pointers_exchanged r) (registers_after (pointer_exchange_of used) exchanged_values (known r sta))
   exchanged_alike reg.Sta asked = elim asked [ ]
   exchanged_alike q asked = refl
 

@@ -1,1 +1,2 @@
+pub mod PointerLaw
 pub mod Pointers

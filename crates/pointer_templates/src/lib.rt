@@ -1,10 +1,12 @@
-//! The statements of the instructions on address registers: LAR1, LAR2, TAR1, TAR2, CAR, +AR1 and +AR2.
+//! The statements of the instructions on address registers: LAR1, LAR2, TAR1, TAR2, CAR, +AR1 and +AR2, and the promise
+//! that they do what their instructions do.
 //!
 //! Stands on `row_templates`. Each function puts the statements of one row behind some steps, as the definition of
 //! that row has them. What takes locals is told the number of the first free one, and has a function for their types.
-//! The proofs say of each row that its statements do what the row does, read only what it reads, and are small,
-//! well typed and low.
+//! What is promised of these statements is the contract of `pointers_serve`.
 #![tactic(auto)]
+
+ghost use Rattle.pointer_templates.specs.PointerLaw.{PointersServe};
 
 pub use pointers::{
     push_pointer_exchange, push_pointer_load, push_pointer_move, push_pointer_store,
@@ -12,3 +14,10 @@ pub use pointers::{
 };
 
 mod pointers;
+
+/// The statements of each instruction on address registers do what the instruction does, and read no register but
+/// those that it reads. They are at most eleven, with at most 91 nodes of expressions, are well typed, with
+/// expressions at most 32 high, have no fault by division, and write each of their locals before they read it.
+pub fn pointers_serve()
+    ensures { PointersServe }
+{}

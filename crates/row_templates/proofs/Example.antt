@@ -4,7 +4,7 @@ use Rattle.std.specs.Prelude.{ℤ, ◌+ℤ◌, int_lt}
 use Rattle.s7_base.specs.SignedNumbers.{is_over, number, pattern, wrapped}
 use Rattle.s7_base.specs.declared.register.Reg.{Reg}
 use Rattle.s7_base.specs.declared.register.Reg.TheVariants as reg
-use Rattle.stl_tree.specs.Now.{Activation, Now, next}
+use Rattle.stl_tree.specs.Now.{Now, next}
 use Rattle.stl_tree.specs.Registers.{RegisterValues}
 use Rattle.st_tree.specs.Meaning.{Calls, body_meaning}
 use Rattle.st_tree.specs.State.{State, type_of_register}
@@ -19,15 +19,16 @@ use Rattle.st_tree.specs.declared.program.Located.{Located}
 use Rattle.st_tree.specs.declared.program.Stmt.{Stmt}
 use Rattle.row_templates.specs.Builders.{and_of, binary_of, constant_of, convert_of, local_of, or_of, read_of, set_local_of, set_of}
 use Rattle.row_templates.specs.Nodes.{nodes_in}
-use Rattle.row_templates.proofs.Alike.{AreAlike, AreInRange, IsKept, Related}
-use Rattle.row_templates.proofs.DoesRow.{DoesRow}
-use Rattle.row_templates.proofs.Locals.{own_of}
+use Rattle.row_templates.specs.Related.{AreAlike, Frames, Related}
+use Rattle.instruction_laws.specs.Ranges.{AreInRange}
+use Rattle.row_templates.specs.DoesRow.{DoesRow, own_of}
 use Rattle.row_templates.proofs.Numbers.{or_numbers, over_word, pattern_below, put_low, same_pattern, wide_low, wide_sum}
 use Rattle.row_templates.proofs.ReadRegisters.{AllRead, Has, variables_read}
 use Rattle.row_templates.proofs.RegisterRows.{IsRow, registers_after, row_does}
 use Rattle.row_templates.proofs.Sizes.{counts}
 use Rattle.row_templates.proofs.Stages.{known, parts}
-use Rattle.row_templates.proofs.Typing.{IsOf, IsPlainBody, binary_is, constant_is, convert_is, local_is, local_plain, or_is, register_is, set_plain}
+use Rattle.row_templates.specs.Templates.{IsPlainBody}
+use Rattle.row_templates.proofs.Typing.{IsOf, binary_is, constant_is, convert_is, local_is, local_plain, or_is, register_is, set_plain}
 
 -- The rows, which stand in stl_tree
 
@@ -95,7 +96,7 @@ add_values r =
     ∷ []
 
 module _ (g : List Located) (s : State) (used : ℕ) (r : RegisterValues) (sta : ℤ) (range : AreInRange r) where
-  tak_alike : AreAlike IsKept (swapped r) (registers_after (tak_of used) (tak_values r) (known r sta))
+  tak_alike : AreAlike (swapped r) (registers_after (tak_of used) (tak_values r) (known r sta))
   tak_alike reg.Sta asked = elim asked [ ]
   tak_alike q asked = refl
 
@@ -108,7 +109,7 @@ module _ (g : List Located) (s : State) (used : ℕ) (r : RegisterValues) (sta :
         range = record { accu1 = range.accu2; accu2 = range.accu1; ar1 = range.ar1; ar2 = range.ar2; db = range.db; di = range.di };
       }
 
-  add_alike : AreAlike IsKept (added r) (registers_after (add_of used) (add_values r) (known r sta))
+  add_alike : AreAlike (added r) (registers_after (add_of used) (add_values r) (known r sta))
   add_alike reg.Sta asked = elim asked [ ]
   add_alike q asked = refl
 
@@ -129,16 +130,16 @@ module _ (g : List Located) (s : State) (used : ℕ) (r : RegisterValues) (sta :
 
 -- so they do the rows, in related states that have room for their locals
 
-module _ (g : List Located) (calls : Calls) (units : ℕ) (acts : List Activation) (now : Now) (s : State) (related : Related acts now s) (used : ℕ) where
+module _ (g : List Located) (calls : Calls) (units : ℕ) (frames : Frames) (now : Now) (s : State) (related : Related frames now s) (used : ℕ) where
   pub tak_does : used + 1 ≤ length (own_of s.activations)
-      → DoesRow (body_meaning g calls (tak_of used) units s) units used acts s now.memory (next (record now { registers = swapped now.registers }))
+      → DoesRow (body_meaning g calls (tak_of used) units s) units used frames s now.memory (next (record now { registers = swapped now.registers }))
   tak_does room =
-      row_does g s used calls units (tak_of used) acts now (swapped now.registers) related (tak_row g s used now.registers (s.registers reg.Sta) related.range) room
+      row_does g s used calls units (tak_of used) frames now (swapped now.registers) related (tak_row g s used now.registers (s.registers reg.Sta) related.range) room
 
   pub add_does : used + 3 ≤ length (own_of s.activations)
-      → DoesRow (body_meaning g calls (add_of used) units s) units used acts s now.memory (next (record now { registers = added now.registers }))
+      → DoesRow (body_meaning g calls (add_of used) units s) units used frames s now.memory (next (record now { registers = added now.registers }))
   add_does room =
-      row_does g s used calls units (add_of used) acts now (added now.registers) related (add_row g s used now.registers (s.registers reg.Sta) related.range) room
+      row_does g s used calls units (add_of used) frames now (added now.registers) related (add_row g s used now.registers (s.registers reg.Sta) related.range) room
 
 -- They are well typed, for locals of these types, and few: statements, nodes and registers that they read
 
@@ -156,15 +157,15 @@ module _ (sight : Sight) (used : ℕ) (rest : List Stmt) (plain : IsPlainBody si
   pub add_plain : variable_type sight (var.Local used) ≡ Some type.Dint → variable_type sight (var.Local (used + 1)) ≡ Some type.Int
       → variable_type sight (var.Local (used + 2)) ≡ Some type.Bool → IsPlainBody sight (add_of used ++ rest)
   add_plain first second third =
-      local_plain sight _ _ _ (omega arith) first (binary_is sight binary.Add refl (wide_is reg.Accu2 refl) (wide_is reg.Accu1 refl))
+      local_plain sight _ _ _ (omega arith) first (binary_is sight binary.Add tt refl (wide_is reg.Accu2 refl) (wide_is reg.Accu1 refl))
       (local_plain sight _ _ _ (omega arith) second (convert_is sight refl (local_is sight first))
-      (local_plain sight _ _ _ (omega arith) third (binary_is sight binary.Ne refl (convert_is sight refl (local_is sight second)) (local_is sight first))
-      (set_plain sight _ _ _ (omega arith) (binary_is sight binary.Gt refl (local_is sight second) (constant_is sight refl))
-      (set_plain sight _ _ _ (omega arith) (binary_is sight binary.Lt refl (local_is sight second) (constant_is sight refl))
+      (local_plain sight _ _ _ (omega arith) third (binary_is sight binary.Ne tt refl (convert_is sight refl (local_is sight second)) (local_is sight first))
+      (set_plain sight _ _ _ (omega arith) (binary_is sight binary.Gt tt refl (local_is sight second) (constant_is sight refl))
+      (set_plain sight _ _ _ (omega arith) (binary_is sight binary.Lt tt refl (local_is sight second) (constant_is sight refl))
       (set_plain sight _ _ _ (omega arith) (local_is sight third)
       (set_plain sight _ _ _ (omega arith) (or_is sight (register_is sight reg.Os) (local_is sight third))
       (set_plain sight _ _ _ (omega arith)
-      (binary_is sight binary.Or refl (binary_is sight binary.And refl (register_is sight reg.Accu1) (constant_is sight refl))
+      (binary_is sight binary.Or tt refl (binary_is sight binary.And tt refl (register_is sight reg.Accu1) (constant_is sight refl))
       (convert_is sight refl (convert_is sight refl (local_is sight second))))
       plain)))))))
 

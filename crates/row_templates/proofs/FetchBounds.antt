@@ -33,7 +33,8 @@ use Rattle.row_templates.specs.Nodes.{nodes, nodes_in}
 use Rattle.row_templates.specs.Pointing.{crossing_of, in_area_of, place_in_of, sum_of}
 use Rattle.row_templates.proofs.ReadRegisters.{AllRead, Has, Reads, area_read_reads, area_write_reads, assigned_reads, constant_reads, convert_reads, direct_reads, joined_reads, local_reads, register_reads}
 use Rattle.row_templates.proofs.Sizes.{counts, of_append, of_area_read, of_area_write, of_assign, of_nothing, of_read}
-use Rattle.row_templates.proofs.Typing.{AreTyped, IsOf, IsPlainBody, area_read_is, area_written, assigned, binary_is, constant_is, convert_is, direct_typed, first_typed, left_typed, local_is, local_plain, more, read_is, register_is, right_typed, set_plain}
+use Rattle.row_templates.specs.Templates.{AreTyped, IsPlainBody}
+use Rattle.row_templates.proofs.Typing.{IsOf, area_read_is, area_written, assigned, binary_is, constant_is, convert_is, direct_typed, first_typed, left_typed, local_is, local_plain, more, read_is, register_is, right_typed, set_plain}
 
 -- what holds of a list with a list behind it, in either grouping
 regrouped : (P : List Stmt → Type 0) (xs ys rest : List Stmt) → P (xs ++ (ys ++ rest)) → P (xs ++ ys ++ rest)
@@ -268,10 +269,10 @@ module _ (sight : Sight) where
   -- Pointers
 
   place_is : {n : ℕ} {e : Expr} → IsOf sight type.Dword n e → IsOf sight type.Dword (2 + n) (place_in_of e)
-  place_is {n} {e} h = more sight (omega arith) (binary_is sight binary.And refl h (constant_is sight refl))
+  place_is {n} {e} h = more sight (omega arith) (binary_is sight binary.And tt refl h (constant_is sight refl))
 
   in_area_is : {n : ℕ} {e : Expr} (a : AreaName) → IsOf sight type.Dword n e → IsOf sight type.Dword (3 + n) (in_area_of a e)
-  in_area_is {n} {e} a h = more sight (omega arith) (binary_is sight binary.Or refl (place_is h) (constant_is sight (code_value a)))
+  in_area_is {n} {e} a h = more sight (omega arith) (binary_is sight binary.Or tt refl (place_is h) (constant_is sight (code_value a)))
 
   address_is : (r : Ar) → IsOf sight type.Dword 1 (read_of (register_of r))
   address_is ar.One = register_is sight reg.Ar1
@@ -279,11 +280,11 @@ module _ (sight : Sight) where
 
   sum_is : (r : Ar) (offset : ℕ) → offset < 2 ^ 19 → IsOf sight type.Dword 4 (sum_of r offset)
   sum_is r offset h =
-      convert_is sight refl (binary_is sight binary.Add refl (convert_is sight refl (address_is r)) (constant_is sight (offset_value offset h)))
+      convert_is sight refl (binary_is sight binary.Add tt refl (convert_is sight refl (address_is r)) (constant_is sight (offset_value offset h)))
 
   crossing_is : (r : Ar) (offset : ℕ) → offset < 2 ^ 19 → IsOf sight type.Dword 7 (crossing_of r offset)
   crossing_is r offset h =
-      binary_is sight binary.Or refl (binary_is sight binary.And refl (address_is r) (constant_is sight refl)) (place_is (sum_is r offset h))
+      binary_is sight binary.Or tt refl (binary_is sight binary.And tt refl (address_is r) (constant_is sight refl)) (place_is (sum_is r offset h))
 
   pub reach_plain_alone : (first : ℕ) (o : Operand) (w : Width) (rest : List Stmt) → IsOperand w o → AreTyped sight first (types_reached o) → IsPlainBody sight rest
       → IsPlainBody sight (reach_of first o ++ rest)

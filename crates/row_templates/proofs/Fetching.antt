@@ -20,7 +20,7 @@ use Rattle.s7_base.specs.declared.word.Width.{Width}
 use Rattle.s7_base.specs.declared.word.Width.TheVariants as width
 use Rattle.stl_tree.specs.Accepted.{IsOperand}
 use Rattle.stl_tree.specs.Accumulators.{read_number}
-use Rattle.stl_tree.specs.Now.{Activation, Effect, Now, enter, fault, go, leave, next, with_memory, with_value}
+use Rattle.stl_tree.specs.Now.{Effect, Now, enter, fault, go, leave, next, with_memory, with_value}
 use Rattle.stl_tree.specs.Operands.{Found, found, with_place}
 use Rattle.stl_tree.specs.declared.program.Operand.{Operand}
 use Rattle.st_tree.specs.Meaning.{Calls, Out, body_meaning}
@@ -36,9 +36,11 @@ use Rattle.st_tree.specs.declared.state.Value.{Value}
 use Rattle.st_tree.proofs.Equations.{assign_goes_on, assign_stops_at_value}
 use Rattle.row_templates.specs.Builders.{local_of, set_local_of}
 use Rattle.row_templates.specs.Fetching.{fetch_of, fetched_of, may_fault, reach_of, reading_of, types_fetched, types_reached, writing_of}
-use Rattle.row_templates.proofs.Alike.{IsKept, Related, keep_activations, keep_memory}
-use Rattle.row_templates.proofs.DoesRow.{DoesRow, Leads, Stops}
-use Rattle.row_templates.proofs.Locals.{as_deep, local_read, local_wrote, own_length, own_of, own_other, own_same, with_own}
+use Rattle.row_templates.specs.Related.{Frames, IsInMemory, Related, without_cells}
+use Rattle.row_templates.proofs.Alike.{keep_local, keep_memory, same_areas}
+use Rattle.row_templates.proofs.Cells.{LiesInMemory, read_alike, write_alike, write_keeps_cells}
+use Rattle.row_templates.specs.DoesRow.{DoesRow, Leads, Stops, own_of}
+use Rattle.row_templates.proofs.Locals.{as_deep, local_read, local_wrote, own_length, own_other, own_same, with_own}
 use Rattle.row_templates.proofs.MemoryRows.{KeepsWay, Writes, keeps_itself, write_goes_on, write_misses, write_stops_at_place, written_holds}
 use Rattle.row_templates.proofs.Reaching.{LeadsTo, Misses, Reaches, StopsBefore, found_with, reaches}
 
@@ -63,8 +65,9 @@ placed o now effect goal r e h = subst (λ (q : Result Found Fault). goal (with_
 -- in a state t before a row an operand was found, and is worth what is read at its place, also where the row has
 -- changed other registers; locals below the first one are as they were. It is read as the expression e, and written at
 -- its place as long as the way is kept
-pub record IsFetched (g : List Located) (acts : List Activation) (s : State) (o : Operand) (w : Width) (f : Found) (first : ℕ) (e : Expr) (t : State) : Type 0 where
-  pub related : Related acts f.after t
+pub record IsFetched (g : List Located) (frames : Frames) (s : State) (o : Operand) (w : Width) (f : Found) (first : ℕ) (e : Expr) (t : State) : Type 0 where
+  pub related : Related frames f.after t
+  pub in_memory : IsInMemory f.place.area
   pub as_many : length (own_of t.activations) ≡ length (own_of s.activations)
   pub below : (i : ℕ) → i < first → slice_get (own_of t.activations) i ≡ slice_get (own_of s.activations) i
   pub worth : (u : State) → u.memory ≡ t.memory → u.activations ≡ t.activations → u.registers reg.DbNo ≡ t.registers reg.DbNo → u.registers reg.DiNo ≡ t.registers reg.DiNo
@@ -88,7 +91,7 @@ registers_kept many t u activations db di =
       db = db;
       di = di;
       deep = ap length activations;
-      locals = λ i small. ap (λ (acts : List StActivation). slice_get (own_of acts) i) activations;
+      locals = λ i small. ap (λ (running : List StActivation). slice_get (own_of running) i) activations;
     }
 
 -- and so may a local behind those of the way
@@ -101,7 +104,7 @@ local_kept many i v t h =
       locals = λ j small. own_other i v t j (λ same. absurd (omega arith));
     }
 
-module _ (g : List Located) (calls : Calls) (units : ℕ) (acts : List Activation) (now : Now) (s : State) (first : ℕ) (o : Operand) (w : Width) (way : Reaches g calls units acts now s first o) where
+module _ (g : List Located) (calls : Calls) (units : ℕ) (frames : Frames) (now : Now) (s : State) (first : ℕ) (o : Operand) (w : Width) (way : Reaches g calls units frames now s first o) where
   -- the local that takes what may fault
   abbrev later : ℕ
   later = first + length (types_reached o)
@@ -122,6 +125,10 @@ module _ (g : List Located) (calls : Calls) (units : ℕ) (acts : List Activatio
       let own : List Stmt = if b then set_local_of later (reading_of first o w) ∷ [] else [] in
       ap (λ (body : List Stmt). body_meaning g calls body units s) (append_assoc (reach_of first o) own rest) ∙ way.goes (own ++ rest)
 
+  -- the areas are as they were
+  same_before : way.to.memory.areas ≡ now.memory.areas
+  same_before = same_areas frames way.after way.to way.reached.related ∙ ap (λ (m : Contents). m.areas) way.memory
+
   -- a target without a place: what is read meets its fault
   module _ (x : Fault) (none : way.target ≡ Err x) where
     missed : found o now ≡ Err x
@@ -137,7 +144,7 @@ module _ (g : List Located) (calls : Calls) (units : ℕ) (acts : List Activatio
         record {
           at = way.to;
           stops = begins true rest ∙ assign_stops_at_value g calls (var.Local later) (reading_of first o w) rest units way.to x reading_missed;
-          memory = way.reached.related.memory ∙ way.memory;
+          areas = same_before;
         }
 
     fetch_stops_missed : StopsBefore g calls units s (fetch_of first o w) now.memory x
@@ -151,6 +158,9 @@ module _ (g : List Located) (calls : Calls) (units : ℕ) (acts : List Activatio
     is_found : found o now ≡ Ok place_found
     is_found = way.is ∙ ap (λ (r : Result Place Fault). found_with r way.after) some
 
+    place_in_memory : IsInMemory p.area
+    place_in_memory = subst LiesInMemory some way.in_memory
+
     -- what is read there
     abbrev is_there : Result Value Fault
     is_there = read_place (type_of_width w) p way.after.memory
@@ -160,18 +170,20 @@ module _ (g : List Located) (calls : Calls) (units : ℕ) (acts : List Activatio
         way.reached.reads w u keeps
         ∙ ap (λ (r : Result Place Fault). and_then r (λ q. read_place (type_of_width w) q u.memory)) some
         ∙ ap (read_place (type_of_width w) p) (memory ∙ way.reached.related.memory)
+        ∙ read_alike p way.after.memory place_in_memory (type_of_width w)
 
     writes : (u : State) → KeepsWay later way.to u → Writes g (type_of_width w) (Ok p) u (writing_of first o w)
     writes u keeps = subst (λ (r : Result Place Fault). Writes g (type_of_width w) r u (writing_of first o w)) some (way.reached.writes w u keeps)
 
     abbrev Fetched : Bool → State → Type 0
-    Fetched b t = IsFetched g acts s o w place_found first (fetched b) t
+    Fetched b t = IsFetched g frames s o w place_found first (fetched b) t
 
     -- where no fault may be met
     reached_alone : length (types_reached o) ≤ length (types_fetched o w) → Fetched false way.to
     reached_alone more =
         record {
           related = way.reached.related;
+          in_memory = place_in_memory;
           as_many = way.reached.as_many;
           below = way.reached.below;
           worth = λ u memory activations db di. reads u memory (registers_kept later way.to u activations db di);
@@ -188,11 +200,12 @@ module _ (g : List Located) (calls : Calls) (units : ℕ) (acts : List Activatio
         let many : length (own_of way.to.activations) ≡ length (own_of s.activations) = way.reached.as_many in
         let there : slice_get (own_of (holding v).activations) later ≡ Some v = own_same later v way.to (omega arith) in
         record {
-          related = keep_activations IsKept acts way.after way.to way.reached.related (holding v).activations (as_deep way.to.activations (depth way.to) later v);
+          related = keep_local frames way.after way.to way.reached.related later v;
+          in_memory = place_in_memory;
           as_many = own_length later v way.to ∙ many;
           below = λ i h. own_other later v way.to i (λ same. absurd (omega arith)) ∙ way.reached.below i h;
           worth = λ u memory activations db di.
-              local_read g later v u (ap (λ (acts : List StActivation). slice_get (own_of acts) later) activations ∙ there) ∙ sym e;
+              local_read g later v u (ap (λ (running : List StActivation). slice_get (own_of running) later) activations ∙ there) ∙ sym e;
           here = local_read g later v (holding v) there ∙ sym e;
           writes = λ u keeps.
               writes u (kept_on later way.to (holding v) u (local_kept later later v way.to (omega arith)) (fewer (first + length (types_fetched o w)) later (holding v) u (omega arith) keeps));
@@ -210,7 +223,7 @@ module _ (g : List Located) (calls : Calls) (units : ℕ) (acts : List Activatio
           at = way.to;
           stops = begins true rest
               ∙ assign_stops_at_value g calls (var.Local later) (reading_of first o w) rest units way.to x (reads way.to refl (keeps_itself later way.to) ∙ e);
-          memory = way.reached.related.memory ∙ way.memory;
+          areas = same_before;
         }
 
     -- both ways out: what holds where the statements lead to a state in which the operand is fetched, and where they
@@ -234,7 +247,7 @@ module _ (g : List Located) (calls : Calls) (units : ℕ) (acts : List Activatio
     more_fetched = omega (arith, length-append (types_reached o) (if may_fault o then type_of_width w ∷ [] else []))
 
     by_fetched : (goal : Type 0) → first + length (types_fetched o w) ≤ length (own_of s.activations)
-        → ((t : State) → IsFetched g acts s o w place_found first (fetched_of first o w) t → LeadsTo g calls units s (fetch_of first o w) t → goal)
+        → ((t : State) → IsFetched g frames s o w place_found first (fetched_of first o w) t → LeadsTo g calls units s (fetch_of first o w) t → goal)
         → ((x : Fault) → is_there ≡ Err x → StopsBefore g calls units s (fetch_of first o w) now.memory x → goal) → goal
     by_fetched goal room goes stops = either goal (may_fault o) more_fetched room goes stops
 
@@ -242,11 +255,11 @@ module _ (g : List Located) (calls : Calls) (units : ℕ) (acts : List Activatio
 
 -- what a row does from one state, with its locals from a later number on, it does from another in which the locals
 -- before are the same
-pub carried : (ended : Out) (units first used : ℕ) (acts : List Activation) (s t : State) (before memory : Contents) (effect : Effect)
+pub carried : (ended : Out) (units first used : ℕ) (frames : Frames) (s t : State) (before memory : Contents) (effect : Effect)
     → length (own_of t.activations) ≡ length (own_of s.activations) → ((i : ℕ) → i < first → slice_get (own_of t.activations) i ≡ slice_get (own_of s.activations) i)
     → first ≤ used → memory ≡ before
-    → DoesRow ended units used acts t memory effect → DoesRow ended units first acts s before effect
-carried ended units first used acts s t before memory (next after) as_many below more same row =
+    → DoesRow ended units used frames t memory effect → DoesRow ended units first frames s before effect
+carried ended units first used frames s t before memory (next after) as_many below more same row =
     record {
       to = row.to;
       goes = row.goes;
@@ -254,11 +267,11 @@ carried ended units first used acts s t before memory (next after) as_many below
       as_many = row.as_many ∙ as_many;
       below = λ i h. row.below i (omega arith) ∙ below i h;
     }
-carried ended units first used acts s t before memory (fault f) as_many below more same row =
-    record { at = row.at; stops = row.stops; memory = row.memory ∙ same }
-carried ended units first used acts s t before memory (go to after) as_many below more same row = elim row [ ]
-carried ended units first used acts s t before memory (enter call after) as_many below more same row = elim row [ ]
-carried ended units first used acts s t before memory (leave after) as_many below more same row = elim row [ ]
+carried ended units first used frames s t before memory (fault f) as_many below more same row =
+    record { at = row.at; stops = row.stops; areas = row.areas ∙ ap (λ (m : Contents). m.areas) same }
+carried ended units first used frames s t before memory (go to after) as_many below more same row = elim row [ ]
+carried ended units first used frames s t before memory (enter call after) as_many below more same row = elim row [ ]
+carried ended units first used frames s t before memory (leave after) as_many below more same row = elim row [ ]
 
 -- an operand as the table of instructions reads it, with a value for each answer: a truth value, or a number
 abbrev pub IsReadAs : {A : Type 0} → Width → (Place → Contents → Result A Fault) → (A → Value) → Type 0
@@ -286,35 +299,35 @@ pub same_fault : {A : Type 0} (shown : A → Value) (r : Result A Fault) (x : Fa
 same_fault shown (Ok v) x e = absurd cc
 same_fault shown (Err y) x e = cc
 
-module _ (g : List Located) (calls : Calls) (units : ℕ) (acts : List Activation) (now : Now) (s : State) (related : Related acts now s) (first : ℕ) (o : Operand) (w : Width) (lies : IsOperand w o) where
+module _ (g : List Located) (calls : Calls) (units : ℕ) (frames : Frames) (now : Now) (s : State) (related : Related frames now s) (first : ℕ) (o : Operand) (w : Width) (lies : IsOperand w o) where
   -- a row that reads its operand: its effect is one by what is read at the place
   module _ {A : Type 0} (read : Place → Contents → Result A Fault) (shown : A → Value) (as_read : IsReadAs w read shown)
       (effect : Place → Now → A → Effect) (rest : List Stmt) (room : first + length (types_fetched o w) ≤ length (own_of s.activations))
-      (does : (f : Found) → found o now ≡ Ok f → (t : State) → IsFetched g acts s o w f first (fetched_of first o w) t
-      → DoesRow (body_meaning g calls rest units t) units (first + length (types_fetched o w)) acts t f.after.memory (with_value (read f.place f.after.memory) (effect f.place f.after))) where
+      (does : (f : Found) → found o now ≡ Ok f → (t : State) → IsFetched g frames s o w f first (fetched_of first o w) t
+      → DoesRow (body_meaning g calls rest units t) units (first + length (types_fetched o w)) frames t f.after.memory (with_value (read f.place f.after.memory) (effect f.place f.after))) where
     abbrev read_row : Place → Now → Effect
     read_row p after = with_value (read p after.memory) (effect p after)
 
     abbrev ReadGoal : Effect → Type 0
-    ReadGoal = DoesRow (body_meaning g calls (fetch_of first o w ++ rest) units s) units first acts s now.memory
+    ReadGoal = DoesRow (body_meaning g calls (fetch_of first o w ++ rest) units s) units first frames s now.memory
 
-    read_target : (way : Reaches g calls units acts now s first o) (target : Result Place Fault) → way.target ≡ target → ReadGoal (with_place o now read_row)
+    read_target : (way : Reaches g calls units frames now s first o) (target : Result Place Fault) → way.target ≡ target → ReadGoal (with_place o now read_row)
     read_target way (Err x) none =
-        placed o now read_row ReadGoal (Err x) (missed g calls units acts now s first o w way x none) (fetch_stops_missed g calls units acts now s first o w way x none rest)
+        placed o now read_row ReadGoal (Err x) (missed g calls units frames now s first o w way x none) (fetch_stops_missed g calls units frames now s first o w way x none rest)
     read_target way (Ok p) some =
         let f : Found = record { place = p; after = way.after } in
-        let is : found o now ≡ Ok f = is_found g calls units acts now s first o w way p some in
+        let is : found o now ≡ Ok f = is_found g calls units frames now s first o w way p some in
         placed o now read_row ReadGoal (Ok f) is
-        (by_fetched g calls units acts now s first o w way p some (ReadGoal (read_row p way.after)) room
+        (by_fetched g calls units frames now s first o w way p some (ReadGoal (read_row p way.after)) room
         (λ t done goes.
-        carried (body_meaning g calls (fetch_of first o w ++ rest) units s) units first (first + length (types_fetched o w)) acts s t now.memory way.after.memory (read_row p way.after)
+        carried (body_meaning g calls (fetch_of first o w ++ rest) units s) units first (first + length (types_fetched o w)) frames s t now.memory way.after.memory (read_row p way.after)
         done.as_many done.below (omega arith) way.memory
-        (subst (λ (ended : Out). DoesRow ended units (first + length (types_fetched o w)) acts t way.after.memory (read_row p way.after)) (sym (goes rest)) (does f is t done)))
+        (subst (λ (ended : Out). DoesRow ended units (first + length (types_fetched o w)) frames t way.after.memory (read_row p way.after)) (sym (goes rest)) (does f is t done)))
         (λ x e stops.
         subst (λ (r : Result A Fault). ReadGoal (with_value r (effect p way.after)))
         (sym (same_fault shown (read p way.after.memory) x (sym (as_read p way.after.memory) ∙ e))) (stops rest)))
 
-    read_way : Reaches g calls units acts now s first o ⊎ Misses g calls units now s first o → ReadGoal (with_place o now read_row)
+    read_way : Reaches g calls units frames now s first o ⊎ Misses g calls units now s first o → ReadGoal (with_place o now read_row)
     read_way (inl way) = read_target way way.target refl
     read_way (inr met) =
         let own : List Stmt = if may_fault o then set_local_of (first + length (types_reached o)) (reading_of first o w) ∷ [] else [] in
@@ -322,44 +335,50 @@ module _ (g : List Located) (calls : Calls) (units : ℕ) (acts : List Activatio
         (subst (λ (body : List Stmt). Stops (body_meaning g calls body units s) now.memory met.met) (sym (append_assoc (reach_of first o) own rest)) (met.stops (own ++ rest)))
 
     -- what its statements do behind the fetched operand, they do with the fetching before them
-    pub fetched_row : DoesRow (body_meaning g calls (fetch_of first o w ++ rest) units s) units first acts s now.memory (with_place o now (λ p after. with_value (read p after.memory) (effect p after)))
+    pub fetched_row : DoesRow (body_meaning g calls (fetch_of first o w ++ rest) units s) units first frames s now.memory (with_place o now (λ p after. with_value (read p after.memory) (effect p after)))
     fetched_row =
-        read_way (reaches g calls units acts now s related first o w lies (omega (arith, length-append (types_reached o) (if may_fault o then type_of_width w ∷ [] else []))))
+        read_way (reaches g calls units frames now s related first o w lies (omega (arith, length-append (types_reached o) (if may_fault o then type_of_width w ∷ [] else []))))
 
   -- a row that writes its operand and does not read it: an expression with a value in each related state is written
   -- as the row writes, and what stands behind comes to its end
-  module _ (e : Expr) (v : Now → Value) (worth : (after : Now) (t : State) → Related acts after t → value g e t ≡ Ok (v after))
+  module _ (e : Expr) (v : Now → Value) (worth : (after : Now) (t : State) → Related frames after t → value g e t ≡ Ok (v after))
       (put : Place → Now → Result Contents Fault) (puts : (p : Place) (after : Now) → write_place (type_of_width w) p (v after) after.memory ≡ put p after)
       (row : Now → Now) (rest : List Stmt) (room : first + length (types_reached o) ≤ length (own_of s.activations))
-      (does : (after : Now) (t : State) → Related acts after t → Leads (body_meaning g calls rest units t) units (first + length (types_reached o)) acts t (row after)) where
+      (does : (after : Now) (t : State) → Related frames after t → Leads (body_meaning g calls rest units t) units (first + length (types_reached o)) frames t (row after)) where
     abbrev written_row : Place → Now → Effect
     written_row p after = with_memory (put p after) after (λ done. next (row done))
 
     abbrev WriteGoal : Effect → Type 0
-    WriteGoal = DoesRow (body_meaning g calls (reach_of first o ++ writing_of first o w e ∷ rest) units s) units first acts s now.memory
+    WriteGoal = DoesRow (body_meaning g calls (reach_of first o ++ writing_of first o w e ∷ rest) units s) units first frames s now.memory
 
-    module _ (way : Reaches g calls units acts now s first o) where
+    module _ (way : Reaches g calls units frames now s first o) where
       -- where the way leads, the expression has its value
       has_value : value g e way.to ≡ Ok (v way.after)
       has_value = worth way.after way.to way.reached.related
 
-      write_done : (p : Place) → way.target ≡ Ok p → (memory : Result Contents Fault) → put p way.after ≡ memory → write_place (type_of_width w) p (v way.after) way.to.memory ≡ memory
+      write_done : (p : Place) → way.target ≡ Ok p → (memory : Result Contents Fault) → put p way.after ≡ memory
+          → write_place (type_of_width w) p (v way.after) way.to.memory ≡ and_then memory (λ m. Ok (without_cells m))
       write_done p some memory wrote =
-          ap (write_place (type_of_width w) p (v way.after)) way.reached.related.memory ∙ puts p way.after ∙ wrote
+          let lies : IsInMemory p.area = place_in_memory g calls units frames now s first o w way p some in
+          ap (write_place (type_of_width w) p (v way.after)) way.reached.related.memory
+          ∙ write_alike p way.after.memory lies (type_of_width w) (v way.after)
+          ∙ ap (λ (r : Result Contents Fault). and_then r (λ m. Ok (without_cells m))) (puts p way.after ∙ wrote)
 
       by_written : (p : Place) → way.target ≡ Ok p → (memory : Result Contents Fault) → put p way.after ≡ memory → WriteGoal (with_memory memory way.after (λ done. next (row done)))
       by_written p some (Ok m) wrote =
           let t : State = way.to in
-          let u : State = record t { memory = m } in
+          let u : State = record t { memory = without_cells m } in
+          let cells : m.cells ≡ way.after.memory.cells =
+          write_keeps_cells p way.after.memory (place_in_memory g calls units frames now s first o w way p some) (type_of_width w) (v way.after) m (puts p way.after ∙ wrote) in
           let holds : HoldsBytes m = written_holds (type_of_width w) p (v way.after) way.after.memory m way.reached.related.bytes (puts p way.after ∙ wrote) in
-          let ended : Leads (body_meaning g calls rest units u) units (first + length (types_reached o)) acts u (row (record way.after { memory = m })) =
-          does (record way.after { memory = m }) u (keep_memory IsKept acts way.after t way.reached.related m holds) in
+          let ended : Leads (body_meaning g calls rest units u) units (first + length (types_reached o)) frames u (row (record way.after { memory = m })) =
+          does (record way.after { memory = m }) u (keep_memory frames way.after t way.reached.related m holds cells) in
           let many : length (own_of u.activations) ≡ length (own_of s.activations) = way.reached.as_many in
           record {
             to = ended.to;
             goes = way.goes (writing_of first o w e ∷ rest)
-                ∙ write_goes_on g (type_of_width w) p t (writing_of first o w) (writes g calls units acts now s first o w way p some t (keeps_itself (first + length (types_reached o)) t))
-                calls units e rest (v way.after) m has_value (write_done p some (Ok m) wrote)
+                ∙ write_goes_on g (type_of_width w) p t (writing_of first o w) (writes g calls units frames now s first o w way p some t (keeps_itself (first + length (types_reached o)) t))
+                calls units e rest (v way.after) (without_cells m) has_value (write_done p some (Ok m) wrote)
                 ∙ ended.goes;
             related = ended.related;
             as_many = ended.as_many ∙ many;
@@ -370,28 +389,28 @@ module _ (g : List Located) (calls : Calls) (units : ℕ) (acts : List Activatio
           record {
             at = t;
             stops = way.goes (writing_of first o w e ∷ rest)
-                ∙ write_stops_at_place g (type_of_width w) p t (writing_of first o w) (writes g calls units acts now s first o w way p some t (keeps_itself (first + length (types_reached o)) t))
+                ∙ write_stops_at_place g (type_of_width w) p t (writing_of first o w) (writes g calls units frames now s first o w way p some t (keeps_itself (first + length (types_reached o)) t))
                 calls units e rest (v way.after) x has_value (write_done p some (Err x) wrote);
-            memory = way.reached.related.memory ∙ way.memory;
+            areas = same_before g calls units frames now s first o w way;
           }
 
       write_target : (target : Result Place Fault) → way.target ≡ target → WriteGoal (with_place o now written_row)
       write_target (Ok p) some =
-          placed o now written_row WriteGoal (Ok (record { place = p; after = way.after })) (is_found g calls units acts now s first o w way p some) (by_written p some (put p way.after) refl)
+          placed o now written_row WriteGoal (Ok (record { place = p; after = way.after })) (is_found g calls units frames now s first o w way p some) (by_written p some (put p way.after) refl)
       write_target (Err x) none =
-          placed o now written_row WriteGoal (Err x) (missed g calls units acts now s first o w way x none)
+          placed o now written_row WriteGoal (Err x) (missed g calls units frames now s first o w way x none)
           (record {
             at = way.to;
             stops = way.goes (writing_of first o w e ∷ rest)
                 ∙ write_misses g (type_of_width w) way.target way.to (writing_of first o w) (way.reached.writes w way.to (keeps_itself (first + length (types_reached o)) way.to))
                 calls units e rest (v way.after) x has_value none;
-            memory = way.reached.related.memory ∙ way.memory;
+            areas = same_before g calls units frames now s first o w way;
           })
 
-    write_way : Reaches g calls units acts now s first o ⊎ Misses g calls units now s first o → WriteGoal (with_place o now written_row)
+    write_way : Reaches g calls units frames now s first o ⊎ Misses g calls units now s first o → WriteGoal (with_place o now written_row)
     write_way (inl way) = write_target way way.target refl
     write_way (inr met) = placed o now written_row WriteGoal (Err met.met) met.is (met.stops (writing_of first o w e ∷ rest))
 
-    pub reached_row : DoesRow (body_meaning g calls (reach_of first o ++ writing_of first o w e ∷ rest) units s) units first acts s now.memory
+    pub reached_row : DoesRow (body_meaning g calls (reach_of first o ++ writing_of first o w e ∷ rest) units s) units first frames s now.memory
         (with_place o now (λ p after. with_memory (put p after) after (λ done. next (row done))))
-    reached_row = write_way (reaches g calls units acts now s related first o w lies room)
+    reached_row = write_way (reaches g calls units frames now s related first o w lies room)

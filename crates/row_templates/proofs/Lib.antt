@@ -1,11 +1,13 @@
 pub mod Alike
-pub mod DoesRow
+pub mod Cells
 pub mod Example
 pub mod FetchBounds
+pub mod FetchOrder
 pub mod Fetching
 pub mod Locals
 pub mod MemoryRows
 pub mod Numbers
+pub mod Obligations
 pub mod Operands
 pub mod Pointers
 pub mod Reaching
@@ -16,3 +18,4 @@ pub mod Stages
 pub mod Truths
 pub mod TwoParts
 pub mod Typing
+pub mod Units

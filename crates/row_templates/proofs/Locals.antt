@@ -11,10 +11,7 @@ use Rattle.st_tree.specs.declared.program.Located.{Located}
 use Rattle.std.specs.Prelude.{Ok}
 use Rattle.st_tree.proofs.Equations.{value_read}
 use Rattle.memory_areas.specs.Access.{and_then}
-
--- the locals of the running unit
-abbrev pub own_of : List Activation → List Value
-own_of acts = locals_of (slice_get acts (length acts - 1))
+use Rattle.row_templates.specs.DoesRow.{own_of}
 
 -- A local that takes a value
 

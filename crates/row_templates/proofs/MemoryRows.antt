@@ -8,7 +8,7 @@ use Rattle.memory_areas.specs.declared.place.Place.{Place}
 use Rattle.s7_base.specs.declared.outcome.Fault.{Fault}
 use Rattle.s7_base.specs.declared.register.Reg.TheVariants as reg
 use Rattle.s7_base.specs.declared.word.Width.{Width}
-use Rattle.stl_tree.specs.Now.{Activation, Effect, Now, depth, with_value}
+use Rattle.stl_tree.specs.Now.{Effect, Now, depth, with_value}
 use Rattle.st_tree.specs.Meaning.{Calls, Faults, Out, body_meaning, changed, then_do}
 use Rattle.st_tree.specs.State.{State, area_read, area_write, place_of, pointed_at, read_place, write_at, write_place}
 use Rattle.st_tree.specs.Value.{value}
@@ -25,17 +25,18 @@ use Rattle.st_tree.specs.declared.state.Value.{Value}
 use Rattle.st_tree.proofs.FittingMemory.{AfterHolds, place_holds}
 use Rattle.st_tree.proofs.Equations.{meaning_area_write, meaning_assign, value_area_read, value_read}
 use Rattle.row_templates.specs.Builders.{local_of}
-use Rattle.row_templates.proofs.Alike.{Related, as_deep_as, place_now, same_db, same_di, same_place}
-use Rattle.row_templates.proofs.DoesRow.{DoesRow, Stops}
-use Rattle.row_templates.proofs.Locals.{local_read, own_of}
+use Rattle.row_templates.specs.Related.{Frames, Related}
+use Rattle.row_templates.proofs.Alike.{as_deep_as, place_now, same_db, same_di, same_place}
+use Rattle.row_templates.specs.DoesRow.{DoesRow, Stops, own_of}
+use Rattle.row_templates.proofs.Locals.{local_read}
 use Rattle.row_templates.proofs.Pointers.{dword}
 
 -- a row by a value that a fault may stand in the place of
-pub by_value : {A : Type 0} (ended : Out) (units used : ℕ) (acts : List Activation) (s : State) (memory : Contents) (effect : A → Effect) (r : Result A Fault)
-    → ((x : A) → r ≡ Ok x → DoesRow ended units used acts s memory (effect x)) → ((f : Fault) → r ≡ Err f → Stops ended memory f)
-    → DoesRow ended units used acts s memory (with_value r effect)
-by_value ended units used acts s memory effect (Ok x) goes stops = goes x refl
-by_value ended units used acts s memory effect (Err f) goes stops = stops f refl
+pub by_value : {A : Type 0} (ended : Out) (units used : ℕ) (frames : Frames) (s : State) (memory : Contents) (effect : A → Effect) (r : Result A Fault)
+    → ((x : A) → r ≡ Ok x → DoesRow ended units used frames s memory (effect x)) → ((f : Fault) → r ≡ Err f → Stops ended memory f)
+    → DoesRow ended units used frames s memory (with_value r effect)
+by_value ended units used frames s memory effect (Ok x) goes stops = goes x refl
+by_value ended units used frames s memory effect (Err f) goes stops = stops f refl
 
 -- States in which an access reaches the same place
 
@@ -104,11 +105,11 @@ written_holds ty p v before after holds e = subst AfterHolds e (place_holds ty p
 
 -- Both kinds of access
 
-module _ (g : List Located) (acts : List Activation) (now : Now) (t : State) (related : Related acts now t) (many : ℕ) (u : State) (keeps : KeepsWay many t u) where
+module _ (g : List Located) (frames : Frames) (now : Now) (t : State) (related : Related frames now t) (many : ℕ) (u : State) (keeps : KeepsWay many t u) where
   same_direct : (a : AreaName) (byte x : ℕ) → place_of a byte x u ≡ place_now a byte x now
   same_direct a byte x =
       let here : place_of a byte x u ≡ place_of a byte x t = rw (keeps.db, keeps.di, keeps.deep) refl in
-      here ∙ same_place acts now t related a byte x
+      here ∙ same_place frames now t related a byte x
 
   -- by a direct variable
   pub direct_reads : (a : AreaName) (byte x : ℕ) (w : Width) → IsReadAt g (type_of_width w) (Ok (place_now a byte x now)) u (expr.Read (var.Direct a byte x w))
@@ -131,7 +132,7 @@ module _ (g : List Located) (acts : List Activation) (now : Now) (t : State) (re
         let whole : pattern 32 (pos q) ≡ q = omega arith in
         let here : pointed_at (dword q) u ≡ pointed_at (dword q) t = rw (keeps.db, keeps.di, keeps.deep) refl in
         let same : pointed_at (dword q) t ≡ place_aimed (pointed q now.registers.db now.registers.di (depth now.activations)) =
-        rw (whole, same_db acts now t related, same_di acts now t related, as_deep_as acts now t related) refl in
+        rw (whole, same_db frames now t related, same_di frames now t related, as_deep_as frames now t related) refl in
         here ∙ same ∙ means
 
     pub pointer_reads : (w : Width) → IsReadAt g (type_of_width w) target u (expr.AreaRead w (local_of i))

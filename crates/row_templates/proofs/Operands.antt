@@ -7,7 +7,7 @@ use Rattle.memory_areas.specs.declared.place.Place.{Place}
 use Rattle.s7_base.specs.declared.outcome.Fault.{Fault}
 use Rattle.s7_base.specs.declared.register.Reg.{Reg}
 use Rattle.s7_base.specs.declared.register.Reg.TheVariants as reg
-use Rattle.stl_tree.specs.Now.{Activation, Now}
+use Rattle.stl_tree.specs.Now.{Now}
 use Rattle.st_tree.specs.Meaning.{Calls, Normal, body_meaning}
 use Rattle.st_tree.specs.State.{State, with_register}
 use Rattle.st_tree.specs.Value.{value}
@@ -20,7 +20,7 @@ use Rattle.st_tree.specs.declared.program.Stmt.{Stmt}
 use Rattle.st_tree.proofs.FittingMemory.{AfterHolds, place_holds}
 use Rattle.st_tree.proofs.Equations.{assign_goes_on}
 use Rattle.row_templates.specs.Builders.{cleared, literal_of, read_of, set_of}
-use Rattle.row_templates.proofs.Alike.{Related}
+use Rattle.row_templates.specs.Related.{Frames, Related}
 use Rattle.row_templates.proofs.Truths.{literal_worth, register_worth}
 
 set_flag : (b : Bool) → is_set (flag b) ≡ b
@@ -32,7 +32,7 @@ pub bit_holds : (p : Place) (b : Bool) (before : Contents) (after : Result Conte
 bit_holds p b before after holds e =
     subst AfterHolds (ap (λ v. write_bit p v before) (set_flag b) ∙ e) (place_holds type.Bool p (flag b) before holds)
 
-module _ (g : List Located) (acts : List Activation) (now : Now) (s : State) (related : Related acts now s) where
+module _ (g : List Located) (frames : Frames) (now : Now) (s : State) (related : Related frames now s) where
   -- the RLO and NFC, read
   pub rlo_worth : value g (read_of reg.Rlo) s ≡ Ok (flag now.registers.status.rlo)
   rlo_worth = register_worth g s reg.Rlo now.registers.status.rlo refl (related.registers reg.Rlo tt)

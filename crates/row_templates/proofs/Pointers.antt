@@ -13,7 +13,7 @@ use Rattle.memory_areas.specs.declared.place.Place.{Place}
 use Rattle.s7_base.specs.SignedNumbers.{number, pattern}
 use Rattle.s7_base.specs.declared.register.Reg.TheVariants as reg
 use Rattle.stl_tree.specs.AddressRegisters.{pointer_in}
-use Rattle.stl_tree.specs.Now.{Activation, Now}
+use Rattle.stl_tree.specs.Now.{Now}
 use Rattle.stl_tree.specs.Reads.{register_of}
 use Rattle.stl_tree.specs.declared.program.Ar.{Ar}
 use Rattle.stl_tree.specs.declared.program.Ar.TheVariants as ar
@@ -33,7 +33,7 @@ use Rattle.st_tree.specs.declared.state.Value.{Value}
 use Rattle.st_tree.proofs.Equations.{value_binary, value_convert, value_literal, value_read}
 use Rattle.row_templates.specs.Builders.{and_of, binary_of, constant_of, convert_of, read_of}
 use Rattle.row_templates.specs.Pointing.{crossing_of, in_area_of, place_in_of, sum_of}
-use Rattle.row_templates.proofs.Alike.{Related}
+use Rattle.row_templates.specs.Related.{Frames, Related}
 
 -- a pattern as a DWORD
 abbrev pub dword : ℕ → Value
@@ -137,7 +137,7 @@ module _ (g : List Located) (t : State) where
 
   -- Address registers
 
-  module _ (acts : List Activation) (now : Now) (related : Related acts now t) where
+  module _ (frames : Frames) (now : Now) (related : Related frames now t) where
     pub pointer_small : (r : Ar) → pointer_in r now.registers < 2 ^ 32
     pointer_small ar.One = related.range.ar1
     pointer_small ar.Two = related.range.ar2

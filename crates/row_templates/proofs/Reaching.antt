@@ -3,9 +3,9 @@
 -- fault that stands in its place: a pointer may name no area.
 use Rattle.std.proofs.Common.{◌≡◌, ℕ, ◌+◌, ◌*◌, ◌%◌, ◌^◌, ◌<◌, ◌≤◌, pos, true, List, [], ◌∷◌, ◌++◌, length, Result, Ok, Err, ◌⊎◌, inl, inr, refl, ap, ◌∙◌, arith}
 use Rattle.std.specs.Prelude.{slice_get, Some}
-use Rattle.memory_areas.specs.Access.{and_then, code_of, place_aimed, pointed, read_dword}
+use Rattle.memory_areas.specs.Access.{and_then, code_of, name_of_code, place_aimed, pointed, read_dword}
 use Rattle.memory_areas.specs.Areas.{Contents}
-use Rattle.memory_areas.specs.Pointers.{with_offset}
+use Rattle.memory_areas.specs.Pointers.{bit_of_pointer, byte_of_pointer, code_of_pointer, with_offset}
 use Rattle.memory_areas.specs.declared.place.AreaName.{AreaName}
 use Rattle.memory_areas.specs.declared.place.AreaName.TheVariants as area
 use Rattle.memory_areas.specs.declared.place.Place.{Place}
@@ -16,7 +16,7 @@ use Rattle.s7_base.specs.declared.word.Width.TheVariants as width
 use Rattle.stl_tree.specs.Accepted.{IsOperand}
 use Rattle.stl_tree.specs.AddressRegisters.{pointer_in}
 use Rattle.stl_tree.specs.DataBlocks.{db_opened}
-use Rattle.stl_tree.specs.Now.{Activation, Now, depth, with_registers}
+use Rattle.stl_tree.specs.Now.{Now, depth, with_registers}
 use Rattle.stl_tree.specs.Operands.{Found, aimed_in, found, found_at}
 use Rattle.stl_tree.specs.declared.program.Ar.{Ar}
 use Rattle.stl_tree.specs.declared.program.Operand.{Operand}
@@ -37,9 +37,11 @@ use Rattle.row_templates.specs.Builders.{constant_of, local_of, set_local_of}
 use Rattle.row_templates.specs.Fetching.{may_fault, reach_of, reading_of, types_reached, writing_of}
 use Rattle.row_templates.specs.Pointing.{crossing_of, in_area_of, sum_of}
 use Rattle.instruction_laws.proofs.RangeRows.{db_kept}
-use Rattle.row_templates.proofs.Alike.{AreAlike, IsKept, Related, keep_activations, keep_registers, place_now}
-use Rattle.row_templates.proofs.DoesRow.{Stops}
-use Rattle.row_templates.proofs.Locals.{as_deep, local_read, local_wrote, own_length, own_of, own_other, own_same, with_own}
+use Rattle.row_templates.specs.Related.{AreAlike, Frames, Related}
+use Rattle.row_templates.proofs.Alike.{keep_local, keep_registers, place_now, same_areas}
+use Rattle.row_templates.proofs.Cells.{LiesInMemory, aimed_in_memory, named_in_memory, read_alike}
+use Rattle.row_templates.specs.DoesRow.{Stops, own_of}
+use Rattle.row_templates.proofs.Locals.{local_read, local_wrote, own_length, own_other, own_same, with_own}
 use Rattle.row_templates.proofs.MemoryRows.{IsReadAt, KeepsWay, Writes, direct_reads, direct_writes, keeps_itself, pointer_reads, pointer_writes}
 use Rattle.row_templates.proofs.Pointers.{crossing_worth, dword, in_area_resolved, in_area_small, in_area_worth, offset_small, place_pointed, pointer_small, same_offset, sum_worth}
 
@@ -49,8 +51,8 @@ found_with target after = and_then target (λ p. Ok (record { place = p; after =
 
 -- in a state t an operand was reached, with the locals below the first one as they were in s: it is read and written at
 -- its place, or meets the fault, as long as the way is kept
-pub record IsReached (g : List Located) (acts : List Activation) (s : State) (first : ℕ) (o : Operand) (after : Now) (target : Result Place Fault) (t : State) : Type 0 where
-  pub related : Related acts after t
+pub record IsReached (g : List Located) (frames : Frames) (s : State) (first : ℕ) (o : Operand) (after : Now) (target : Result Place Fault) (t : State) : Type 0 where
+  pub related : Related frames after t
   pub as_many : length (own_of t.activations) ≡ length (own_of s.activations)
   pub below : (i : ℕ) → i < first → slice_get (own_of t.activations) i ≡ slice_get (own_of s.activations) i
   pub reads : (w : Width) (u : State) → KeepsWay (first + length (types_reached o)) t u → IsReadAt g (type_of_width w) target u (reading_of first o w)
@@ -61,20 +63,21 @@ module _ (g : List Located) (calls : Calls) (units : ℕ) (s : State) where
   abbrev pub LeadsTo : List Stmt → State → Type 0
   LeadsTo xs t = (rest : List Stmt) → body_meaning g calls (xs ++ rest) units s ≡ body_meaning g calls rest units t
 
-  -- they end by a fault, with the memory as it was
+  -- they end by a fault, with the areas of the memory as they were
   abbrev pub StopsBefore : List Stmt → Contents → Fault → Type 0
   StopsBefore xs memory x = (rest : List Stmt) → Stops (body_meaning g calls (xs ++ rest) units s) memory x
 
 -- the statements before an access lead to a state in which the operand was reached; where it has no place, its access
 -- may fault
-pub record Reaches (g : List Located) (calls : Calls) (units : ℕ) (acts : List Activation) (now : Now) (s : State) (first : ℕ) (o : Operand) : Type 0 where
+pub record Reaches (g : List Located) (calls : Calls) (units : ℕ) (frames : Frames) (now : Now) (s : State) (first : ℕ) (o : Operand) : Type 0 where
   pub to : State
   pub after : Now
   pub target : Result Place Fault
   pub is : found o now ≡ found_with target after
   pub memory : after.memory ≡ now.memory
   pub sure : (x : Fault) → target ≡ Err x → may_fault o ≡ true
-  pub reached : IsReached g acts s first o after target to
+  pub in_memory : LiesInMemory target
+  pub reached : IsReached g frames s first o after target to
   pub goes : LeadsTo g calls units s (reach_of first o) to
 
 -- or they end by the fault that the operand meets on the way
@@ -83,31 +86,31 @@ pub record Misses (g : List Located) (calls : Calls) (units : ℕ) (now : Now) (
   pub is : found o now ≡ Err met
   pub stops : StopsBefore g calls units s (reach_of first o) now.memory met
 
-module _ (g : List Located) (calls : Calls) (units : ℕ) (acts : List Activation) (now : Now) where
+module _ (g : List Located) (calls : Calls) (units : ℕ) (frames : Frames) (now : Now) where
   -- a local takes a value
   takes : (i : ℕ) (e : Expr) (v : Value) (t : State) → i < length (own_of t.activations) → value g e t ≡ Ok v → LeadsTo g calls units t (set_local_of i e ∷ []) (with_own i v t)
   takes i e v t room h rest = assign_goes_on g calls (var.Local i) e rest units t (with_own i v t) v h (local_wrote g i v t room)
 
-  still_related : (i : ℕ) (v : Value) (t : State) → Related acts now t → Related acts now (with_own i v t)
-  still_related i v t related = keep_activations IsKept acts now t related (with_own i v t).activations (as_deep t.activations (depth_of_state t) i v)
+  still_related : (i : ℕ) (v : Value) (t : State) → Related frames now t → Related frames now (with_own i v t)
+  still_related i v t related = keep_local frames now t related i v
 
-  module _ (s : State) (related : Related acts now s) (first : ℕ) where
+  module _ (s : State) (related : Related frames now s) (first : ℕ) where
     -- Operands in an area
 
     -- the state once a data block is open
     abbrev open_state : ℕ → State
     open_state n = record s { registers = with_register reg.DbNo (pos n) s.registers }
 
-    open_alike : (n : ℕ) → AreAlike IsKept (db_opened n now.registers) (open_state n).registers
+    open_alike : (n : ℕ) → AreAlike (db_opened n now.registers) (open_state n).registers
     open_alike n reg.DbNo asked = refl
     open_alike n q asked = related.registers q asked
 
-    open_related : (n : ℕ) → n < 2 ^ 16 → Related acts (with_registers (db_opened n) now) (open_state n)
+    open_related : (n : ℕ) → n < 2 ^ 16 → Related frames (with_registers (db_opened n) now) (open_state n)
     open_related n small =
-        keep_registers IsKept acts now s related IsKept (db_opened n now.registers) (open_state n).registers (open_alike n)
+        keep_registers frames now s related (db_opened n now.registers) (open_state n).registers (open_alike n)
         (db_kept n now.registers related.range small)
 
-    direct_reached : (a : AreaName) (byte x : ℕ) → Reaches g calls units acts now s first (operand.Direct a byte x)
+    direct_reached : (a : AreaName) (byte x : ℕ) → Reaches g calls units frames now s first (operand.Direct a byte x)
     direct_reached a byte x =
         record {
           to = s;
@@ -116,21 +119,22 @@ module _ (g : List Located) (calls : Calls) (units : ℕ) (acts : List Activatio
           is = refl;
           memory = refl;
           sure = λ f e. absurd cc;
+          in_memory = named_in_memory a now.registers.db now.registers.di (depth now.activations);
           reached = record {
             related = related;
             as_many = refl;
             below = λ i h. refl;
-            reads = λ w u keeps. direct_reads g acts now s related (first + 0) u keeps a byte x w;
-            writes = λ w u keeps. direct_writes g acts now s related (first + 0) u keeps a byte x w;
+            reads = λ w u keeps. direct_reads g frames now s related (first + 0) u keeps a byte x w;
+            writes = λ w u keeps. direct_writes g frames now s related (first + 0) u keeps a byte x w;
           };
           goes = λ rest. refl;
         }
 
-    opened_reached : (n byte x : ℕ) → n < 2 ^ 16 → Reaches g calls units acts now s first (operand.Opened n byte x)
+    opened_reached : (n byte x : ℕ) → n < 2 ^ 16 → Reaches g calls units frames now s first (operand.Opened n byte x)
     opened_reached n byte x small =
         let after : Now = with_registers (db_opened n) now in
         let t : State = open_state n in
-        let relates : Related acts after t = open_related n small in
+        let relates : Related frames after t = open_related n small in
         record {
           to = t;
           after = after;
@@ -138,12 +142,13 @@ module _ (g : List Located) (calls : Calls) (units : ℕ) (acts : List Activatio
           is = refl;
           memory = refl;
           sure = λ f e. refl;
+          in_memory = tt;
           reached = record {
             related = relates;
             as_many = refl;
             below = λ i h. refl;
-            reads = λ w u keeps. direct_reads g acts after t relates (first + 0) u keeps area.Db byte x w;
-            writes = λ w u keeps. direct_writes g acts after t relates (first + 0) u keeps area.Db byte x w;
+            reads = λ w u keeps. direct_reads g frames after t relates (first + 0) u keeps area.Db byte x w;
+            writes = λ w u keeps. direct_writes g frames after t relates (first + 0) u keeps area.Db byte x w;
           };
           goes = λ rest. assign_goes_on g calls (var.Register reg.DbNo) (constant_of type.Word (pos n)) rest units s t (record { ty = type.Word; n = pos n })
               (value_literal g type.Word (pos n) s) refl;
@@ -160,7 +165,7 @@ module _ (g : List Located) (calls : Calls) (units : ℕ) (acts : List Activatio
       register = pointer_in r now.registers
 
       least : register < 2 ^ 32
-      least = pointer_small g s acts now related r
+      least = pointer_small g s frames now related r
 
       module _ (a : AreaName) where
         abbrev total : ℕ
@@ -172,10 +177,10 @@ module _ (g : List Located) (calls : Calls) (units : ℕ) (acts : List Activatio
         total_small : total < 2 ^ 32
         total_small = omega arith
 
-        register_reached : Reaches g calls units acts now s first (operand.ByRegister a r offset)
+        register_reached : Reaches g calls units frames now s first (operand.ByRegister a r offset)
         register_reached =
             let t : State = with_own first (dword inside) s in
-            let relates : Related acts now t = still_related first (dword inside) s related in
+            let relates : Related frames now t = still_related first (dword inside) s related in
             let small : inside < 2 ^ 32 = in_area_small a total in
             let there : slice_get (own_of t.activations) first ≡ Some (dword inside) = own_same first (dword inside) s (omega arith) in
             let target : Result Place Fault = Ok (named a (with_offset register offset)) in
@@ -188,24 +193,25 @@ module _ (g : List Located) (calls : Calls) (units : ℕ) (acts : List Activatio
               is = refl;
               memory = refl;
               sure = λ f e. refl;
+              in_memory = named_in_memory a now.registers.db now.registers.di (depth now.activations);
               reached = record {
                 related = relates;
                 as_many = own_length first (dword inside) s;
                 below = λ i h. own_other first (dword inside) s i (λ same. absurd (omega arith));
-                reads = λ w u keeps. pointer_reads g acts now t relates (first + 1) u keeps inside first small (omega arith) there target means w;
-                writes = λ w u keeps. pointer_writes g acts now t relates (first + 1) u keeps inside first small (omega arith) there target means w;
+                reads = λ w u keeps. pointer_reads g frames now t relates (first + 1) u keeps inside first small (omega arith) there target means w;
+                writes = λ w u keeps. pointer_writes g frames now t relates (first + 1) u keeps inside first small (omega arith) there target means w;
               };
               goes = takes first (in_area_of a (sum_of r offset)) (dword inside) s (omega arith)
-                  (in_area_worth g s a (sum_of r offset) total total_small (sum_worth g s acts now related r offset));
+                  (in_area_worth g s a (sum_of r offset) total total_small (sum_worth g s frames now related r offset));
             }
 
       abbrev crossed : ℕ
       crossed = with_offset register offset
 
-      crossing_reached : Reaches g calls units acts now s first (operand.Crossing r offset)
+      crossing_reached : Reaches g calls units frames now s first (operand.Crossing r offset)
       crossing_reached =
           let t : State = with_own first (dword crossed) s in
-          let relates : Related acts now t = still_related first (dword crossed) s related in
+          let relates : Related frames now t = still_related first (dword crossed) s related in
           let small : crossed < 2 ^ 32 = offset_small register offset least in
           let there : slice_get (own_of t.activations) first ≡ Some (dword crossed) = own_same first (dword crossed) s (omega arith) in
           let target : Result Place Fault = place_aimed (pointed crossed now.registers.db now.registers.di (depth now.activations)) in
@@ -216,14 +222,15 @@ module _ (g : List Located) (calls : Calls) (units : ℕ) (acts : List Activatio
             is = refl;
             memory = refl;
             sure = λ f e. refl;
+            in_memory = aimed_in_memory (name_of_code (code_of_pointer crossed)) now.registers.db now.registers.di (depth now.activations) (byte_of_pointer crossed) (bit_of_pointer crossed);
             reached = record {
               related = relates;
               as_many = own_length first (dword crossed) s;
               below = λ i h. own_other first (dword crossed) s i (λ same. absurd (omega arith));
-              reads = λ w u keeps. pointer_reads g acts now t relates (first + 1) u keeps crossed first small (omega arith) there target refl w;
-              writes = λ w u keeps. pointer_writes g acts now t relates (first + 1) u keeps crossed first small (omega arith) there target refl w;
+              reads = λ w u keeps. pointer_reads g frames now t relates (first + 1) u keeps crossed first small (omega arith) there target refl w;
+              writes = λ w u keeps. pointer_writes g frames now t relates (first + 1) u keeps crossed first small (omega arith) there target refl w;
             };
-            goes = takes first (crossing_of r offset) (dword crossed) s (omega arith) (crossing_worth g s acts now related r offset);
+            goes = takes first (crossing_of r offset) (dword crossed) s (omega arith) (crossing_worth g s frames now related r offset);
           }
 
     module _ (a pointer_area : AreaName) (byte : ℕ) (room : first + 2 ≤ length (own_of s.activations)) where
@@ -240,8 +247,9 @@ module _ (g : List Located) (calls : Calls) (units : ℕ) (acts : List Activatio
 
       pointer_read : (r : Result ℕ Fault) → is_there ≡ r → value g pointer s ≡ and_then r (λ n. Ok (typed type.Dword (pos n)))
       pointer_read r e =
-          direct_reads g acts now s related 0 s (keeps_itself 0 s) pointer_area byte 0 width.Dword
+          direct_reads g frames now s related 0 s (keeps_itself 0 s) pointer_area byte 0 width.Dword
           ∙ ap (λ (m : Contents). and_then (read_dword (place_now pointer_area byte 0 now) m) (λ n. Ok (typed type.Dword (pos n)))) related.memory
+          ∙ read_alike (place_now pointer_area byte 0 now) now.memory (named_in_memory pointer_area now.registers.db now.registers.di (depth now.activations)) type.Dword
           ∙ ap (λ (q : Result ℕ Fault). and_then q (λ n. Ok (typed type.Dword (pos n)))) e
 
       memory_missed : (x : Fault) → is_there ≡ Err x → Misses g calls units now s first (operand.ByMemory a pointer_area byte)
@@ -252,7 +260,7 @@ module _ (g : List Located) (calls : Calls) (units : ℕ) (acts : List Activatio
             stops = λ rest. record {
               at = s;
               stops = assign_stops_at_value g calls (var.Local first) pointer (set_local_of (first + 1) (in_area_of a (local_of first)) ∷ rest) units s x (pointer_read (Err x) e);
-              memory = related.memory;
+              areas = same_areas frames now s related;
             };
           }
 
@@ -284,10 +292,10 @@ module _ (g : List Located) (calls : Calls) (units : ℕ) (acts : List Activatio
             takes first pointer (dword kept) s (omega arith) (pointer_read (Ok p) e) (set_local_of (first + 1) (in_area_of a (local_of first)) ∷ rest)
             ∙ takes (first + 1) (in_area_of a (local_of first)) (dword put_inside) taken (omega arith) (in_area_worth g taken a (local_of first) kept kept_small pointer_taken) rest
 
-        memory_reached : Reaches g calls units acts now s first (operand.ByMemory a pointer_area byte)
+        memory_reached : Reaches g calls units frames now s first (operand.ByMemory a pointer_area byte)
         memory_reached =
             let t : State = with_own (first + 1) (dword put_inside) taken in
-            let relates : Related acts now t = still_related (first + 1) (dword put_inside) taken (still_related first (dword kept) s related) in
+            let relates : Related frames now t = still_related (first + 1) (dword put_inside) taken (still_related first (dword kept) s related) in
             let small : put_inside < 2 ^ 32 = in_area_small a kept in
             let many : length (own_of taken.activations) ≡ length (own_of s.activations) = as_many_taken in
             let there : slice_get (own_of t.activations) (first + 1) ≡ Some (dword put_inside) = own_same (first + 1) (dword put_inside) taken (omega arith) in
@@ -301,24 +309,25 @@ module _ (g : List Located) (calls : Calls) (units : ℕ) (acts : List Activatio
               is = ap found_by_pointer e;
               memory = refl;
               sure = λ f e. refl;
+              in_memory = named_in_memory a now.registers.db now.registers.di (depth now.activations);
               reached = record {
                 related = relates;
                 as_many = own_length (first + 1) (dword put_inside) taken ∙ many;
                 below = λ i h. own_other (first + 1) (dword put_inside) taken i (λ same. absurd (omega arith)) ∙ own_other first (dword kept) s i (λ same. absurd (omega arith));
-                reads = λ w u keeps. pointer_reads g acts now t relates (first + 2) u keeps put_inside (first + 1) small (omega arith) there target means w;
-                writes = λ w u keeps. pointer_writes g acts now t relates (first + 2) u keeps put_inside (first + 1) small (omega arith) there target means w;
+                reads = λ w u keeps. pointer_reads g frames now t relates (first + 2) u keeps put_inside (first + 1) small (omega arith) there target means w;
+                writes = λ w u keeps. pointer_writes g frames now t relates (first + 2) u keeps put_inside (first + 1) small (omega arith) there target means w;
               };
               goes = goes_by_memory;
             }
 
       by_memory : (r : Result ℕ Fault) → is_there ≡ r
-          → Reaches g calls units acts now s first (operand.ByMemory a pointer_area byte) ⊎ Misses g calls units now s first (operand.ByMemory a pointer_area byte)
+          → Reaches g calls units frames now s first (operand.ByMemory a pointer_area byte) ⊎ Misses g calls units now s first (operand.ByMemory a pointer_area byte)
       by_memory (Ok p) e = inl (memory_reached p e)
       by_memory (Err x) e = inr (memory_missed x e)
 
     -- both ways out
     pub reaches : (o : Operand) (w : Width) → IsOperand w o → first + length (types_reached o) ≤ length (own_of s.activations)
-        → Reaches g calls units acts now s first o ⊎ Misses g calls units now s first o
+        → Reaches g calls units frames now s first o ⊎ Misses g calls units now s first o
     reaches (operand.Direct a byte x) w lies room = inl (direct_reached a byte x)
     reaches (operand.Opened n byte x) w lies room =
         let most : n ≤ 65535 = lies.0.1 in

@@ -3,7 +3,7 @@ use Rattle.std.proofs.Common.{◌≡◌, ℕ, suc, ◌+◌, ◌≤◌, List, [],
 use Rattle.std.specs.Prelude.{ℤ}
 use Rattle.s7_base.specs.declared.register.Reg.{Reg}
 use Rattle.s7_base.specs.declared.register.Reg.TheVariants as reg
-use Rattle.stl_tree.specs.Now.{Activation, Now, next}
+use Rattle.stl_tree.specs.Now.{Now, next}
 use Rattle.stl_tree.specs.Registers.{RegisterValues}
 use Rattle.st_tree.specs.Meaning.{Calls, Normal, body_meaning}
 use Rattle.st_tree.specs.State.{State, with_register}
@@ -14,21 +14,18 @@ use Rattle.st_tree.specs.declared.program.Located.{Located}
 use Rattle.st_tree.specs.declared.program.Stmt.{Stmt}
 use Rattle.st_tree.specs.declared.program.Stmt.TheVariants as stmt
 use Rattle.st_tree.proofs.Equations.{assign_goes_on}
-use Rattle.row_templates.proofs.Alike.{AreAlike, AreInRange, IsKept, Related}
-use Rattle.row_templates.proofs.DoesRow.{DoesRow}
-use Rattle.row_templates.proofs.Locals.{own_of}
-use Rattle.row_templates.proofs.Stages.{known, stage, stage_begins, stage_below, stage_depth, stage_keeps, stage_memory, stage_own_length, stage_registers, stage_sets}
+pub use Rattle.graph_rules.proofs.Runs.{locals_set}
+use Rattle.row_templates.specs.Related.{AreAlike, Frames, Related}
+use Rattle.instruction_laws.specs.Ranges.{AreInRange}
+use Rattle.row_templates.specs.DoesRow.{DoesRow, own_of}
+use Rattle.row_templates.proofs.Alike.{keep_locals, keep_registers}
+use Rattle.row_templates.proofs.Stages.{known, laid, stage, stage_begins, stage_below, stage_keeps, stage_own_length, stage_sets}
+use Rattle.row_templates.proofs.Units.{with_locals}
 
 -- the position of the next local
 abbrev pub next_local : ℕ → List Value → ℕ
 next_local used [] = used
 next_local used (v ∷ kept) = used + suc (length kept)
-
--- how many locals some statements set
-abbrev pub locals_set : List Stmt → ℕ
-locals_set [] = 0
-locals_set (stmt.Assign (var.Local i) e ∷ rest) = suc (locals_set rest)
-locals_set (x ∷ rest) = locals_set rest
 
 -- the registers after some statements, of whose right sides these are the values
 abbrev pub registers_after : List Stmt → List Value → (Reg → ℤ) → Reg → ℤ
@@ -36,6 +33,14 @@ registers_after [] values registers = registers
 registers_after (x ∷ rest) [] registers = registers
 registers_after (stmt.Assign (var.Register r) e ∷ rest) (v ∷ values) registers = registers_after rest values (with_register r v.n registers)
 registers_after (x ∷ rest) (v ∷ values) registers = registers_after rest values registers
+
+-- other registers, in their ranges, and other locals
+staged : (frames : Frames) (now : Now) (s : State) → Related frames now s → (used : ℕ) (kept : List Value) (after : RegisterValues) (registers : Reg → ℤ)
+    → AreAlike after registers → AreInRange after → Related frames (record now { registers = after }) (stage s used kept registers)
+unfolding stage
+staged frames now s related used kept after registers alike range =
+    let xs : List Value = laid used kept (own_of s.activations) in
+    keep_registers frames now (record s { activations = with_locals xs s.activations }) (keep_locals frames now s related xs) after registers alike range
 
 module _ (g : List Located) (s : State) (used : ℕ) where
   -- each right side has its value, where the statements before it have been done: a local is the next one
@@ -54,7 +59,7 @@ module _ (g : List Located) (s : State) (used : ℕ) where
   pub record IsRow (body : List Stmt) (r after : RegisterValues) (sta : ℤ) : Type 0 where
     pub values : List Value
     pub have : HaveValues body values [] (known r sta)
-    pub alike : AreAlike IsKept after (registers_after body values (known r sta))
+    pub alike : AreAlike after (registers_after body values (known r sta))
     pub range : AreInRange after
 
   position : (kept : List Value) → next_local used kept ≡ used + length kept
@@ -101,24 +106,17 @@ module _ (g : List Located) (s : State) (used : ℕ) where
     ends (x ∷ rest) (v ∷ values) kept registers h room = elim h [ ]
 
     -- they do the row
-    pub row_does : (body : List Stmt) (acts : List Activation) (now : Now) (after : RegisterValues) → Related acts now s
+    pub row_does : (body : List Stmt) (frames : Frames) (now : Now) (after : RegisterValues) → Related frames now s
         → IsRow body now.registers after (s.registers reg.Sta) → used + locals_set body ≤ length own
-        → DoesRow (body_meaning g calls body units s) units used acts s now.memory (next (record now { registers = after }))
-    row_does body acts now after related row room =
+        → DoesRow (body_meaning g calls body units s) units used frames s now.memory (next (record now { registers = after }))
+    row_does body frames now after related row room =
         let begins : s ≡ stage s used [] (known now.registers (s.registers reg.Sta)) = stage_begins s used now.registers related.registers (omega arith) in
         let e = ends body row.values [] (known now.registers (s.registers reg.Sta)) row.have (omega arith) in
         let f : Reg → ℤ = registers_after body row.values (known now.registers (s.registers reg.Sta)) in
         record {
           to = stage s used e.all f;
           goes = ap (body_meaning g calls body units) begins ∙ e.goes;
-          related = record {
-            registers = λ q asked. ap (λ (h : Reg → ℤ). h q) (stage_registers s used e.all f) ∙ row.alike q asked;
-            memory = stage_memory s used e.all f ∙ related.memory;
-            bytes = related.bytes;
-            activations = related.activations;
-            depth = stage_depth s used e.all f e.few ∙ related.depth;
-            range = row.range;
-          };
+          related = staged frames now s related used e.all after f row.alike row.range;
           as_many = stage_own_length s used e.all f e.few;
           below = λ i h. stage_below s used e.all f i h (omega arith);
         }

@@ -14,8 +14,10 @@ use Rattle.st_tree.specs.declared.expr.Var.TheVariants as var
 use Rattle.st_tree.specs.declared.program.Located.{Located}
 use Rattle.st_tree.proofs.Equations.{value_binary, value_convert, value_literal, value_read, value_select, value_shift, value_unary}
 use Rattle.row_templates.specs.Builders.{local_of, read_of}
-use Rattle.row_templates.proofs.Alike.{AreAlike, IsKept, number_in}
-use Rattle.row_templates.proofs.Locals.{local_wrote, own_of}
+use Rattle.row_templates.specs.DoesRow.{own_of}
+use Rattle.row_templates.specs.Related.{AreAlike, number_in}
+use Rattle.row_templates.proofs.Locals.{local_wrote}
+use Rattle.row_templates.proofs.Units.{with_locals}
 use Rattle.std.specs.Prelude.{false}
 
 -- Registers
@@ -26,7 +28,7 @@ known r sta reg.Sta = sta
 known r sta q = number_in r q
 
 -- registers that are alike are known
-pub are_known : (r : RegisterValues) (registers : Reg → ℤ) → AreAlike IsKept r registers → registers ≡ known r (registers reg.Sta)
+pub are_known : (r : RegisterValues) (registers : Reg → ℤ) → AreAlike r registers → registers ≡ known r (registers reg.Sta)
 are_known r registers alike = fun_ext each
   where
     each : (q : Reg) → registers q ≡ known r (registers reg.Sta) q
@@ -94,13 +96,6 @@ nothing_laid (suc n) (x ∷ own) h = ap (λ (xs : List Value). x ∷ xs) (nothin
 
 -- Activations
 
--- the activations where the running unit, the last one, has these locals
-abbrev pub with_locals : List Value → List Activation → List Activation
-with_locals [] [] = []
-with_locals (x ∷ xs) [] = record { locals = x ∷ xs; formals = [] } ∷ []
-with_locals xs (a ∷ []) = record a { locals = xs } ∷ []
-with_locals xs (a ∷ b ∷ rest) = a ∷ with_locals xs (b ∷ rest)
-
 some_more : (xs : List Value) (a : Activation) (rest : List Activation) → length (with_locals xs (a ∷ rest)) ≡ suc (length rest)
 some_more xs a [] = refl
 some_more xs a (b ∷ rest) = ap suc (some_more xs b rest)
@@ -143,11 +138,6 @@ local_set xs (a ∷ b ∷ rest) i v =
     let long : length (with_locals xs (b ∷ rest)) ≡ suc (length rest) = some_more xs b rest in
     one_more a (with_locals xs (b ∷ rest)) i v (omega arith) ∙ ap (λ (more : List Activation). a ∷ more) (local_set xs (b ∷ rest) i v)
 
-as_many_run : (xs : List Value) (acts : List Activation) → length xs ≡ length (own_of acts) → length (with_locals xs acts) ≡ length acts
-as_many_run [] [] h = refl
-as_many_run (x ∷ xs) [] h = absurd (omega arith)
-as_many_run xs (a ∷ rest) h = some_more xs a rest
-
 -- Stages
 
 -- the state s once registers hold these numbers, and locals from the position used on these values
@@ -159,7 +149,7 @@ module _ (s : State) (used : ℕ) where
   abbrev own : List Value
   own = own_of s.activations
 
-  pub stage_begins : (r : RegisterValues) → AreAlike IsKept r s.registers → used ≤ length own → s ≡ stage s used [] (known r (s.registers reg.Sta))
+  pub stage_begins : (r : RegisterValues) → AreAlike r s.registers → used ≤ length own → s ≡ stage s used [] (known r (s.registers reg.Sta))
   unfolding stage
   stage_begins r alike h =
       ap (λ (f : Reg → ℤ). record s { registers = f }) (are_known r s.registers alike)
@@ -167,14 +157,6 @@ module _ (s : State) (used : ℕ) where
       (sym (ap (λ (xs : List Value). with_locals xs s.activations) (nothing_laid used own h) ∙ with_own_locals s.activations))
 
   module _ (kept : List Value) (registers : Reg → ℤ) where
-    pub stage_memory : (stage s used kept registers).memory ≡ s.memory
-    unfolding stage
-    stage_memory = refl
-
-    pub stage_registers : (stage s used kept registers).registers ≡ registers
-    unfolding stage
-    stage_registers = refl
-
     pub stage_own : own_of (stage s used kept registers).activations ≡ laid used kept own
     unfolding stage
     stage_own = own_with (laid used kept own) s.activations
@@ -184,10 +166,6 @@ module _ (s : State) (used : ℕ) where
 
     pub stage_below : (i : ℕ) → i < used → used ≤ length own → slice_get (own_of (stage s used kept registers).activations) i ≡ slice_get own i
     stage_below i h k = ap (λ (xs : List Value). slice_get xs i) stage_own ∙ laid_below used i kept own h k
-
-    pub stage_depth : used + length kept ≤ length own → length (stage s used kept registers).activations ≡ length s.activations
-    unfolding stage
-    stage_depth h = as_many_run (laid used kept own) s.activations (laid_length used kept own h)
 
     module _ (g : List Located) where
       -- a register, read

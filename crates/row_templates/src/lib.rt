@@ -1,9 +1,10 @@
 //! What the statements of instructions are made of, and what is known of their parts.
 //!
-//! Stands on `stl_tree` and `st_tree`. The code makes expressions and assignments. The proofs, which the crates cite
-//! that write the statements of instructions, say how the states of both runs are related, what expressions are worth
-//! in them, what the statements of an instruction owe (`DoesRow`), and what those before it do that lead to an operand
-//! (`Reaching`) or fetch it (`Fetching`); `Example` has two rows as they are to be proved.
+//! Stands on `stl_tree` and `st_tree`. The code makes expressions and assignments. The definitions say how the states
+//! of both runs are related (`Related`), what statements that do an instruction are (`DoesRow`), and what the
+//! statements of an instruction owe in all (`Serves`); the crates that write them have a law each that they serve. The
+//! proofs, which those crates cite, say what expressions are worth, and what the statements before an instruction do
+//! that lead to its operand (`Reaching`) or fetch it (`Fetching`); `Example` has two rows as they are to be proved.
 #![tactic(auto)]
 
 pub use builders::{

@@ -4,7 +4,8 @@ use Rattle.std.specs.Prelude.{ℤ}
 use Rattle.std.proofs.Math.Nat.{div-add-mod', mod-lt}
 use Rattle.std.proofs.lemmas.Bool.Decides.{nat_tests}
 use Rattle.std.proofs.lemmas.Nat.{pow_pos}
-use Rattle.row_templates.proofs.Alike.{AreAlike, AreInRange, IsKept}
+use Rattle.row_templates.specs.Related.{AreAlike}
+use Rattle.instruction_laws.specs.Ranges.{AreInRange}
 use Rattle.row_templates.proofs.RegisterRows.{IsRow, registers_after}
 use Rattle.row_templates.proofs.Stages.{known, stage_first, stage_local, stage_register}
 use Rattle.row_templates.specs.Builders.{local_of, read_of, shift_of}
@@ -120,7 +121,7 @@ module _ (g : List Located) (s : State) (used : ℕ) (r : RegisterValues) (sta :
         ∷ of_width width.Dword (with_part w r.accu1 (times steps f whole))
         ∷ []
 
-    shift_alike : AreAlike IsKept (after_where w (times steps f whole) gate (out before) r) (registers_after (shift_by_accu2 op w used) shift_values (known r sta))
+    shift_alike : AreAlike (after_where w (times steps f whole) gate (out before) r) (registers_after (shift_by_accu2 op w used) shift_values (known r sta))
     shift_alike reg.Sta asked = elim asked [ ]
     shift_alike q asked = refl
 
@@ -199,7 +200,7 @@ module _ (g : List Located) (s : State) (used : ℕ) (r : RegisterValues) (sta :
         ∷ of_width width.Dword (with_part w r.accu1 signed_after)
         ∷ []
 
-    signed_alike : AreAlike IsKept (after_where w signed_after gate (bottom signed_before) r) (registers_after (signed_by_accu2 w used) signed_values (known r sta))
+    signed_alike : AreAlike (after_where w signed_after gate (bottom signed_before) r) (registers_after (signed_by_accu2 w used) signed_values (known r sta))
     signed_alike reg.Sta asked = elim asked [ ]
     signed_alike q asked = refl
 
@@ -269,7 +270,7 @@ module _ (g : List Located) (s : State) (used : ℕ) (r : RegisterValues) (sta :
         ∷ of_width width.Dword (with_part width.Dword r.accu1 turned)
         ∷ []
 
-    turn_alike : AreAlike IsKept (after_where width.Dword turned gate (out turned) r) (registers_after (turn_by_accu2 op used) turn_values (known r sta))
+    turn_alike : AreAlike (after_where width.Dword turned gate (out turned) r) (registers_after (turn_by_accu2 op used) turn_values (known r sta))
     turn_alike reg.Sta asked = elim asked [ ]
     turn_alike q asked = refl
 

@@ -4,7 +4,8 @@ use Rattle.std.specs.Prelude.{ℤ, bit_or}
 use Rattle.std.specs.Int.{from_bool}
 use Rattle.std.proofs.Math.Nat.{mod-eq_of_lt}
 use Rattle.std.proofs.lemmas.Nat.{or_comm, or_shifted}
-use Rattle.row_templates.proofs.Alike.{AreAlike, AreInRange, IsKept}
+use Rattle.row_templates.specs.Related.{AreAlike}
+use Rattle.instruction_laws.specs.Ranges.{AreInRange}
 use Rattle.row_templates.proofs.RegisterRows.{IsRow, registers_after}
 use Rattle.row_templates.proofs.Stages.{known, stage_first, stage_register}
 use Rattle.row_templates.proofs.Truths.{literal_worth}
@@ -79,7 +80,7 @@ module _ (g : List Located) (s : State) (used : ℕ) (r : RegisterValues) (sta :
     abbrev carry_values : List Value
     carry_values = flag r.status.cc1 ∷ flag (out r.accu1) ∷ flag false ∷ flag false ∷ of_width width.Dword (f r.accu1 + y) ∷ []
 
-    carry_alike : AreAlike IsKept through (registers_after (through_cc1 op entering used) carry_values (known r sta))
+    carry_alike : AreAlike through (registers_after (through_cc1 op entering used) carry_values (known r sta))
     carry_alike reg.Sta asked = elim asked [ ]
     carry_alike q asked = refl
 

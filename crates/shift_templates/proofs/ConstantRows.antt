@@ -3,7 +3,8 @@ use Rattle.std.proofs.Common.{◌≡◌, ℕ, ◌+◌, ◌-◌, ◌^◌, ◌<◌
 use Rattle.std.specs.Prelude.{ℤ}
 use Rattle.std.proofs.Math.Nat.{mod-lt}
 use Rattle.std.proofs.lemmas.Nat.{pow_pos}
-use Rattle.row_templates.proofs.Alike.{AreAlike, AreInRange, IsKept}
+use Rattle.row_templates.specs.Related.{AreAlike}
+use Rattle.instruction_laws.specs.Ranges.{AreInRange}
 use Rattle.row_templates.proofs.RegisterRows.{IsRow, registers_after}
 use Rattle.row_templates.proofs.Stages.{known, stage_first, stage_local, stage_register}
 use Rattle.row_templates.proofs.Truths.{literal_worth}
@@ -72,7 +73,7 @@ module _ (g : List Located) (s : State) (used : ℕ) (r : RegisterValues) (sta :
         ∷ of_width width.Dword (with_part w r.accu1 (times n f whole))
         ∷ []
 
-    shift_alike : AreAlike IsKept (after w (times n f whole) (out before) r) (registers_after (shift_by_constant op w n used) shift_values (known r sta))
+    shift_alike : AreAlike (after w (times n f whole) (out before) r) (registers_after (shift_by_constant op w n used) shift_values (known r sta))
     shift_alike reg.Sta asked = elim asked [ ]
     shift_alike q asked = refl
 
@@ -133,7 +134,7 @@ module _ (g : List Located) (s : State) (used : ℕ) (r : RegisterValues) (sta :
         ∷ of_width width.Dword (with_part w r.accu1 signed_after)
         ∷ []
 
-    signed_alike : AreAlike IsKept (after w signed_after (bottom signed_before) r) (registers_after (signed_by_constant w n used) signed_values (known r sta))
+    signed_alike : AreAlike (after w signed_after (bottom signed_before) r) (registers_after (signed_by_constant w n used) signed_values (known r sta))
     signed_alike reg.Sta asked = elim asked [ ]
     signed_alike q asked = refl
 
@@ -193,7 +194,7 @@ module _ (g : List Located) (s : State) (used : ℕ) (r : RegisterValues) (sta :
         ∷ of_width width.Dword (with_part width.Dword r.accu1 turned)
         ∷ []
 
-    turn_alike : AreAlike IsKept (after width.Dword turned (out turned) r) (registers_after (turn_by_constant op n used) turn_values (known r sta))
+    turn_alike : AreAlike (after width.Dword turned (out turned) r) (registers_after (turn_by_constant op n used) turn_values (known r sta))
     turn_alike reg.Sta asked = elim asked [ ]
     turn_alike q asked = refl
 

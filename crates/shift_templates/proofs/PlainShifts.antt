@@ -1,7 +1,8 @@
 -- The statements of shifts and rotations are well typed, for locals of their types, and low.
 use Rattle.std.proofs.Common.{◌≡◌, ℕ, ◌+◌, ◌-◌, ◌^◌, ◌<◌, ◌≤◌, ◌==◌, max, pos, Bool, true, false, if◌then◌else◌, List, [], ◌++◌, Option, Some, None, refl, ap, ◌∙◌, arith}
 use Rattle.std.proofs.lemmas.Int.{ints}
-use Rattle.row_templates.proofs.Typing.{AreTyped, IsBool, IsOf, IsPlainBody, and_is, binary_is, constant_is, convert_is, literal_is, local_is, local_plain, more, not_is, register_is, select_is, set_plain, shift_is, unary_is}
+use Rattle.row_templates.specs.Templates.{AreTyped, IsPlainBody}
+use Rattle.row_templates.proofs.Typing.{IsBool, IsOf, and_is, binary_is, constant_is, convert_is, literal_is, local_is, local_plain, more, not_is, register_is, select_is, set_plain, shift_is, unary_is}
 use Rattle.row_templates.specs.Builders.{or_of, read_of, select_of, shift_of}
 use Rattle.s7_base.specs.declared.register.Reg.TheVariants as reg
 use Rattle.s7_base.specs.declared.word.Width.{Width}
@@ -87,20 +88,20 @@ module _ (sight : Sight) where
   accu1_is width.Byte wide h = elim wide [ ]
   accu1_is {n} width.Word wide h =
       more sight (omega arith)
-      (binary_is sight binary.Or refl (binary_is sight binary.And refl (register_is sight reg.Accu1) (constant_is sight refl))
+      (binary_is sight binary.Or tt refl (binary_is sight binary.And tt refl (register_is sight reg.Accu1) (constant_is sight refl))
       (convert_is sight refl h))
   accu1_is width.Dword wide h = more sight (omega arith) h
 
   bit_is : {n : ℕ} {e : Expr} (w : Width) (b : ℕ) → is_value (type_of_width w) (pos b) ≡ true → IsOf sight (type_of_width w) n e
       → IsBool sight (1 + max (1 + max n 1) 1) (has_bit w b e)
   bit_is w b h k =
-      binary_is sight binary.Ne refl (binary_is sight binary.And (masks_typed w) k (constant_is sight h)) (constant_is sight (zero_value w))
+      binary_is sight binary.Ne tt refl (binary_is sight binary.And tt (masks_typed w) k (constant_is sight h)) (constant_is sight (zero_value w))
 
   count_is : (n : ℕ) → n < 2 ^ 15 → IsOf sight type.Int 1 (count_of n)
   count_is n h = constant_is sight (int_value n h)
 
   less_is : {e : Expr} → IsOf sight type.Int 1 e → IsOf sight type.Int 2 (one_less e)
-  less_is h = binary_is sight binary.Sub refl h (constant_is sight refl)
+  less_is h = binary_is sight binary.Sub tt refl h (constant_is sight refl)
 
   moved_is : {m n : ℕ} {e d : Expr} (op : ShiftOp) (w : Width) → IsOf sight (type_of_width w) m e → IsOf sight type.Int n d
       → IsOf sight (type_of_width w) (1 + max m n) (shift_of op e d)
@@ -132,8 +133,8 @@ module _ (sight : Sight) where
       → IsPlainBody sight rest → IsPlainBody sight (counted used ++ rest)
   counted_plain used rest first second plain =
       local_plain sight _ _ _ (omega arith) first
-      (convert_is sight refl (binary_is sight binary.And refl (register_is sight reg.Accu2) (constant_is sight refl)))
-      (local_plain sight _ _ _ (omega arith) second (binary_is sight binary.Ne refl (local_is sight first) (constant_is sight refl)) plain)
+      (convert_is sight refl (binary_is sight binary.And tt refl (register_is sight reg.Accu2) (constant_is sight refl)))
+      (local_plain sight _ _ _ (omega arith) second (binary_is sight binary.Ne tt refl (local_is sight first) (constant_is sight refl)) plain)
 
   -- By a constant
 
@@ -252,7 +253,7 @@ module _ (sight : Sight) where
         → IsPlainBody sight (through_cc1 op entering used ++ rest)
     through_plain {n} op entering small first h =
         let joined : IsOf sight type.Dword 32 (or_of (shift_of op (read_of reg.Accu1) (count_of 1)) entering) =
-        more sight (omega arith) (binary_is sight binary.Or refl (moved_is op width.Dword (register_is sight reg.Accu1) (count_is 1 (omega arith))) h) in
+        more sight (omega arith) (binary_is sight binary.Or tt refl (moved_is op width.Dword (register_is sight reg.Accu1) (count_is 1 (omega arith))) h) in
         local_plain sight _ _ _ (omega arith) first (register_is sight reg.Cc1)
         (flags_plain _ _ (omega arith) (bit_is width.Dword (shown_bit op width.Dword) (shown_value op width.Dword tt) (register_is sight reg.Accu1))
         (set_plain sight reg.Accu1 _ _ (omega arith) joined plain))

@@ -1,57 +1,29 @@
--- Shifts and rotations, RLDA and RRDA: from related states their statements do what their rows do.
-use Rattle.std.proofs.Common.{◌≡◌, ℕ, ◌+◌, ◌≤◌, ◌==◌, Bool, true, false, if◌then◌else◌, List, [], length, Option, Some, None, refl, arith}
+-- Shifts and rotations, RLDA and RRDA: their statements serve them.
+use Rattle.std.proofs.Common.{◌≡◌, ℕ, ◌≤◌, ◌==◌, Bool, true, false, if◌then◌else◌, List, [], Option, Some, None, refl, arith}
 use Rattle.std.specs.Prelude.{ℤ}
 use Rattle.std.proofs.lemmas.Bool.Decides.{nat_tests}
-use Rattle.row_templates.proofs.Alike.{AreAlike, AreInRange, IsKept, Related}
-use Rattle.row_templates.proofs.DoesRow.{DoesRow}
-use Rattle.row_templates.proofs.Locals.{own_of}
-use Rattle.row_templates.proofs.RegisterRows.{IsRow, locals_set, row_does}
+use Rattle.instruction_laws.specs.Ranges.{AreInRange}
+use Rattle.row_templates.specs.Related.{AreAlike}
+use Rattle.row_templates.specs.Templates.{Do}
+use Rattle.row_templates.proofs.Obligations.{by_sizes}
+use Rattle.row_templates.proofs.RegisterRows.{IsRow, row_does}
 use Rattle.row_templates.proofs.Stages.{known}
+use Rattle.row_templates.proofs.Typing.{no_statement}
 use Rattle.s7_base.specs.declared.register.Reg.TheVariants as reg
 use Rattle.shift_templates.proofs.Accu2Rows.{accu2_row}
 use Rattle.shift_templates.proofs.CarryRows.{rlda_row, rrda_row}
 use Rattle.shift_templates.proofs.ConstantRows.{constant_row, stepped}
-use Rattle.shift_templates.specs.ShiftTemplates.{by_accu2, by_constant, rlda_template, rrda_template, shift_template, types_by_accu2, types_by_constant, types_of_shift, types_through_cc1}
-use Rattle.st_tree.specs.Meaning.{Calls, body_meaning}
+use Rattle.shift_templates.proofs.PlainShifts.{any_shift_plain, rlda_plain, rrda_plain}
+use Rattle.shift_templates.proofs.ReadByShifts.{rlda_reads, rrda_reads, shift_reads}
+use Rattle.shift_templates.proofs.ShiftSizes.{rlda_sizes, rrda_sizes, shift_sizes}
+use Rattle.shift_templates.specs.ShiftLaw.{ShiftsServe}
+use Rattle.shift_templates.specs.ShiftTemplates.{by_constant, rlda_template, rrda_template, shift_template, types_of_shift, types_through_cc1}
 use Rattle.st_tree.specs.State.{State}
 use Rattle.st_tree.specs.declared.program.Located.{Located}
-use Rattle.stl_tree.specs.Now.{Activation, Now}
-use Rattle.stl_tree.specs.Instructions.{effect_of}
 use Rattle.stl_tree.specs.Registers.{RegisterValues}
 use Rattle.stl_tree.specs.Shifts.{after_shift, around_left_through_cc1, around_right_through_cc1}
 use Rattle.stl_tree.specs.declared.accumulator.ShiftRow.{ShiftRow}
-use Rattle.stl_tree.specs.declared.accumulator.ShiftRow.TheVariants as row
 use Rattle.stl_tree.specs.declared.program.Op.TheVariants as op
-
--- Locals: as many as there are types
-
-constant_locals : (i : ShiftRow) (n used : ℕ) → locals_set (by_constant i n used) ≡ length (types_by_constant i)
-constant_locals row.Slw n used = refl
-constant_locals row.Srw n used = refl
-constant_locals row.Ssi n used = refl
-constant_locals row.Sld n used = refl
-constant_locals row.Srd n used = refl
-constant_locals row.Ssd n used = refl
-constant_locals row.Rld n used = refl
-constant_locals row.Rrd n used = refl
-
-accu2_locals : (i : ShiftRow) (used : ℕ) → locals_set (by_accu2 i used) ≡ length (types_by_accu2 i)
-accu2_locals row.Slw used = refl
-accu2_locals row.Srw used = refl
-accu2_locals row.Ssi used = refl
-accu2_locals row.Sld used = refl
-accu2_locals row.Srd used = refl
-accu2_locals row.Ssd used = refl
-accu2_locals row.Rld used = refl
-accu2_locals row.Rrd used = refl
-
-pub shift_locals : (i : ShiftRow) (by : Option ℕ) (used : ℕ) → locals_set (shift_template used i by) ≡ length (types_of_shift i by)
-shift_locals i None used = accu2_locals i used
-shift_locals i (Some n) used = at (n == 0)
-  where
-    at : (none : Bool) → locals_set (if none then [] else by_constant i n used) ≡ length (if none then [] else types_by_constant i)
-    at true = refl
-    at false = constant_locals i n used
 
 -- Rows
 
@@ -59,7 +31,7 @@ module _ (g : List Located) (s : State) (used : ℕ) (r : RegisterValues) (sta :
   no_row : IsRow g s used [] r r sta
   no_row = record { values = []; have = tt; alike = as_known; range = range }
     where
-      as_known : AreAlike IsKept r (known r sta)
+      as_known : AreAlike r (known r sta)
       as_known reg.Sta asked = elim asked [ ]
       as_known q asked = refl
 
@@ -75,24 +47,34 @@ module _ (g : List Located) (s : State) (used : ℕ) (r : RegisterValues) (sta :
       at true e = no_row
       at false e = constant_row g s used r sta range n (some e) i
 
--- What they do
+-- What is promised
 
-module _ (g : List Located) (calls : Calls) (units : ℕ) (acts : List Activation) (now : Now) (s : State) (related : Related acts now s) (used : ℕ) where
-  pub shift_does : (i : ShiftRow) (by : Option ℕ) → used + length (types_of_shift i by) ≤ length (own_of s.activations)
-      → DoesRow (body_meaning g calls (shift_template used i by) units s) units used acts s now.memory (effect_of (op.Shift i by) now)
-  shift_does i by room =
-      let few : locals_set (shift_template used i by) ≡ length (types_of_shift i by) = shift_locals i by used in
-      row_does g s used calls units (shift_template used i by) acts now (after_shift i by now.registers) related
-      (any_shift_row g s used now.registers (s.registers reg.Sta) related.range i by) (omega arith)
+module _ (first : ℕ) where
+  shift_does : (i : ShiftRow) (by : Option ℕ) → Do (op.Shift i by) first (types_of_shift i by) (shift_template first i by)
+  shift_does i by g calls units frames now s related room =
+      row_does g s first calls units (shift_template first i by) frames now (after_shift i by now.registers) related
+      (any_shift_row g s first now.registers (s.registers reg.Sta) related.range i by) (omega (arith, room, (shift_sizes first i by).sets))
 
-  pub rlda_does : used + length types_through_cc1 ≤ length (own_of s.activations)
-      → DoesRow (body_meaning g calls (rlda_template used) units s) units used acts s now.memory (effect_of op.Rlda now)
-  rlda_does room =
-      row_does g s used calls units (rlda_template used) acts now (around_left_through_cc1 now.registers) related
-      (rlda_row g s used now.registers (s.registers reg.Sta) related.range) room
+  rlda_does : Do op.Rlda first types_through_cc1 (rlda_template first)
+  rlda_does g calls units frames now s related room =
+      row_does g s first calls units (rlda_template first) frames now (around_left_through_cc1 now.registers) related
+      (rlda_row g s first now.registers (s.registers reg.Sta) related.range) room
 
-  pub rrda_does : used + length types_through_cc1 ≤ length (own_of s.activations)
-      → DoesRow (body_meaning g calls (rrda_template used) units s) units used acts s now.memory (effect_of op.Rrda now)
-  rrda_does room =
-      row_does g s used calls units (rrda_template used) acts now (around_right_through_cc1 now.registers) related
-      (rrda_row g s used now.registers (s.registers reg.Sta) related.range) room
+  rrda_does : Do op.Rrda first types_through_cc1 (rrda_template first)
+  rrda_does g calls units frames now s related room =
+      row_does g s first calls units (rrda_template first) frames now (around_right_through_cc1 now.registers) related
+      (rrda_row g s first now.registers (s.registers reg.Sta) related.range) room
+
+pub shifts_serve : ShiftsServe
+shifts_serve =
+    record {
+      shifts = λ s count h first.
+          by_sizes (op.Shift s count) first (types_of_shift s count) (shift_template first s count) (shift_sizes first s count) (shift_does first s count)
+          (λ P has. shift_reads P first [] s count has tt) (λ sight typed. any_shift_plain sight first [] (no_statement sight) s count h typed);
+      left_turns = λ first.
+          by_sizes op.Rlda first types_through_cc1 (rlda_template first) (rlda_sizes first) (rlda_does first) (λ P has. rlda_reads P first [] has tt)
+          (λ sight typed. rlda_plain sight first [] (no_statement sight) typed);
+      right_turns = λ first.
+          by_sizes op.Rrda first types_through_cc1 (rrda_template first) (rrda_sizes first) (rrda_does first) (λ P has. rrda_reads P first [] has tt)
+          (λ sight typed. rrda_plain sight first [] (no_statement sight) typed);
+    }

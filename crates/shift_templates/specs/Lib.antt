@@ -1,2 +1,3 @@
+pub mod ShiftLaw
 pub mod ShiftParts
 pub mod ShiftTemplates

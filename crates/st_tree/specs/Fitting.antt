@@ -1,7 +1,7 @@
 -- States that fit: all that they hold is of the type that it is declared with. And that types are kept: a well
 -- typed expression has a value of its type in such a state, and well typed statements lead from one such state
 -- to others.
-use Rattle.std.specs.Prelude.{◌≡◌, ℕ, ◌<◌, true, Bool, ℤ, List, [], ◌∷◌, ◌++◌, map, slice_get, All, Contains, Option, Some, None, Ok}
+use Rattle.std.specs.Prelude.{◌≡◌, ℕ, true, Bool, ℤ, List, [], ◌∷◌, ◌++◌, map, slice_get, All, Contains, Option, Some, None, Ok}
 use Rattle.memory_areas.specs.Access.{HoldsBytes}
 use Rattle.memory_areas.specs.Areas.{Areas, IsMemoryOf}
 use Rattle.s7_base.specs.declared.register.Reg.{Reg}

@@ -10,7 +10,6 @@ pub mod Naming
 pub mod Nesting
 pub mod Operators
 pub mod Parts
-pub mod Plain
 pub mod PlaceRules
 pub mod Proper
 pub mod ProperLaws

@@ -1,5 +1,5 @@
 -- The data blocks of a text: their bytes, and their order.
-use Rattle.std.specs.Prelude.{ℕ, ◌==◌, nat_lt, if◌then◌else◌, List, [], ◌∷◌, Option, Some, None, Result, Ok, Err}
+use Rattle.std.specs.Prelude.{ℕ, ◌==◌, List, [], ◌∷◌, Option, Some, None, Result, Ok, Err}
 use Rattle.std.specs.List.{fold}
 use Rattle.memory_areas.specs.Areas.{bytes_of_dword, bytes_of_word, byte_at, byte_with, inserted, replaced}
 use Rattle.memory_areas.specs.declared.data_block.DataBlock.{DataBlock}

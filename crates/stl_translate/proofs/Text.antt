@@ -18,7 +18,7 @@ use Rattle.stl_tree.specs.declared.program.Program.{Program}
 use Rattle.st_tree.specs.Calls.{calls_to}
 use Rattle.st_tree.specs.GraphRun.{Counting, FitsGraph, counted_run, each_node, each_pass, exit_meaning, graph_calls, heads_of, longest, most_nodes, nodes_do, run_of_graph}
 use Rattle.st_tree.specs.Meaning.{Calls, Continues, Exits, Faults, NoUnits, Normal, Out, Returns, Sem, area_assigned, assigned, body_meaning, changed, then_do}
-use Rattle.st_tree.specs.Plain.{Plain, listed, test_of}
+use Rattle.graph_rules.specs.Plain.{Plain, listed, test_of}
 use Rattle.st_tree.specs.Proper.{Proper}
 use Rattle.st_tree.specs.StRun.{FitFormals, FitsIfThere, FitsSt, FitsUnit, end_seen, is_meant, run_of_unit, st_run, state_at_start}
 use Rattle.st_tree.specs.State.{State}
@@ -34,7 +34,12 @@ use Rattle.st_tree.specs.declared.program.StProgram.{StProgram}
 use Rattle.st_tree.specs.declared.program.Stmt.{Stmt}
 use Rattle.st_tree.specs.declared.program.Stmt.TheVariants as stmt
 use Rattle.st_tree.proofs.Equations.{meaning_area_write, meaning_assign}
-use Rattle.instruction_lowering.specs.Lowered.{AreUnitsOf, Lowered}
+use Rattle.std.specs.Prelude.{All}
+use Rattle.std.proofs.lemmas.List.Elements.{All-head, All-tail}
+use Rattle.stl_tree.specs.Accepted.{IsAccepted, IsAcceptedBlock, IsEnded}
+use Rattle.stl_tree.specs.declared.program.Instr.{Instr}
+use Rattle.stl_tree.specs.declared.program.Op.{Op}
+use Rattle.instruction_lowering.specs.Lowered.{AreNodesOf, AreUnitsOf, IsExitBehind, IsExitOf, Lowered, blocks_of}
 use Rattle.row_templates.specs.Writes.{AreWrites}
 use Rattle.stl_translate.specs.Same.{Same}
 use Rattle.stl_translate.specs.inner.Straight.{last_steps, straight, straight_unit}
@@ -58,11 +63,24 @@ abbrev Each : List GraphPou → Type 0
 Each [] = Unit {0}
 Each (u ∷ us) = IsStraight u × Each us
 
-each_straight : (blocks : List Block) (units : List GraphPou) → AreUnitsOf blocks units → Each units
-each_straight [] [] h = tt
-each_straight [] (u ∷ us) h = elim h [ ]
-each_straight (b ∷ bs) [] h = elim h [ ]
-each_straight (b ∷ bs) (u ∷ us) h = (record { node = h.0.node; nodes = h.0.nodes; exit = h.0.exit; steps = h.0.steps }, each_straight bs us h.1)
+-- a body that has its end word is left by it alone
+left_by_end : (body : List Instr) (e : StExit) → IsEnded body → IsExitOf body e → e ≡ exit.End
+left_by_end [] e h k = elim h [ ]
+left_by_end (i ∷ []) e h k = subst (λ (o : Op). IsExitBehind o e) h k
+left_by_end (i ∷ j ∷ rest) e h k = left_by_end (j ∷ rest) e h k
+
+one_node : (body : List Instr) (unit : GraphPou) (nodes : List StNode) → IsEnded body → unit.graph.nodes ≡ nodes → AreNodesOf (blocks_of body) nodes → IsStraight unit
+one_node body unit [] h e k = elim k [ ]
+one_node body unit (node ∷ []) h e k = record { node = node; nodes = e; exit = left_by_end body node.exit h k.0.exit; steps = k.0.steps }
+one_node body unit (node ∷ next ∷ rest) h e k = elim k.1 [ ]
+
+each_straight : (blocks : List Block) (units : List GraphPou) → All IsAcceptedBlock blocks → AreUnitsOf blocks units → Each units
+each_straight [] [] accepted h = tt
+each_straight [] (u ∷ us) accepted h = elim h [ ]
+each_straight (b ∷ bs) [] accepted h = elim h [ ]
+each_straight (b ∷ bs) (u ∷ us) accepted h =
+    let own = All-head IsAcceptedBlock b bs accepted in
+    (one_node b.body u u.graph.nodes own.ends refl h.0.nodes, each_straight bs us (All-tail IsAcceptedBlock b bs accepted) h.1)
 
 by_test : (test : Bool) (x u : GraphPou) (o : Option GraphPou) → cond test (Some x) o ≡ Some u → IsStraight x → (o ≡ Some u → IsStraight u) → IsStraight u
 by_test true x u o e own rest = let same : x ≡ u = cc in subst IsStraight same own
@@ -168,12 +186,12 @@ fits_heads : (graph : GraphProgram) (call : Call) (o : Option GraphPou)
 fits_heads graph call None h = absurd h
 fits_heads graph call (Some u) h = fits_moves graph.dbs (straight_unit u) u.head refl call.block call.instance call.actuals h
 
-module _ (program : Program) (graph : GraphProgram) (lowered : Lowered program graph) where
+module _ (program : Program) (accepted : IsAccepted program) (graph : GraphProgram) (lowered : Lowered program graph) where
   abbrev found : Call → Option GraphPou
   found call = find (λ (u : GraphPou). is_meant call.block u.head) graph.pous
 
   each : Each graph.pous
-  each = each_straight program.blocks graph.pous lowered.units
+  each = each_straight program.blocks graph.pous accepted.blocks lowered.units
 
   in_text : (call : Call) → FitsGraph graph call → FitsSt (straight graph) call
   in_text call fits =

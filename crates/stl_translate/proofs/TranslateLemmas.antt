@@ -1,5 +1,5 @@
 -- The text of some small programs, by computation.
-use Rattle.std.specs.Prelude.{◌≡◌, ℕ, List, [], ◌∷◌, ◌++◌, map, codes, refl}
+use Rattle.std.specs.Prelude.{◌≡◌, ℕ, List, [], ◌∷◌, ◌++◌, map, codes}
 use Rattle.std.specs.Fmt.{digits}
 use Rattle.s7_base.specs.declared.check.Check.TheVariants as check
 use Rattle.memory_areas.specs.declared.place.AreaName.TheVariants as area
@@ -36,22 +36,22 @@ series_of_two : text_of (block_of (name.Ob 1)
     ++ codes "    RLO := (RLO OR NOT NFC) AND %IX0.0 OR ORB;\n    NFC := TRUE;\n"
     ++ codes "    RLO := (RLO OR NOT NFC) AND %IX0.1 OR ORB;\n    NFC := TRUE;\n"
     ++ codes "    %QX4.0 := RLO;\n    ORB := FALSE;\n    NFC := FALSE;\n"
-    ++ codes "END_PROGRAM\n"
+    ++ codes "    ORB := FALSE;\n    NFC := FALSE;\n    OS := FALSE;\nEND_PROGRAM\n"
 unfolding digits unit_text line literal_text
 series_of_two = simp (text_assign, canon_equations)
 
 negated_series : text_of (block_of (name.Fc 10) (op.Check check.An (arg.At (input 0)) ∷ []) ∷ [])
-    ≡ codes "PROGRAM FC10\n    RLO := (RLO OR NOT NFC) AND NOT %IX0.0 OR ORB;\n    NFC := TRUE;\nEND_PROGRAM\n"
+    ≡ codes "PROGRAM FC10\n    RLO := (RLO OR NOT NFC) AND NOT %IX0.0 OR ORB;\n    NFC := TRUE;\n    ORB := FALSE;\n    NFC := FALSE;\n    OS := FALSE;\nEND_PROGRAM\n"
 unfolding digits unit_text line literal_text
 negated_series = simp (text_assign, canon_equations)
 
 parallel : text_of (block_of (name.Fb 1) (op.Check check.O (arg.At (input 0)) ∷ []) ∷ [])
-    ≡ codes "PROGRAM FB1\n    RLO := RLO AND NFC OR %IX0.0;\n    ORB := FALSE;\n    NFC := TRUE;\nEND_PROGRAM\n"
+    ≡ codes "PROGRAM FB1\n    RLO := RLO AND NFC OR %IX0.0;\n    ORB := FALSE;\n    NFC := TRUE;\n    ORB := FALSE;\n    NFC := FALSE;\n    OS := FALSE;\nEND_PROGRAM\n"
 unfolding digits unit_text line literal_text
 parallel = simp (text_assign, canon_equations)
 
 negated_parallel : text_of (block_of (name.Ob 65535) (op.Check check.On (arg.At (operand.Direct area.M 8191 7)) ∷ []) ∷ [])
-    ≡ codes "PROGRAM OB65535\n    RLO := RLO AND NFC OR NOT %MX8191.7;\n    ORB := FALSE;\n    NFC := TRUE;\nEND_PROGRAM\n"
+    ≡ codes "PROGRAM OB65535\n    RLO := RLO AND NFC OR NOT %MX8191.7;\n    ORB := FALSE;\n    NFC := TRUE;\n    ORB := FALSE;\n    NFC := FALSE;\n    OS := FALSE;\nEND_PROGRAM\n"
 unfolding digits unit_text line literal_text
 negated_parallel = simp (text_assign, canon_equations)
 
@@ -59,17 +59,17 @@ exclusive : text_of (block_of (name.Ob 1) (op.Check check.X (arg.At (input 0)) �
     ≡ codes "PROGRAM OB1\n"
     ++ codes "    RLO := RLO AND NFC XOR %IX0.0;\n    ORB := FALSE;\n    NFC := TRUE;\n"
     ++ codes "    RLO := RLO AND NFC XOR NOT %IX0.1;\n    ORB := FALSE;\n    NFC := TRUE;\n"
-    ++ codes "END_PROGRAM\n"
+    ++ codes "    ORB := FALSE;\n    NFC := FALSE;\n    OS := FALSE;\nEND_PROGRAM\n"
 unfolding digits unit_text line literal_text
 exclusive = simp (text_assign, canon_equations)
 
 -- nothing stands behind the first end word of a body
 early_end : text_of (block_of (name.Ob 1) (op.Assign (operand.Direct area.Q 4 0) ∷ op.BlockEnd ∷ op.Assign (operand.Direct area.Q 4 1) ∷ []) ∷ [])
-    ≡ codes "PROGRAM OB1\n    %QX4.0 := RLO;\n    ORB := FALSE;\n    NFC := FALSE;\nEND_PROGRAM\n"
+    ≡ codes "PROGRAM OB1\n    %QX4.0 := RLO;\n    ORB := FALSE;\n    NFC := FALSE;\n    ORB := FALSE;\n    NFC := FALSE;\n    OS := FALSE;\nEND_PROGRAM\n"
 unfolding digits unit_text line literal_text
 early_end = simp (text_assign, canon_equations)
 
 two_blocks : text_of (block_of (name.Ob 1) [] ∷ block_of (name.Ob 35) [] ∷ [])
-    ≡ codes "PROGRAM OB1\nEND_PROGRAM\nPROGRAM OB35\nEND_PROGRAM\n"
-unfolding digits unit_text line
-two_blocks = refl
+    ≡ codes "PROGRAM OB1\n    ORB := FALSE;\n    NFC := FALSE;\n    OS := FALSE;\nEND_PROGRAM\nPROGRAM OB35\n    ORB := FALSE;\n    NFC := FALSE;\n    OS := FALSE;\nEND_PROGRAM\n"
+unfolding digits unit_text line literal_text
+two_blocks = simp (text_assign, canon_equations)

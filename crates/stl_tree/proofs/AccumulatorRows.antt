@@ -1,5 +1,5 @@
 -- Worked rows of the instructions in the accumulators: the definitions give what is expected of them.
-use Rattle.std.proofs.Common.{◌≡◌, ℕ, pos, negsuc, true, Some, None, Ok, Err, refl}
+use Rattle.std.proofs.Common.{◌≡◌, ℕ, negsuc, true, Some, None, Ok, Err, refl}
 use Rattle.s7_base.specs.declared.outcome.Fault.TheVariants.{BcdDigit}
 use Rattle.s7_base.specs.declared.word.Width.TheVariants as width
 use Rattle.status_word.specs.StatusBits.{all_clear}

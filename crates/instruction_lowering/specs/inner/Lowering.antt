@@ -1,5 +1,5 @@
 -- The graph program of a program: a unit for each block, of one node.
-use Rattle.std.specs.Prelude.{ℕ, suc, ◌^◌, ◌<◌, ◌==◌, true, codes, decimal, if◌then◌else◌, List, [], ◌∷◌, ◌++◌, length, map}
+use Rattle.std.specs.Prelude.{ℕ, suc, ◌+◌, ◌^◌, ◌<◌, ◌==◌, true, codes, decimal, if◌then◌else◌, List, [], ◌∷◌, ◌++◌, length, map}
 use Rattle.stl_tree.specs.declared.program.Block.{Block}
 use Rattle.stl_tree.specs.declared.program.Instr.{Instr}
 use Rattle.stl_tree.specs.declared.program.Program.{Program}
@@ -13,7 +13,8 @@ use Rattle.st_tree.specs.StRun.{called_name}
 use Rattle.st_tree.specs.declared.expr.StType.{StType}
 use Rattle.st_tree.specs.declared.program.Local.{Local}
 use Rattle.st_tree.specs.declared.program.Pou.{Pou}
-use Rattle.instruction_lowering.specs.Temporaries.{ends_block, types_in}
+use Rattle.instruction_lowering.specs.Lowered.{ends_block}
+use Rattle.instruction_lowering.specs.inner.Temporaries.{types_in, types_of}
 use Rattle.instruction_lowering.specs.declared.statements.Spot.{Spot}
 use Rattle.instruction_lowering.specs.inner.Templates.{behind, first_spot, statements_of}
 
@@ -26,6 +27,11 @@ steps_of p (i ∷ rest) = statements_of p i.op ++ (if ends_block i.op then [] el
 abbrev pub used_behind : Spot → List Instr → ℕ
 used_behind p [] = p.used
 used_behind p (i ∷ rest) = if ends_block i.op then (behind i.op p).used else used_behind (behind i.op p) rest
+
+-- how many locals the statements of a body set
+abbrev pub used_in : List Instr → ℕ
+used_in [] = 0
+used_in (i ∷ rest) = length (types_of i.op) + (if ends_block i.op then 0 else used_in rest)
 
 -- the node of a body
 abbrev pub node_of : List Instr → StNode

@@ -1,5 +1,5 @@
 use Rattle.std.proofs.Common.{◌≡◌, ◌++◌, length}
-use Rattle.instruction_lowering.specs.Temporaries.{types_in}
+use Rattle.instruction_lowering.specs.inner.Temporaries.{types_in}
 use Rattle.instruction_lowering.proofs.locals.types.Given as goal
 
 abbrev pub decreases-loop-instr : goal.decreases-loop-instr

@@ -3,7 +3,7 @@ use Rattle.std.proofs.lemmas.Option.{slice_get_read}
 use Rattle.std.proofs.lemmas.Grind.{common_steps}
 use Rattle.memory_areas.specs.declared.data_block.DataBlock.{DataBlock}
 use Rattle.std.specs.Prelude.{All}
-use Rattle.st_tree.specs.Plain.{Plain}
+use Rattle.graph_rules.specs.Plain.{Plain}
 use Rattle.st_tree.specs.Proper.{IsDataBlock}
 use Rattle.st_tree.specs.declared.graph.GraphPou.{GraphPou}
 use Rattle.st_tree.specs.declared.graph.GraphProgram.{GraphProgram}

@@ -4,8 +4,8 @@ use Rattle.s7_base.specs.declared.check.Check.{Check}
 use Rattle.s7_base.specs.declared.check.Check.TheVariants as check
 use Rattle.s7_base.specs.declared.outcome.Fault.{Fault}
 use Rattle.s7_base.specs.declared.register.Reg.TheVariants as reg
-use Rattle.stl_tree.specs.Now.{Activation, Now}
-use Rattle.row_templates.proofs.Alike.{Related}
+use Rattle.stl_tree.specs.Now.{Now}
+use Rattle.row_templates.specs.Related.{Frames, Related}
 use Rattle.row_templates.proofs.Operands.{nfc_worth, rlo_worth}
 use Rattle.row_templates.proofs.Truths.{IsWorth, Stops, and_worth, left_stops, not_stops, not_worth, or_worth, register_worth, right_stops, xor_worth}
 use Rattle.status_word.specs.StatusBits.{StatusBits, rlo_after}
@@ -15,8 +15,8 @@ use Rattle.st_tree.specs.declared.expr.BinaryOp.TheVariants as binary
 use Rattle.st_tree.specs.declared.expr.Expr.{Expr}
 use Rattle.st_tree.specs.declared.expr.Expr.TheVariants as expr
 use Rattle.st_tree.specs.declared.program.Located.{Located}
-use Rattle.instruction_lowering.specs.declared.statements.Chain.{Chain}
-use Rattle.instruction_lowering.specs.inner.Templates.{and_joined, next_rlo, rlo_before_and, rlo_before_or, running_chain}
+use Rattle.bit_templates.specs.declared.chain.Chain.{Chain}
+use Rattle.bit_templates.specs.Bits.{and_joined, next_rlo, rlo_before_and, rlo_before_or, running_chain}
 use Rattle.row_templates.specs.Builders.{and_of, not_of, or_of, xor_of}
 
 module _ (g : List Located) (s : State) where
@@ -87,8 +87,8 @@ module _ (g : List Located) (s : State) where
     checked_stops check.X e f h = right_stops g s binary.Xor (rlo_before_or chain) e (bits.rlo && bits.nfc) f before_or h
     checked_stops check.Xn e f h = right_stops g s binary.Xor (rlo_before_or chain) (not_of e) (bits.rlo && bits.nfc) f before_or (not_stops g s e f h)
 
-module _ (g : List Located) (acts : List Activation) (now : Now) (s : State) (related : Related acts now s) where
+module _ (g : List Located) (frames : Frames) (now : Now) (s : State) (related : Related frames now s) where
   -- the registers keep the chain
   pub chain_runs : IsChain g s running_chain now.registers.status
   chain_runs =
-      record { rlo = rlo_worth g acts now s related; nfc = nfc_worth g acts now s related; orb = register_worth g s reg.Orb now.registers.status.orb refl (related.registers reg.Orb tt) }
+      record { rlo = rlo_worth g frames now s related; nfc = nfc_worth g frames now s related; orb = register_worth g s reg.Orb now.registers.status.orb refl (related.registers reg.Orb tt) }

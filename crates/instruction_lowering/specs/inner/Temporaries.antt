@@ -1,8 +1,10 @@
 -- The temporaries of a unit: which types those of an instruction have, and what they are called.
-use Rattle.std.specs.Prelude.{◌≡◌, ℕ, suc, Bool, true, false, codes, decimal, if◌then◌else◌, List, [], ◌∷◌, ◌++◌}
+use Rattle.std.specs.Prelude.{◌≡◌, ℕ, suc, codes, decimal, List, [], ◌∷◌, ◌++◌}
 use Rattle.accumulator_templates.specs.Logic.{types_of_logic}
 use Rattle.accumulator_templates.specs.DataBlocks.{types_of_block_exchange, types_of_block_open}
 use Rattle.accumulator_templates.specs.Moves.{types_of_exchange, types_of_load}
+use Rattle.bit_templates.specs.Bits.{types_checked, types_of_edge}
+use Rattle.bit_templates.specs.Brackets.{types_of_bracket}
 use Rattle.arithmetic_templates.specs.Calculations.{types_of_calculated, types_of_negated}
 use Rattle.arithmetic_templates.specs.Comparisons.{types_of_compared}
 use Rattle.digit_templates.specs.FromDigits.{types_of_bti, types_of_btd}
@@ -12,16 +14,12 @@ use Rattle.row_templates.specs.Fetching.{types_fetched, types_reached}
 use Rattle.s7_base.specs.declared.word.Width.TheVariants as width
 use Rattle.shift_templates.specs.ShiftTemplates.{types_of_shift, types_through_cc1}
 use Rattle.st_tree.specs.declared.expr.StType.{StType}
-use Rattle.st_tree.specs.declared.expr.StType.TheVariants as type
 use Rattle.st_tree.specs.declared.program.Local.{Local}
 use Rattle.stl_tree.specs.declared.accumulator.UnaryRow.{UnaryRow}
 use Rattle.stl_tree.specs.declared.accumulator.UnaryRow.TheVariants as unary
-use Rattle.stl_tree.specs.declared.program.BitArg.{BitArg}
-use Rattle.stl_tree.specs.declared.program.BitArg.TheVariants as arg
 use Rattle.stl_tree.specs.declared.program.Instr.{Instr}
 use Rattle.stl_tree.specs.declared.program.Op.{Op}
 use Rattle.stl_tree.specs.declared.program.Op.TheVariants as op
-use Rattle.stl_tree.specs.declared.program.Operand.{Operand}
 
 -- those of an instruction on ACCU1 alone
 abbrev pub types_of_unary : UnaryRow → List StType
@@ -36,15 +34,6 @@ types_of_unary unary.Invi = []
 types_of_unary unary.Invd = []
 types_of_unary unary.Caw = []
 types_of_unary unary.Cad = []
-
--- those of a check: what it looks at, where that may fault
-abbrev pub types_checked : BitArg → List StType
-types_checked (arg.At o) = types_fetched o width.Bit
-types_checked (arg.Flag t) = []
-
--- those of an edge: its bit, where that may fault, and the RLO
-abbrev pub types_of_edge : Operand → List StType
-types_of_edge o = types_fetched o width.Bit ++ type.Bool ∷ []
 
 -- the types of the temporaries of an instruction: an opened bracket keeps RLO, OR and NFC, and an edge the RLO; a
 -- pointer, what may fault, and what is used twice in an accumulator's row, is one
@@ -61,7 +50,7 @@ types_of op.ExchangeAr = types_of_pointer_exchange
 types_of (op.OpenDb d) = types_of_block_open d
 types_of (op.OpenDi d) = types_of_block_open d
 types_of op.ExchangeDb = types_of_block_exchange
-types_of (op.Bracket c) = type.Bool ∷ type.Bool ∷ type.Bool ∷ []
+types_of (op.Bracket c) = types_of_bracket
 types_of (op.EdgeUp o) = types_of_edge o
 types_of (op.EdgeDown o) = types_of_edge o
 types_of (op.Arith a) = types_of_calculated a
@@ -74,15 +63,10 @@ types_of (op.Unary u) = types_of_unary u
 types_of op.Tak = types_of_exchange
 types_of other = []
 
--- an instruction ends its block
-abbrev pub ends_block : Op → Bool
-ends_block op.BlockEnd = true
-ends_block other = false
-
--- those of the instructions of a body, up to its first end word; nothing behind that is reached
+-- those of the instructions of a body
 abbrev pub types_in : List Instr → List StType
 types_in [] = []
-types_in (i ∷ rest) = types_of i.op ++ (if ends_block i.op then [] else types_in rest)
+types_in (i ∷ rest) = types_of i.op ++ types_in rest
 
 -- locals are temporaries of these types: their names are T and a number, from this one on, as T1, T2
 abbrev pub AreTemporaries : ℕ → List StType → List Local → Type 0

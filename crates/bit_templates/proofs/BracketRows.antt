@@ -1,15 +1,15 @@
--- Brackets: their statements do what their rows do.
-use Rattle.nesting_stack.specs.Entries.{most_open}
-use Rattle.std.proofs.Common.{◌≡◌, ◌≢◌, ℕ, pos, ◌+◌, ◌<◌, ◌≤◌, Bool, true, false, if◌then◌else◌, List, [], ◌∷◌, length, Some, Ok, refl, sym, ap, ◌∙◌, subst, arith}
-use Rattle.std.specs.Prelude.{ℤ, nat_lt, slice_get, slice_set}
+-- Brackets: what their statements do, and keep.
+use Rattle.std.proofs.Common.{◌≡◌, ℕ, pos, ◌+◌, ◌<◌, ◌≤◌, Bool, true, false, List, [], ◌∷◌, length, Some, Ok, refl, sym, ap, ◌∙◌, subst, arith}
+use Rattle.std.specs.Prelude.{ℤ, slice_get, slice_set}
 use Rattle.status_word.specs.StatusBits.{StatusBits, after_close, after_open, entry_of, orb_after, restored, rlo_after}
 use Rattle.s7_base.specs.declared.check.Check.{Check}
 use Rattle.s7_base.specs.declared.check.Check.TheVariants as check
 use Rattle.s7_base.specs.declared.check.Entry.{Entry}
 use Rattle.s7_base.specs.declared.register.Reg.{Reg}
 use Rattle.s7_base.specs.declared.register.Reg.TheVariants as reg
-use Rattle.stl_tree.specs.Brackets.{closed_with, opened, pushed}
-use Rattle.stl_tree.specs.Now.{Activation, Now, next, with_status}
+use Rattle.stl_tree.specs.Brackets.{closed_with, pushed}
+use Rattle.stl_tree.specs.Instructions.{effect_of}
+use Rattle.stl_tree.specs.Now.{Now, next, with_status}
 use Rattle.stl_tree.specs.declared.program.Op.TheVariants as op
 use Rattle.st_tree.specs.Meaning.{Calls, Normal, body_meaning}
 use Rattle.st_tree.specs.State.{State, type_of_register, with_register}
@@ -23,17 +23,18 @@ use Rattle.st_tree.specs.declared.expr.Var.TheVariants as var
 use Rattle.st_tree.specs.declared.program.Located.{Located}
 use Rattle.st_tree.specs.declared.program.Stmt.{Stmt}
 use Rattle.st_tree.proofs.Equations.{assign_goes_on}
-use Rattle.instruction_lowering.specs.declared.statements.Chain.{Chain}
-use Rattle.instruction_lowering.specs.declared.statements.OpenBracket.{OpenBracket}
-use Rattle.instruction_lowering.specs.declared.statements.Spot.{Spot}
-use Rattle.instruction_lowering.specs.inner.Templates.{behind, behind_close, chain_at, close_of, keep_of, next_rlo, open_of}
+use Rattle.bit_templates.specs.declared.chain.Chain.{Chain}
+use Rattle.bit_templates.specs.declared.chain.OpenBracket.{OpenBracket}
+use Rattle.bit_templates.specs.Bits.{keep_of, next_rlo}
+use Rattle.bit_templates.specs.Brackets.{KeepsBracket, behind_close, bracket_at, close_of, open_of}
 use Rattle.row_templates.specs.Builders.{cleared, literal_of, read_of, set_of}
-use Rattle.row_templates.proofs.Alike.{AreAlike, IsKept, Related, keep_activations, keep_bits, keep_brackets}
-use Rattle.instruction_lowering.proofs.Does.{Does}
+use Rattle.row_templates.specs.Related.{AreAlike, Frames, Related}
+use Rattle.row_templates.proofs.Alike.{keep_bits, keep_brackets, keep_local}
+use Rattle.row_templates.specs.DoesRow.{DoesRow, Leads, own_of}
+use Rattle.bit_templates.specs.BitLaw.{Opens}
 use Rattle.row_templates.proofs.Operands.{cleared_registers, clears, rlo_worth, sets}
-use Rattle.instruction_lowering.proofs.Temporaries.{KeepBrackets, Keeps, KeepsBracket, as_many, kept_below}
-use Rattle.row_templates.proofs.Locals.{as_deep, local_read, local_wrote, own_of, own_set, set_length, set_other, set_same, with_own}
-use Rattle.instruction_lowering.proofs.Chains.{IsChain, checked_worth}
+use Rattle.row_templates.proofs.Locals.{local_read, local_wrote, own_set, set_length, set_other, set_same, with_own}
+use Rattle.bit_templates.proofs.Chains.{IsChain, checked_worth}
 use Rattle.row_templates.proofs.Truths.{literal_worth, register_worth}
 
 module _ (g : List Located) (calls : Calls) (units : ℕ) where
@@ -75,7 +76,7 @@ third_got xs first a b c h =
     let longer : length (slice_set (slice_set xs first a) (first + 1) b) ≡ length (slice_set xs first a) = set_length (slice_set xs first a) (first + 1) b in
     set_same (slice_set (slice_set xs first a) (first + 1) b) (first + 2) c (omega arith)
 
-module _ (g : List Located) (calls : Calls) (units : ℕ) (acts : List Activation) (now : Now) (s : State) (related : Related acts now s) (total : ℕ) (p : Spot) (keeps : Keeps total p now.brackets s.activations) where
+module _ (g : List Located) (calls : Calls) (units : ℕ) (frames : Frames) (now : Now) (s : State) (related : Related frames now s) (used : ℕ) where
   abbrev bits : StatusBits
   bits = now.registers.status
 
@@ -84,88 +85,72 @@ module _ (g : List Located) (calls : Calls) (units : ℕ) (acts : List Activatio
 
   -- A bracket is opened
 
-  open_alike : AreAlike IsKept (record now.registers { status = after_open bits }) (cleared_registers g calls units false s.registers)
+  open_alike : AreAlike (record now.registers { status = after_open bits }) (cleared_registers g calls units false s.registers)
   open_alike reg.Nfc asked = refl
   open_alike reg.Orb asked = refl
   open_alike reg.Sta asked = elim asked [ ]
   open_alike q asked = related.registers q asked
 
   abbrev one : State
-  one = with_own p.used (flag bits.rlo) s
+  one = with_own used (flag bits.rlo) s
 
   abbrev two : State
-  two = with_own (p.used + 1) (flag bits.orb) one
+  two = with_own (used + 1) (flag bits.orb) one
 
   abbrev three : State
-  three = with_own (p.used + 2) (flag bits.nfc) two
+  three = with_own (used + 2) (flag bits.nfc) two
 
-  own_three : own_of three.activations ≡ three_set own p.used (flag bits.rlo) (flag bits.orb) (flag bits.nfc)
+  own_three : own_of three.activations ≡ three_set own used (flag bits.rlo) (flag bits.orb) (flag bits.nfc)
   own_three =
-      own_set (p.used + 2) (flag bits.nfc) two
-      ∙ ap (λ xs. slice_set xs (p.used + 2) (flag bits.nfc)) (own_set (p.used + 1) (flag bits.orb) one)
-      ∙ ap (λ xs. slice_set (slice_set xs (p.used + 1) (flag bits.orb)) (p.used + 2) (flag bits.nfc)) (own_set p.used (flag bits.rlo) s)
+      own_set (used + 2) (flag bits.nfc) two
+      ∙ ap (λ xs. slice_set xs (used + 2) (flag bits.nfc)) (own_set (used + 1) (flag bits.orb) one)
+      ∙ ap (λ xs. slice_set (slice_set xs (used + 1) (flag bits.orb)) (used + 2) (flag bits.nfc)) (own_set used (flag bits.rlo) s)
 
   as_long_one : length (own_of one.activations) ≡ length own
-  as_long_one = ap length (own_set p.used (flag bits.rlo) s) ∙ set_length own p.used (flag bits.rlo)
+  as_long_one = ap length (own_set used (flag bits.rlo) s) ∙ set_length own used (flag bits.rlo)
 
   as_long_two : length (own_of two.activations) ≡ length (own_of one.activations)
-  as_long_two = ap length (own_set (p.used + 1) (flag bits.orb) one) ∙ set_length (own_of one.activations) (p.used + 1) (flag bits.orb)
+  as_long_two = ap length (own_set (used + 1) (flag bits.orb) one) ∙ set_length (own_of one.activations) (used + 1) (flag bits.orb)
 
-  deep : length three.activations ≡ length s.activations
-  deep =
-      as_deep two.activations _ (p.used + 2) (flag bits.nfc)
-      ∙ as_deep one.activations _ (p.used + 1) (flag bits.orb) ∙ as_deep s.activations _ p.used (flag bits.rlo)
-
-  opened_keeps : (c : Check) → p.used + 3 ≤ total → Keeps total (behind (op.Bracket c) p) (entry_of c bits ∷ now.brackets) three.activations
+  -- the locals keep the bracket, and those below are as they were
+  opened_keeps : (c : Check) → used + 3 ≤ length own → KeepsBracket (used + 3) (bracket_at used c) (entry_of c bits) (own_of three.activations)
   opened_keeps c room =
-      let long : length own ≡ total = keeps.0 in
-      let xs : List Value = three_set own p.used (flag bits.rlo) (flag bits.orb) (flag bits.nfc) in
-      let kept : KeepsBracket (p.used + 3) (record { check = c; kept = chain_at p.used }) (entry_of c bits) xs =
+      let kept : KeepsBracket (used + 3) (bracket_at used c) (entry_of c bits) (three_set own used (flag bits.rlo) (flag bits.orb) (flag bits.nfc)) =
       record {
-        first = p.used;
+        first = used;
         kept = refl;
         below = omega arith;
         check = refl;
-        rlo = first_got own p.used (flag bits.rlo) (flag bits.orb) (flag bits.nfc) (omega arith);
-        orb = second_got own p.used (flag bits.rlo) (flag bits.orb) (flag bits.nfc) (omega arith);
-        nfc = third_got own p.used (flag bits.rlo) (flag bits.orb) (flag bits.nfc) (omega arith);
+        rlo = first_got own used (flag bits.rlo) (flag bits.orb) (flag bits.nfc) room;
+        orb = second_got own used (flag bits.rlo) (flag bits.orb) (flag bits.nfc) room;
+        nfc = third_got own used (flag bits.rlo) (flag bits.orb) (flag bits.nfc) room;
       } in
-      subst (λ (ys : List Value). (length ys ≡ total) × KeepBrackets (p.used + 3) (record { check = c; kept = chain_at p.used } ∷ p.brackets) (entry_of c bits ∷ now.brackets) ys)
-      (sym own_three) (
-        three_length own p.used (flag bits.rlo) (flag bits.orb) (flag bits.nfc) ∙ long,
-        (
-          kept,
-          kept_below p.used (p.used + 3) p.brackets now.brackets own xs (omega arith)
-              (λ i below. three_other own p.used i (flag bits.rlo) (flag bits.orb) (flag bits.nfc) below) keeps.1,
-        ),
-      )
+      subst (KeepsBracket (used + 3) (bracket_at used c) (entry_of c bits)) (sym own_three) kept
 
-  -- there is room for one more
-  pushes : (e : Entry) → nat_lt (length p.brackets) most_open ≡ true → pushed e now.brackets ≡ e ∷ now.brackets
-  pushes e room =
-      ap (λ n. if nat_lt n most_open then e ∷ now.brackets else now.brackets) (as_many p.used p.brackets now.brackets own keeps.1)
-      ∙ ap (λ b. if b then e ∷ now.brackets else now.brackets) room
-
-  pub open_does : (c : Check) → nat_lt (length p.brackets) most_open ≡ true → p.used + 3 ≤ total
-      → Does (body_meaning g calls (open_of p.used) units s) units total (behind (op.Bracket c) p) acts now.memory (next (opened c now))
-  open_does c free room =
-      let long : length own ≡ total = keeps.0 in
+  pub open_does : (c : Check) → used + 3 ≤ length own → Opens (body_meaning g calls (open_of used) units s) units used frames s c now
+  open_does c room =
       let long_one = as_long_one in
       let long_two = as_long_two in
+      let entries : List Entry = pushed (entry_of c bits) now.brackets in
+      let after : Now = record now { brackets = entries } in
+      let begun : Related frames after s = keep_brackets frames now s related entries in
+      let first : Related frames after one = keep_local frames after s begun used (flag bits.rlo) in
+      let second : Related frames after two = keep_local frames after one first (used + 1) (flag bits.orb) in
+      let third : Related frames after three = keep_local frames after two second (used + 2) (flag bits.nfc) in
       let u : State = record three { registers = cleared_registers g calls units false s.registers } in
-      subst (λ (entries : List Entry). Does (body_meaning g calls (open_of p.used) units s) units total (behind (op.Bracket c) p) acts now.memory
-      (next (with_status after_open (record now { brackets = entries }))))
-      (sym (pushes (entry_of c bits) free)) (
-        u,
-        keeps_value g calls units p.used reg.Rlo bits.rlo (keep_of (p.used + 1) reg.Orb ∷ keep_of (p.used + 2) reg.Nfc ∷ cleared false) s (omega arith) refl (related.registers reg.Rlo tt)
-            ∙ keeps_value g calls units (p.used + 1) reg.Orb bits.orb (keep_of (p.used + 2) reg.Nfc ∷ cleared false) one (omega arith) refl (related.registers reg.Orb tt)
-            ∙ keeps_value g calls units (p.used + 2) reg.Nfc bits.nfc (cleared false) two (omega arith) refl (related.registers reg.Nfc tt)
-            ∙ clears g calls units false three,
-        keep_bits IsKept acts (record now { brackets = entry_of c bits ∷ now.brackets }) three
-            (keep_activations IsKept acts (record now { brackets = entry_of c bits ∷ now.brackets }) s (keep_brackets IsKept acts now s related (entry_of c bits ∷ now.brackets)) three.activations deep)
-            IsKept (after_open bits) u.registers open_alike,
-        opened_keeps c room,
-      )
+      record {
+        leads = record {
+          to = u;
+          goes = keeps_value g calls units used reg.Rlo bits.rlo (keep_of (used + 1) reg.Orb ∷ keep_of (used + 2) reg.Nfc ∷ cleared false) s (omega arith) refl (related.registers reg.Rlo tt)
+              ∙ keeps_value g calls units (used + 1) reg.Orb bits.orb (keep_of (used + 2) reg.Nfc ∷ cleared false) one (omega arith) refl (related.registers reg.Orb tt)
+              ∙ keeps_value g calls units (used + 2) reg.Nfc bits.nfc (cleared false) two (omega arith) refl (related.registers reg.Nfc tt)
+              ∙ clears g calls units false three;
+          related = keep_bits frames after three third (after_open bits) u.registers open_alike;
+          as_many = ap length own_three ∙ three_length own used (flag bits.rlo) (flag bits.orb) (flag bits.nfc);
+          below = λ i below. ap (λ (xs : List Value). slice_get xs i) own_three ∙ three_other own used i (flag bits.rlo) (flag bits.orb) (flag bits.nfc) below;
+        };
+        keeps = opened_keeps c room;
+      }
 
   -- One is closed
 
@@ -199,7 +184,7 @@ module _ (g : List Located) (calls : Calls) (units : ℕ) (acts : List Activatio
   closing c e = record bits { rlo = rlo_after c bits.rlo (restored e bits); orb = orb_after c (restored e bits); sta = true; nfc = true }
 
   orb_back : (c : Check) (e : Entry) → orb_after c (restored e bits) ≡ e.orb
-      → AreAlike IsKept (record now.registers { status = closing c e }) (with_register reg.Nfc (pos 1) (with_register reg.Orb (number_of e.orb) (with_register reg.Rlo (number_of (rlo_after c bits.rlo (restored e bits))) s.registers)))
+      → AreAlike (record now.registers { status = closing c e }) (with_register reg.Nfc (pos 1) (with_register reg.Orb (number_of e.orb) (with_register reg.Rlo (number_of (rlo_after c bits.rlo (restored e bits))) s.registers)))
   orb_back c e same reg.Rlo asked = refl
   orb_back c e same reg.Nfc asked = refl
   orb_back c e same reg.Orb asked = ap number_of (sym same)
@@ -207,14 +192,14 @@ module _ (g : List Located) (calls : Calls) (units : ℕ) (acts : List Activatio
   orb_back c e same q asked = related.registers q asked
 
   orb_clear : (c : Check) (e : Entry) → orb_after c (restored e bits) ≡ false
-      → AreAlike IsKept (record now.registers { status = closing c e }) (cleared_registers g calls units true (with_register reg.Rlo (number_of (rlo_after c bits.rlo (restored e bits))) s.registers))
+      → AreAlike (record now.registers { status = closing c e }) (cleared_registers g calls units true (with_register reg.Rlo (number_of (rlo_after c bits.rlo (restored e bits))) s.registers))
   orb_clear c e same reg.Rlo asked = refl
   orb_clear c e same reg.Nfc asked = refl
   orb_clear c e same reg.Orb asked = ap number_of (sym same)
   orb_clear c e same reg.Sta asked = elim asked [ ]
   orb_clear c e same q asked = related.registers q asked
 
-  close_alike : (c : Check) (e : Entry) → AreAlike IsKept (record now.registers { status = closing c e }) (close_registers c e.orb (with_register reg.Rlo (number_of (rlo_after c bits.rlo (restored e bits))) s.registers))
+  close_alike : (c : Check) (e : Entry) → AreAlike (record now.registers { status = closing c e }) (close_registers c e.orb (with_register reg.Rlo (number_of (rlo_after c bits.rlo (restored e bits))) s.registers))
   close_alike check.A e = orb_back check.A e refl
   close_alike check.An e = orb_back check.An e refl
   close_alike check.O e = orb_clear check.O e refl
@@ -223,7 +208,7 @@ module _ (g : List Located) (calls : Calls) (units : ℕ) (acts : List Activatio
   close_alike check.Xn e = orb_clear check.Xn e refl
 
   -- the three locals, as the chain from before the bracket
-  chain_kept : (o : OpenBracket) (e : Entry) (t : State) → t.activations ≡ s.activations → KeepsBracket p.used o e own → IsChain g t o.kept (restored e bits)
+  chain_kept : (o : OpenBracket) (e : Entry) (t : State) → t.activations ≡ s.activations → KeepsBracket used o e own → IsChain g t o.kept (restored e bits)
   chain_kept o e t same k =
       let at : own_of t.activations ≡ own = ap own_of same in
       subst (λ (chain : Chain). IsChain g t chain (restored e bits)) (sym k.kept)
@@ -237,29 +222,31 @@ module _ (g : List Located) (calls : Calls) (units : ℕ) (acts : List Activatio
   by_check : (e : Entry) (c : Check) → c ≡ e.check → closing c e ≡ after_close e bits
   by_check e c same = ap (λ c. closing c e) same
 
-  close_goes : (o : OpenBracket) (outer : List OpenBracket) (e : Entry) (entries : List Entry) → KeepsBracket p.used o e own → KeepBrackets p.used outer entries own
-      → Does (body_meaning g calls (close_of (o ∷ outer)) units s) units total (record { used = p.used; brackets = outer }) acts now.memory
-      (next (with_status (after_close e) (record now { brackets = entries })))
-  close_goes o outer e entries k more =
+  -- the innermost bracket, which the locals keep
+  close_goes : (o : OpenBracket) (e : Entry) (entries : List Entry) → KeepsBracket used o e own
+      → Leads (body_meaning g calls (close_of o) units s) units used frames s (with_status (after_close e) (record now { brackets = entries }))
+  close_goes o e entries k =
       let c : Check = o.check in
       let rlo : Bool = rlo_after c bits.rlo (restored e bits) in
       let t : State = record s { registers = with_register reg.Rlo (number_of rlo) s.registers } in
       let u : State = record t { registers = close_registers c e.orb t.registers } in
       let here = chain_kept o e s refl k in
       let there = chain_kept o e t refl k in
-      subst (λ (status : StatusBits). Does (body_meaning g calls (close_of (o ∷ outer)) units s) units total (record { used = p.used; brackets = outer }) acts now.memory
-      (next (record now { registers = record now.registers { status = status }; brackets = entries })))
-      (by_check e c k.check) (
-        u,
-        sets g calls units reg.Rlo (next_rlo o.kept c (read_of reg.Rlo)) rlo (behind_close c o.kept.orb) s
-            (checked_worth g s o.kept (restored e bits) here c (read_of reg.Rlo) bits.rlo (rlo_worth g acts now s related))
-            ∙ goes_behind c o.kept.orb e.orb t there.orb,
-        keep_bits IsKept acts (record now { brackets = entries }) s (keep_brackets IsKept acts now s related entries) IsKept (closing c e) u.registers (close_alike c e),
-        (keeps.0, more),
-      )
+      subst (λ (status : StatusBits). Leads (body_meaning g calls (close_of o) units s) units used frames s
+      (record now { registers = record now.registers { status = status }; brackets = entries }))
+      (by_check e c k.check)
+      (record {
+        to = u;
+        goes = sets g calls units reg.Rlo (next_rlo o.kept c (read_of reg.Rlo)) rlo (behind_close c o.kept.orb) s
+            (checked_worth g s o.kept (restored e bits) here c (read_of reg.Rlo) bits.rlo (rlo_worth g frames now s related))
+            ∙ goes_behind c o.kept.orb e.orb t there.orb;
+        related = keep_bits frames (record now { brackets = entries }) s (keep_brackets frames now s related entries) (closing c e) u.registers (close_alike c e);
+        as_many = refl;
+        below = λ i small. refl;
+      })
 
-  pub close_does : (brackets : List OpenBracket) (entries : List Entry) → brackets ≢ [] → KeepBrackets p.used brackets entries own
-      → Does (body_meaning g calls (close_of brackets) units s) units total (behind op.Close (record { used = p.used; brackets = brackets })) acts now.memory (next (closed_with entries now))
-  close_does [] entries some kept = absurd (some refl)
-  close_does (o ∷ outer) [] some kept = elim kept [ ]
-  close_does (o ∷ outer) (e ∷ entries) some kept = close_goes o outer e entries kept.0 kept.1
+  pub close_does : (o : OpenBracket) (e : Entry) (entries : List Entry) → now.brackets ≡ e ∷ entries → KeepsBracket used o e own
+      → DoesRow (body_meaning g calls (close_of o) units s) units used frames s now.memory (effect_of op.Close now)
+  close_does o e entries same k =
+      subst (λ (all : List Entry). DoesRow (body_meaning g calls (close_of o) units s) units used frames s now.memory (next (closed_with all now))) (sym same)
+      (close_goes o e entries k)

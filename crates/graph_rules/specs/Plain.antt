@@ -1,8 +1,10 @@
 -- The graph programs that the passes of a translation hand on: they keep the rules of a text, and those of graphs.
-use Rattle.std.specs.Prelude.{◌≡◌, ◌≢◌, ℕ, suc, ◌≤◌, ◌<◌, pos, Bool, true, false, ◌&&◌, List, [], ◌∷◌, ◌++◌, length, map, flat_map, All, slice_get, Some}
+use Rattle.std.specs.Prelude.{◌≡◌, ◌≢◌, ℕ, suc, ◌≤◌, ◌<◌, pos, Bool, true, false, ◌&&◌, List, [], ◌∷◌, ◌++◌, length, map, flat_map, All, slice_get, Some, codes, decimal}
 use Rattle.s7_base.specs.declared.register.Reg.TheVariants as reg
 use Rattle.memory_areas.specs.declared.place.AreaName.TheVariants as area
-use Rattle.st_tree.specs.Parts.{calls_in, expressions_in, height}
+use Rattle.graph_rules.specs.Divisors.{IsSureDivisor, divisors_in}
+use Rattle.graph_rules.specs.Runs.{AreOfRuns, AreWritten, locals_of, written_by}
+use Rattle.st_tree.specs.Parts.{calls_in, expressions_in, height, reads_of}
 use Rattle.st_tree.specs.Proper.{Proper}
 use Rattle.st_tree.specs.declared.expr.BinaryOp.TheVariants as binary
 use Rattle.st_tree.specs.declared.expr.Expr.{Expr, fold-Expr}
@@ -18,6 +20,7 @@ use Rattle.st_tree.specs.declared.graph.StExit.TheVariants as exit
 use Rattle.st_tree.specs.declared.graph.StNode.{StNode}
 use Rattle.st_tree.specs.declared.program.Arm.{Arm, out-Arm}
 use Rattle.st_tree.specs.declared.program.CaseArm.{CaseArm}
+use Rattle.st_tree.specs.declared.program.Local.{Local}
 use Rattle.st_tree.specs.declared.program.StProgram.{StProgram}
 use Rattle.st_tree.specs.declared.program.Stmt.{Stmt, out-Stmt}
 use Rattle.st_tree.specs.declared.program.Stmt.TheOpen as S
@@ -46,40 +49,6 @@ listed_text graph =
       globals = graph.globals;
       pous = map (λ (u : GraphPou). record u.head { body = listed u.graph.nodes }) graph.pous;
     }
-
--- Steps
-
--- the DB and the DI register are put back
-abbrev pub ArePutBack : List Stmt → Type 0
-ArePutBack [] = Unit {0}
-ArePutBack (stmt.Assign (var.Register reg.DbNo) e ∷ rest) = ArePutBack rest
-ArePutBack (stmt.Assign (var.Register reg.DiNo) e ∷ rest) = ArePutBack rest
-ArePutBack (other ∷ rest) = ⊥
-
--- values are put into locals, then one unit is called, then the DB and the DI register are put back
-abbrev pub IsGuarded : List Stmt → Type 0
-IsGuarded (stmt.Assign (var.Local i) e ∷ rest) = IsGuarded rest
-IsGuarded (stmt.Invoke n vars ∷ rest) = ArePutBack rest
-IsGuarded other = ⊥
-
--- a step is an assignment, an area write, a call, or a call under an IF without ELSE
-abbrev pub IsStep : S.Stmt-F Stmt Arm CaseArm → Type 0
-IsStep (S.Assign v e) = Unit {0}
-IsStep (S.AreaWrite w p e) = Unit {0}
-IsStep (S.Invoke n vars) = Unit {0}
-IsStep (S.If (arm ∷ []) []) = IsGuarded (out-Arm arm).body
-IsStep other = ⊥
-
--- each of some statements is a step
-abbrev pub AreSteps : List Stmt → Type 0
-AreSteps [] = Unit {0}
-AreSteps (x ∷ rest) = IsStep (out-Stmt x) × AreSteps rest
-
--- each of some steps puts a literal into a register variable
-abbrev pub AreSettings : List Stmt → Type 0
-AreSettings [] = Unit {0}
-AreSettings (stmt.Assign (var.Register r) (expr.Literal ty n) ∷ rest) = AreSettings rest
-AreSettings (other ∷ rest) = ⊥
 
 -- Expressions
 
@@ -113,14 +82,54 @@ faultless_step (E.AreaRead w pointer) = false
 abbrev pub is_faultless : Expr → Bool
 is_faultless = fold-Expr Bool faultless_step
 
--- the test of an exit has none
+-- Steps
+
+-- the DB and the DI register are put back, from locals
+abbrev pub ArePutBack : List Stmt → Type 0
+ArePutBack [] = Unit {0}
+ArePutBack (stmt.Assign (var.Register reg.DbNo) (expr.Read (var.Local i)) ∷ rest) = ArePutBack rest
+ArePutBack (stmt.Assign (var.Register reg.DiNo) (expr.Read (var.Local i)) ∷ rest) = ArePutBack rest
+ArePutBack (other ∷ rest) = ⊥
+
+-- values are put into locals, then one unit is called, then the DB and the DI register are put back
+abbrev pub IsGuarded : List Stmt → Type 0
+IsGuarded (stmt.Assign (var.Local i) e ∷ rest) = IsGuarded rest
+IsGuarded (stmt.Invoke n vars ∷ rest) = ArePutBack rest
+IsGuarded other = ⊥
+
+-- a step is an assignment, an area write, a call, or a call under an IF without ELSE, whose test has no fault
+abbrev pub IsStep : S.Stmt-F Stmt Arm CaseArm → Type 0
+IsStep (S.Assign v e) = Unit {0}
+IsStep (S.AreaWrite w p e) = Unit {0}
+IsStep (S.Invoke n vars) = Unit {0}
+IsStep (S.If (arm ∷ []) []) = (is_faultless (out-Arm arm).test ≡ true) × IsGuarded (out-Arm arm).body
+IsStep other = ⊥
+
+-- each of some statements is a step
+abbrev pub AreSteps : List Stmt → Type 0
+AreSteps [] = Unit {0}
+AreSteps (x ∷ rest) = IsStep (out-Stmt x) × AreSteps rest
+
+-- each of some steps puts a literal into a register variable
+abbrev pub AreSettings : List Stmt → Type 0
+AreSettings [] = Unit {0}
+AreSettings (stmt.Assign (var.Register r) (expr.Literal ty n) ∷ rest) = AreSettings rest
+AreSettings (other ∷ rest) = ⊥
+
+-- Exits
+
+-- the expression of an exit, if it has one
+abbrev pub tests_of : StExit → List Expr
+tests_of exit.Fall = []
+tests_of (exit.Jump j) = []
+tests_of (exit.Branch e j) = e ∷ []
+tests_of (exit.EndIf e) = e ∷ []
+tests_of (exit.Table e targets last) = e ∷ []
+tests_of exit.End = []
+
+-- the test of an exit has no fault
 abbrev pub HasSureTest : StExit → Type 0
-HasSureTest exit.Fall = Unit {0}
-HasSureTest (exit.Jump j) = Unit {0}
-HasSureTest (exit.Branch e j) = is_faultless e ≡ true
-HasSureTest (exit.EndIf e) = is_faultless e ≡ true
-HasSureTest (exit.Table e targets last) = is_faultless e ≡ true
-HasSureTest exit.End = Unit {0}
+HasSureTest exit = All (λ (e : Expr). is_faultless e ≡ true) (tests_of exit)
 
 -- no register variable is given to a call
 abbrev pub IsGivenOn : Var → Type 0
@@ -147,21 +156,32 @@ pub record IsOnlyEnd (count at : ℕ) (node : StNode) : Type 0 where
   pub few : length node.steps ≤ 4
   pub settings : AreSettings node.steps
 
--- the node at a position of a unit of so many
+-- the node at a position of a unit of so many; its locals are temporaries: the test of its exit reads those alone
+-- that the last run of its steps has written
 pub record IsPlainNode (count at : ℕ) (node : StNode) : Type 0 where
   pub steps : AreSteps node.steps
+  pub runs : AreOfRuns node.steps
+  pub ending : AreWritten (written_by node.steps) (locals_of (flat_map reads_of (tests_of node.exit)))
   pub exit : LeadsInside count at node.exit
   pub test : HasSureTest node.exit
   pub only_end : node.only_end ≡ true → IsOnlyEnd count at node
 
--- a unit: its head has no body, and there are 1 to 32,769 nodes; its expressions are at most 32 high
+-- a local has the name of a temporary, which is T and a number
+pub record IsTemporary (local : Local) : Type 0 where
+  pub number : ℕ
+  pub name : local.name ≡ codes "T" ++ decimal number
+
+-- a unit: its head has no body, and there are 1 to 32,769 nodes; its locals are named as temporaries; its expressions
+-- are at most 32 high, and no division of them has a fault
 pub record IsPlainUnit (unit : GraphPou) : Type 0 where
   pub body : unit.head.body ≡ []
   pub some : unit.graph.nodes ≢ []
   pub few : length unit.graph.nodes ≤ 32769
   pub nodes : (at : ℕ) (node : StNode) → slice_get unit.graph.nodes at ≡ Some node
       → IsPlainNode (length unit.graph.nodes) at node
+  pub names : All IsTemporary unit.head.locals
   pub low : All (λ (e : Expr). height e ≤ 32) (expressions_in (listed unit.graph.nodes))
+  pub divisors : All IsSureDivisor (divisors_in (listed unit.graph.nodes))
   pub calls : All (λ (call : ℕ × List Var). All IsGivenOn call.1) (calls_in (listed unit.graph.nodes))
 
 -- a graph program: its steps and tests are those of a proper text without globals, and its units are plain

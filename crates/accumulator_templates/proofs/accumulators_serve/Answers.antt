@@ -1,0 +1,5 @@
+use Rattle.accumulator_templates.proofs.InstructionRows.{accumulator_serves}
+use Rattle.accumulator_templates.proofs.accumulators_serve.Goals as goal
+
+pub returns : goal.returns
+returns c = accumulator_serves

@@ -1,0 +1,3 @@
+pub mod BitLaw
+pub mod Bits
+pub mod Brackets

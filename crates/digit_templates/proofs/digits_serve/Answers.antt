@@ -1,0 +1,5 @@
+use Rattle.digit_templates.proofs.LawRows.{digits_serve}
+use Rattle.digit_templates.proofs.digits_serve.Goals as goal
+
+pub returns : goal.returns
+returns c = digits_serve

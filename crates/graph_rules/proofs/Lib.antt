@@ -1,0 +1,4 @@
+pub mod Divisors
+pub mod LocalOrder
+pub mod Nesting
+pub mod Runs

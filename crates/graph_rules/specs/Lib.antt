@@ -1,0 +1,3 @@
+pub mod Divisors
+pub mod Plain
+pub mod Runs

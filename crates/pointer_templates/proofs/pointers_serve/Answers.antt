@@ -1,0 +1,5 @@
+use Rattle.pointer_templates.proofs.InstructionRows.{pointers_serve}
+use Rattle.pointer_templates.proofs.pointers_serve.Goals as goal
+
+pub returns : goal.returns
+returns c = pointers_serve
