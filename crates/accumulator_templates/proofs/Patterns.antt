@@ -11,7 +11,9 @@ use Rattle.s7_base.specs.SignedNumbers.{number, pattern}
 
 -- a low byte put under the bytes above it
 pub put_byte : (a w : ℕ) → a < 2 ^ 32 → w < 2 ^ 8
-    → pattern 32 (pos (bit_or (pattern 32 (pos (pattern 32 (pos (bit_and (pattern 32 (pos a)) (pattern 32 (pos 4294967040))))))) (pattern 32 (pos (pattern 32 (pos w)))))) ≡ a / 2 ^ 8 * 2 ^ 8 + w
+    → pattern 32
+    (pos (bit_or (pattern 32 (pos (pattern 32 (pos (bit_and (pattern 32 (pos a)) (pattern 32 (pos 4294967040))))))) (pattern 32 (pos (pattern 32 (pos w))))))
+    ≡ a / 2 ^ 8 * 2 ^ 8 + w
 put_byte a w h k =
     let high : bit_and a 4294967040 ≡ a / 2 ^ 8 * 2 ^ 8 = and_high_mask 32 8 (omega arith) a h in
     let e : a % 2 ^ 32 ≡ a = omega arith in

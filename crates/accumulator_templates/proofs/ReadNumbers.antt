@@ -3,7 +3,7 @@ use Rattle.std.proofs.Common.{◌≡◌, ℕ, zero, suc, ◌+◌, ◌^◌, ◌<�
 use Rattle.std.specs.Prelude.{All}
 use Rattle.std.specs.Int.{from_bool}
 use Rattle.std.proofs.lemmas.List.Elements.{All-head, All-tail}
-use Rattle.memory_areas.specs.Access.{HoldsBytes, aimed, and_then, bits_wide, bytes_there, fault_of, read_bit, unless}
+use Rattle.memory_areas.specs.Access.{HoldsBytes, aim_of_place, and_then, bits_wide, bytes_there, fault_of, read_bit, unless}
 use Rattle.memory_areas.specs.Areas.{Contents, byte_at, dword_at, word_at}
 use Rattle.memory_areas.specs.declared.place.Place.{Place}
 use Rattle.s7_base.specs.declared.outcome.Fault.{Fault}
@@ -39,11 +39,11 @@ truth (Err f) v e = absurd cc
 pub number_fits : (w : Width) (p : Place) (m : Contents) (v : ℕ) → HoldsBytes m → read_number w p m ≡ Ok v → v < 2 ^ bits_wide w
 number_fits width.Bit p m v h e = truth (read_bit p m) v e
 number_fits width.Byte p m v h e =
-    computed (fault_of (aimed p) width.Byte m) (bytes_there (Some p.area) m) (λ bytes. byte_at bytes p.byte) (2 ^ 8) v
+    computed (fault_of (aim_of_place p) width.Byte m) (bytes_there (Some p.area) m) (λ bytes. byte_at bytes p.byte) (2 ^ 8) v
     (byte_fits (bytes_there (Some p.area) m) p.byte (h p.area)) e
 number_fits width.Word p m v h e =
-    computed (fault_of (aimed p) width.Word m) (bytes_there (Some p.area) m) (λ bytes. word_at bytes p.byte) (2 ^ 16) v
+    computed (fault_of (aim_of_place p) width.Word m) (bytes_there (Some p.area) m) (λ bytes. word_at bytes p.byte) (2 ^ 16) v
     (word_fits (bytes_there (Some p.area) m) p.byte (h p.area)) e
 number_fits width.Dword p m v h e =
-    computed (fault_of (aimed p) width.Dword m) (bytes_there (Some p.area) m) (λ bytes. dword_at bytes p.byte) (2 ^ 32) v
+    computed (fault_of (aim_of_place p) width.Dword m) (bytes_there (Some p.area) m) (λ bytes. dword_at bytes p.byte) (2 ^ 32) v
     (dword_fits (bytes_there (Some p.area) m) p.byte (h p.area)) e

@@ -14,11 +14,11 @@ use Rattle.st_tree.specs.declared.expr.Expr.{Expr}
 use Rattle.st_tree.specs.declared.expr.StType.TheVariants as type
 use Rattle.st_tree.specs.declared.program.Located.{Located}
 use Rattle.st_tree.proofs.Equations.{value_binary}
-use Rattle.row_templates.specs.Builders.{binary_of, or_of}
-use Rattle.accumulator_templates.specs.Parts.{with_byte_of, with_low_of}
+use Rattle.template_parts.specs.Builders.{binary_of, or_of}
+use Rattle.accumulator_templates.specs.AccumulatorParts.{with_byte_of, with_low_of}
 use Rattle.accumulator_templates.proofs.Patterns.{or_high, or_low, put_byte}
-use Rattle.row_templates.proofs.Numbers.{put_low}
-use Rattle.row_templates.proofs.Stages.{parts, stage}
+use Rattle.template_parts.proofs.Numbers.{put_low}
+use Rattle.template_parts.proofs.Stages.{parts, stage}
 
 -- a pattern as a value
 abbrev pub dword : ℕ → Value
@@ -30,7 +30,8 @@ word n = record { ty = type.Word; n = pos n }
 abbrev pub byte : ℕ → Value
 byte n = record { ty = type.Byte; n = pos n }
 
-module _ (g : List Located) (s : State) (used : ℕ) (kept : List Value) (registers : Reg → ℤ) (a : ℕ) (one : registers reg.Accu1 ≡ pos a) (small : a < 2 ^ 32) where
+module _ (g : List Located) (s : State) (used : ℕ) (kept : List Value) (registers : Reg → ℤ)
+    (a : ℕ) (one : registers reg.Accu1 ≡ pos a) (small : a < 2 ^ 32) where
   -- ACCU1 with another low word
   pub low_worth : (e : Expr) (w : ℕ) → w < 2 ^ 16 → value g e (stage s used kept registers) ≡ Ok (word w)
       → value g (with_low_of e) (stage s used kept registers) ≡ Ok (dword (a / 2 ^ 16 * 2 ^ 16 + w))

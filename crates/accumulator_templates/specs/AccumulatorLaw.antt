@@ -9,8 +9,8 @@ use Rattle.stl_tree.specs.declared.program.LoadArg.{LoadArg}
 use Rattle.stl_tree.specs.declared.program.Op.TheVariants as op
 use Rattle.stl_tree.specs.declared.program.OpenArg.{OpenArg}
 use Rattle.stl_tree.specs.declared.program.Operand.{Operand}
-use Rattle.row_templates.specs.Fetching.{types_reached}
-use Rattle.row_templates.specs.Templates.{Serves}
+use Rattle.template_parts.specs.Fetching.{types_reached}
+use Rattle.template_parts.specs.Templates.{Serves}
 use Rattle.accumulator_templates.specs.Conversions.{cad_of, caw_of, invd_of, invi_of, itd_of}
 use Rattle.accumulator_templates.specs.DataBlocks.{block_exchange_of, block_open_of, number_load_of, types_of_block_exchange, types_of_block_open}
 use Rattle.accumulator_templates.specs.Logic.{logic_of, types_of_logic}
@@ -20,7 +20,8 @@ use Rattle.accumulator_templates.specs.Sums.{add_dword_of, add_word_of, dec_of, 
 -- the statements of each instruction serve it, with their locals from any one on, where it has an operand and
 -- constants that an accepted program may give it
 pub record AccumulatorServes : Type 0 where
-  pub load : (a : LoadArg) (first : ℕ) → HasOperand (op.Load a) → Serves (op.Load a) first (types_of_load a) (load_of first a)
+  pub load : (a : LoadArg) (first : ℕ) → HasOperand (op.Load a)
+      → Serves (op.Load a) first (types_of_load a) (load_of first a)
   pub transfer : (o : Operand) (w : Width) (first : ℕ) → HasOperand (op.Transfer o w)
       → Serves (op.Transfer o w) first (types_reached o) (transfer_of first o w)
   pub status_load : (first : ℕ) → Serves op.LoadStw first [] status_load_of

@@ -1,4 +1,4 @@
-pub mod Parts
+pub mod AccumulatorParts
 pub mod Moves
 pub mod DataBlocks
 pub mod Sums

@@ -1,55 +1,55 @@
-//! What works on ACCU1 alone and is no matter of digits.
+//! Templates of the instructions that convert ACCU1 without decimal digits: ITD, INVI, INVD, CAW and CAD.
 ghost use Rattle.std.specs.Prelude.{◌≡◌, ◌++◌, IfOk, OnOk};
-ghost use Rattle.accumulator_templates.specs.Conversions.{byte_above_of, byte_moved_of, cad_of, caw_of, invd_of, invi_of, itd_of, low_byte_of, lowest_byte_moved, reversed_value, shifted_of, three_reversed, two_reversed};
+ghost use Rattle.accumulator_templates.specs.Conversions.{byte_above_of, byte_moved_of, cad_of, caw_of, invd_of, invi_of, itd_of, low_byte_of, lowest_byte_moved, reversed_value, constant_shift_of, three_reversed, two_reversed};
 
-use crate::parts::{cut, extended};
-use row_templates::{constant, convert, not, or, read, set, shift, with_low};
+use crate::parts::{lowest_bits, zero_extension};
 use s7_base::{List, NoMemory, Reg, Width};
 use st_tree::{Expr, ShiftOp, StType, Stmt};
 use std::alloc::Global;
+use template_parts::{constant, convert, not, or, read, set_register, shift, with_low};
 
-/// `ITD`.
+/// The statements of `ITD`.
 pub fn push_itd(alloc: Global, steps: &mut List<Stmt>) -> Result<(), NoMemory>
     ensures { OnOk result (steps.new ≡ steps.old ++ itd_of) }
 {
     let number = convert(alloc, StType::Dword, StType::Int, read(Reg::Accu1))?;
     let wide = convert(alloc, StType::Int, StType::Dword, number)?;
-    steps.push(set(Reg::Accu1, wide))
+    steps.push(set_register(Reg::Accu1, wide))
 }
 
-/// `INVI`.
+/// The statements of `INVI`.
 pub fn push_invi(alloc: Global, steps: &mut List<Stmt>) -> Result<(), NoMemory>
     ensures { OnOk result (steps.new ≡ steps.old ++ invi_of) }
 {
-    let word = cut(alloc, Width::Word, read(Reg::Accu1))?;
+    let word = lowest_bits(alloc, Width::Word, read(Reg::Accu1))?;
     let inverted = not(alloc, word)?;
     let whole = with_low(alloc, inverted)?;
-    steps.push(set(Reg::Accu1, whole))
+    steps.push(set_register(Reg::Accu1, whole))
 }
 
-/// `INVD`.
+/// The statements of `INVD`.
 pub fn push_invd(alloc: Global, steps: &mut List<Stmt>) -> Result<(), NoMemory>
     ensures { OnOk result (steps.new ≡ steps.old ++ invd_of) }
 {
-    steps.push(set(Reg::Accu1, not(alloc, read(Reg::Accu1))?))
+    steps.push(set_register(Reg::Accu1, not(alloc, read(Reg::Accu1))?))
 }
 
-/// `CAW`.
+/// The statements of `CAW`.
 pub fn push_caw(alloc: Global, steps: &mut List<Stmt>) -> Result<(), NoMemory>
     ensures { OnOk result (steps.new ≡ steps.old ++ caw_of) }
 {
-    let word = cut(alloc, Width::Word, read(Reg::Accu1))?;
-    let turned = shifted(alloc, ShiftOp::Rol, word, 8)?;
+    let word = lowest_bits(alloc, Width::Word, read(Reg::Accu1))?;
+    let turned = constant_shift(alloc, ShiftOp::Rol, word, 8)?;
     let whole = with_low(alloc, turned)?;
-    steps.push(set(Reg::Accu1, whole))
+    steps.push(set_register(Reg::Accu1, whole))
 }
 
-/// `CAD`.
+/// The statements of `CAD`.
 pub fn push_cad(alloc: Global, steps: &mut List<Stmt>) -> Result<(), NoMemory>
     ensures { OnOk result (steps.new ≡ steps.old ++ cad_of) }
 {
     let value = reversed_value(alloc)?;
-    steps.push(set(Reg::Accu1, value))
+    steps.push(set_register(Reg::Accu1, value))
 }
 
 /// The bytes of ACCU1 in reverse order.
@@ -61,7 +61,7 @@ fn reversed_value(alloc: Global) -> Result<Expr, NoMemory>
     or(alloc, three, lowest)
 }
 
-/// The highest three of them.
+/// The three lower bytes of ACCU1 in reverse order, in the three higher bytes of a DWORD.
 fn three_reversed(alloc: Global) -> Result<Expr, NoMemory>
     ensures { IfOk result (λ value. value ≡ three_reversed) }
 {
@@ -70,7 +70,7 @@ fn three_reversed(alloc: Global) -> Result<Expr, NoMemory>
     or(alloc, two, third)
 }
 
-/// The highest two of them.
+/// The two lower bytes of ACCU1 in reverse order, in the two higher bytes of a DWORD.
 fn two_reversed(alloc: Global) -> Result<Expr, NoMemory>
     ensures { IfOk result (λ value. value ≡ two_reversed) }
 {
@@ -79,27 +79,27 @@ fn two_reversed(alloc: Global) -> Result<Expr, NoMemory>
     or(alloc, first, second)
 }
 
-/// The lowest byte of ACCU1 in the place of the highest.
+/// The lowest byte of ACCU1, moved to the highest byte.
 fn lowest_byte_moved(alloc: Global) -> Result<Expr, NoMemory>
     ensures { IfOk result (λ value. value ≡ lowest_byte_moved) }
 {
     let byte = low_byte(alloc, read(Reg::Accu1))?;
-    shifted(alloc, ShiftOp::Shl, byte, 24)
+    constant_shift(alloc, ShiftOp::Shl, byte, 24)
 }
 
-/// The byte of ACCU1 above so many bits, in the place above so many others.
+/// The byte of ACCU1 that begins at bit `from`, moved to bit `to`.
 fn byte_moved(alloc: Global, from: u8, to: u8) -> Result<Expr, NoMemory>
     ensures { IfOk result (λ value. value ≡ byte_moved_of from to) }
 {
     let byte = byte_above(alloc, from)?;
-    shifted(alloc, ShiftOp::Shl, byte, to)
+    constant_shift(alloc, ShiftOp::Shl, byte, to)
 }
 
-/// The byte of ACCU1 above so many bits, as a DWORD.
+/// The byte of ACCU1 that begins at bit `bits`, as a DWORD.
 fn byte_above(alloc: Global, bits: u8) -> Result<Expr, NoMemory>
     ensures { IfOk result (λ value. value ≡ byte_above_of bits) }
 {
-    let pattern = shifted(alloc, ShiftOp::Shr, read(Reg::Accu1), bits)?;
+    let pattern = constant_shift(alloc, ShiftOp::Shr, read(Reg::Accu1), bits)?;
     low_byte(alloc, pattern)
 }
 
@@ -107,13 +107,13 @@ fn byte_above(alloc: Global, bits: u8) -> Result<Expr, NoMemory>
 fn low_byte(alloc: Global, pattern: Expr) -> Result<Expr, NoMemory>
     ensures { IfOk result (λ value. value ≡ low_byte_of pattern) }
 {
-    let byte = cut(alloc, Width::Byte, pattern)?;
-    extended(alloc, Width::Byte, byte)
+    let byte = lowest_bits(alloc, Width::Byte, pattern)?;
+    zero_extension(alloc, Width::Byte, byte)
 }
 
-/// A shift or a rotation by a constant.
-fn shifted(alloc: Global, op: ShiftOp, pattern: Expr, count: u8) -> Result<Expr, NoMemory>
-    ensures { IfOk result (λ value. value ≡ shifted_of op pattern count) }
+/// A pattern, shifted or rotated by a constant.
+fn constant_shift(alloc: Global, op: ShiftOp, pattern: Expr, count: u8) -> Result<Expr, NoMemory>
+    ensures { IfOk result (λ value. value ≡ constant_shift_of op pattern count) }
 {
     shift(alloc, op, pattern, constant(StType::Int, i64::from(count)))
 }

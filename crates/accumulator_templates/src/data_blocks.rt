@@ -3,15 +3,17 @@ ghost use Rattle.std.specs.Prelude.{◌≡◌, ◌+◌, ◌++◌, ◌<◌, ◌^�
 ghost use Rattle.accumulator_templates.specs.DataBlocks.{block_exchange_of, block_open_of, number_load_of, types_of_block_exchange, types_of_block_open};
 
 use crate::moves::push_taken;
-use row_templates::{
-    constant, convert, fetched, local, push_fetch, read, set, set_local, types_fetched,
-};
 use s7_base::{List, NoMemory, Reg, Width};
 use st_tree::{StType, Stmt};
 use std::alloc::Global;
 use stl_tree::OpenArg;
+use template_parts::{
+    constant, convert, fetched_value, local, push_fetch, read, set_local, set_register,
+    types_fetched,
+};
 
-/// `OPN`, of the number in this register. A word is read before the register takes it, since it may fault.
+/// The statements of `OPN` for the DB or the DI register. A word is read before the register takes it, since
+/// the read may fault.
 pub fn push_block_open(
     alloc: Global,
     steps: &mut List<Stmt>,
@@ -24,11 +26,11 @@ pub fn push_block_open(
 {
     match arg {
         OpenArg::Number(number) => {
-            steps.push(set(register, constant(StType::Word, i64::from(number))))
+            steps.push(set_register(register, constant(StType::Word, i64::from(number))))
         }
         OpenArg::At(operand) => {
             push_fetch(alloc, steps, first, &operand, Width::Word)?;
-            steps.push(set(register, fetched(first, &operand, Width::Word)))
+            steps.push(set_register(register, fetched_value(first, &operand, Width::Word)))
         }
     }
 }
@@ -43,13 +45,13 @@ pub fn types_of_block_open(arg: OpenArg) -> &'static [StType]
     }
 }
 
-/// `CDB`.
+/// The statements of `CDB`.
 pub fn push_block_exchange(steps: &mut List<Stmt>, first: u32) -> Result<(), NoMemory>
     ensures { OnOk result (steps.new ≡ steps.old ++ block_exchange_of first) }
 {
     steps.push(set_local(first, read(Reg::DbNo)))?;
-    steps.push(set(Reg::DbNo, read(Reg::DiNo)))?;
-    steps.push(set(Reg::DiNo, local(first)))
+    steps.push(set_register(Reg::DbNo, read(Reg::DiNo)))?;
+    steps.push(set_register(Reg::DiNo, local(first)))
 }
 
 /// The types of the locals of `CDB`.
@@ -59,7 +61,7 @@ pub fn types_of_block_exchange() -> &'static [StType]
     &[StType::Word]
 }
 
-/// `L DBNO` and `L DINO`, of the number in this register.
+/// The statements of `L DBNO` and `L DINO`, which load the DB or the DI register.
 pub fn push_number_load(
     alloc: Global,
     steps: &mut List<Stmt>,

@@ -1,10 +1,11 @@
-//! The statements of the instructions that load, store and move, open data blocks, add constants, combine bits
-//! and convert.
+//! The statements of the instructions that load, store and move, open data blocks, add constants, combine
+//! bits and convert.
 //!
-//! Stands on `row_templates`. Each function puts the statements of one row behind some steps, as the definition of
-//! that row has them. What takes locals is told the number of the first free one, and has a function for their types.
-//! The crate promises of each instruction that its statements do what it does, read only what it reads, are few and
-//! small, and are those of a plain graph: well typed, low and without a fault by division.
+//! Uses `template_parts`. Each function appends the statements of one instruction to a list, as `specs/`
+//! defines them. Where they take locals, the function gets the number of the first free one, and another
+//! function has their types. The crate promises of each instruction that its statements do what it does, read
+//! only what it reads, are few and small, and are those of a plain graph: well typed, low and without a fault
+//! by division.
 #![tactic(auto)]
 
 ghost use Rattle.accumulator_templates.specs.AccumulatorLaw.{AccumulatorServes};

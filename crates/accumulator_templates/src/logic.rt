@@ -1,16 +1,17 @@
 //! Word logic.
 ghost use Rattle.std.specs.Prelude.{◌≡◌, ◌++◌, IfOk, OnOk};
-ghost use Rattle.accumulator_templates.specs.Logic.{combined_of, computed_of, fixed_of, logic_of, nonzero_of, operator_of, other_of, shown_of, type_of_row, types_of_logic, with_pattern_of};
+ghost use Rattle.accumulator_templates.specs.Logic.{logic_value_of, computed_of, fixed_of, logic_of, nonzero_of, operator_of, other_of, shown_of, type_of_logic, types_of_logic, with_pattern_of};
 ghost use Rattle.stl_tree.specs.Reads.{is_fixed};
 
-use crate::parts::{cut, dword};
-use row_templates::{binary, constant, literal, local, read, set, set_local, with_low};
+use crate::parts::{dword, lowest_bits};
 use s7_base::{List, NoMemory, Reg, Width};
 use st_tree::{BinaryOp, Expr, StType, Stmt};
 use std::alloc::Global;
 use stl_tree::LogicRow;
+use template_parts::{binary, constant, literal, local, read, set_local, set_register, with_low};
 
-/// A row, with a constant or with ACCU2. Where its constant fixes the result, ACCU1 may be unset.
+/// The statements of a word logic instruction, with a constant or with ACCU2. Where its constant fixes the
+/// result, ACCU1 may be unset.
 pub fn push_logic(
     alloc: Global,
     steps: &mut List<Stmt>,
@@ -26,7 +27,7 @@ pub fn push_logic(
     }
 }
 
-/// The types of the locals of a row.
+/// The types of the locals of a word logic instruction.
 pub fn types_of_logic(row: LogicRow, number: Option<u32>) -> &'static [StType]
     ensures { result.now ≡ types_of_logic row number }
 {
@@ -39,7 +40,7 @@ pub fn types_of_logic(row: LogicRow, number: Option<u32>) -> &'static [StType]
     }
 }
 
-/// The result of a row with a constant is the same whatever ACCU1 holds.
+/// Whether a constant fixes the result of a word logic instruction for every value of ACCU1.
 fn is_fixed(row: LogicRow, number: u32) -> bool
     ensures { result ≡ is_fixed row number }
 {
@@ -50,8 +51,8 @@ fn is_fixed(row: LogicRow, number: u32) -> bool
     }
 }
 
-fn type_of_row(row: LogicRow) -> StType
-    ensures { result ≡ type_of_row row }
+fn type_of_logic(row: LogicRow) -> StType
+    ensures { result ≡ type_of_logic row }
 {
     match row.width() {
         Width::Word => StType::Word,
@@ -72,15 +73,15 @@ fn operator_of(row: LogicRow) -> BinaryOp
     }
 }
 
-/// The result is a constant, and nothing is read.
+/// The statements where the constant fixes the result: ACCU1 takes it, and nothing is read.
 fn push_fixed(steps: &mut List<Stmt>, number: u32) -> Result<(), NoMemory>
     ensures { OnOk result (steps.new ≡ steps.old ++ fixed_of number) }
 {
     push_shown(steps, literal(number != 0))?;
-    steps.push(set(Reg::Accu1, dword(number)))
+    steps.push(set_register(Reg::Accu1, dword(number)))
 }
 
-/// A local takes the result.
+/// The statements where a local takes the result.
 fn push_computed(
     alloc: Global,
     steps: &mut List<Stmt>,
@@ -90,50 +91,50 @@ fn push_computed(
 ) -> Result<(), NoMemory>
     ensures { OnOk result (steps.new ≡ steps.old ++ computed_of first row number) }
 {
-    let value = combined(alloc, row, number)?;
+    let value = logic_value(alloc, row, number)?;
     steps.push(set_local(first, value))?;
     let nonzero = nonzero(alloc, row, first)?;
     push_shown(steps, nonzero)?;
     let accu1 = with_pattern(alloc, row, local(first))?;
-    steps.push(set(Reg::Accu1, accu1))
+    steps.push(set_register(Reg::Accu1, accu1))
 }
 
-/// The result in a local is other than zero.
+/// Whether the result in a local is other than zero.
 fn nonzero(alloc: Global, row: LogicRow, first: u32) -> Result<Expr, NoMemory>
     ensures { IfOk result (λ value. value ≡ nonzero_of first row) }
 {
-    let zero = constant(type_of_row(row), 0);
+    let zero = constant(type_of_logic(row), 0);
     binary(alloc, BinaryOp::Ne, local(first), zero)
 }
 
-/// CC1 says whether the result is other than zero.
+/// The flags of a result: CC1 says whether it is other than zero, CC0 and OV are cleared.
 fn push_shown(steps: &mut List<Stmt>, nonzero: Expr) -> Result<(), NoMemory>
     ensures { OnOk result (steps.new ≡ steps.old ++ shown_of nonzero) }
 {
-    steps.push(set(Reg::Cc1, nonzero))?;
-    steps.push(set(Reg::Cc0, literal(false)))?;
-    steps.push(set(Reg::Ov, literal(false)))
+    steps.push(set_register(Reg::Cc1, nonzero))?;
+    steps.push(set_register(Reg::Cc0, literal(false)))?;
+    steps.push(set_register(Reg::Ov, literal(false)))
 }
 
-/// The result of a row, a pattern of its type.
-fn combined(alloc: Global, row: LogicRow, number: Option<u32>) -> Result<Expr, NoMemory>
-    ensures { IfOk result (λ value. value ≡ combined_of row number) }
+/// The result of a word logic instruction, a pattern of its width.
+fn logic_value(alloc: Global, row: LogicRow, number: Option<u32>) -> Result<Expr, NoMemory>
+    ensures { IfOk result (λ value. value ≡ logic_value_of row number) }
 {
-    let pattern = cut(alloc, row.width(), read(Reg::Accu1))?;
+    let pattern = lowest_bits(alloc, row.width(), read(Reg::Accu1))?;
     binary(alloc, operator_of(row), pattern, other(alloc, row, number)?)
 }
 
-/// What ACCU1 is combined with.
+/// What ACCU1 is combined with: the constant, or ACCU2.
 fn other(alloc: Global, row: LogicRow, number: Option<u32>) -> Result<Expr, NoMemory>
     ensures { IfOk result (λ value. value ≡ other_of row number) }
 {
     match number {
-        Some(number) => Ok(constant(type_of_row(row), i64::from(number))),
-        None => cut(alloc, row.width(), read(Reg::Accu2)),
+        Some(number) => Ok(constant(type_of_logic(row), i64::from(number))),
+        None => lowest_bits(alloc, row.width(), read(Reg::Accu2)),
     }
 }
 
-/// ACCU1 with a pattern in its place.
+/// ACCU1 with a pattern in the part that a word logic instruction changes.
 fn with_pattern(alloc: Global, row: LogicRow, pattern: Expr) -> Result<Expr, NoMemory>
     ensures { IfOk result (λ value. value ≡ with_pattern_of row pattern) }
 {

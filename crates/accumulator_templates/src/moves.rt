@@ -1,17 +1,18 @@
-//! Loading, storing and moving.
+//! Templates of the instructions that load, store and move values.
 ghost use Rattle.std.specs.Prelude.{◌≡◌, ◌∷◌, [], ◌+◌, ◌++◌, ◌<◌, ◌^◌, IfOk, OnOk};
 ghost use Rattle.accumulator_templates.specs.Moves.{before_load, exchange_of, flag_from_of, load_of, loaded_value, pop_of, push_of, status_load_of, status_store_of, status_value, taken_of, transfer_of, types_of_exchange, types_of_load, with_flag_of};
 
-use crate::parts::{any_bit, bits_where, cut, dword, extended};
-use row_templates::{
-    fetched, local, or, push_fetch, push_reach, read, set, set_local, types_fetched, writing,
-};
+use crate::parts::{any_bit, bits_where, dword, lowest_bits, zero_extension};
 use s7_base::{List, NoMemory, Reg, Width};
 use st_tree::{Expr, StType, Stmt};
 use std::alloc::Global;
 use stl_tree::{LoadArg, Operand};
+use template_parts::{
+    fetched_value, local, or, push_fetch, push_reach, read, set_local, set_register, types_fetched,
+    writing,
+};
 
-/// `L`, whose first local has this number.
+/// The statements of `L`, whose locals are those from `first` on.
 pub fn push_load(
     alloc: Global,
     steps: &mut List<Stmt>,
@@ -25,7 +26,7 @@ pub fn push_load(
     push_taken(steps, loaded_value(alloc, first, arg)?)
 }
 
-/// What may fault is read before ACCU1 moves to ACCU2.
+/// The statements of `L` that may fault: they come before ACCU1 moves to ACCU2.
 fn push_before_load(
     alloc: Global,
     steps: &mut List<Stmt>,
@@ -46,7 +47,11 @@ fn loaded_value(alloc: Global, first: u32, arg: &LoadArg) -> Result<Expr, NoMemo
     ensures { IfOk result (λ value. value ≡ loaded_value first arg.now) }
 {
     match arg {
-        LoadArg::At(operand, width) => extended(alloc, *width, fetched(first, operand, *width)),
+        LoadArg::At(operand, width) => zero_extension(
+            alloc,
+            *width,
+            fetched_value(first, operand, *width),
+        ),
         LoadArg::Constant(number) => Ok(dword(*number)),
     }
 }
@@ -61,15 +66,15 @@ pub fn types_of_load(arg: &LoadArg) -> &'static [StType]
     }
 }
 
-/// ACCU1 takes a value, and ACCU2 what stood there.
+/// ACCU2 takes ACCU1, and ACCU1 takes a value.
 pub fn push_taken(steps: &mut List<Stmt>, value: Expr) -> Result<(), NoMemory>
     ensures { OnOk result (steps.new ≡ steps.old ++ taken_of value) }
 {
-    steps.push(set(Reg::Accu2, read(Reg::Accu1)))?;
-    steps.push(set(Reg::Accu1, value))
+    steps.push(set_register(Reg::Accu2, read(Reg::Accu1)))?;
+    steps.push(set_register(Reg::Accu1, value))
 }
 
-/// `T`, of a byte, a word or a double word; the first local of its operand has this number.
+/// The statements of `T` of a byte, a word or a double word, whose locals are those from `first` on.
 pub fn push_transfer(
     alloc: Global,
     steps: &mut List<Stmt>,
@@ -81,12 +86,12 @@ pub fn push_transfer(
     ensures { OnOk result (steps.new ≡ steps.old ++ transfer_of first operand.now width) }
 {
     push_reach(alloc, steps, first, operand)?;
-    let pattern = cut(alloc, width, read(Reg::Accu1))?;
+    let pattern = lowest_bits(alloc, width, read(Reg::Accu1))?;
     let step = writing(alloc, first, operand, width, pattern)?;
     steps.push(step)
 }
 
-/// `L STW`.
+/// The statements of `L STW`.
 pub fn push_status_load(alloc: Global, steps: &mut List<Stmt>) -> Result<(), NoMemory>
     ensures { OnOk result (steps.new ≡ steps.old ++ status_load_of) }
 {
@@ -104,7 +109,7 @@ fn status_value(alloc: Global) -> Result<Expr, NoMemory>
     with_flag(alloc, value, Reg::Br, 0x100)
 }
 
-/// A DWORD with the bits of a mask, where a flag is set.
+/// A DWORD that has the bits of a mask set where a flag is set.
 fn with_flag(alloc: Global, pattern: Expr, flag: Reg, mask: u32) -> Result<Expr, NoMemory>
     ensures { IfOk result (λ value. value ≡ with_flag_of pattern flag mask) }
 {
@@ -112,7 +117,7 @@ fn with_flag(alloc: Global, pattern: Expr, flag: Reg, mask: u32) -> Result<Expr,
     or(alloc, pattern, bits)
 }
 
-/// `T STW`.
+/// The statements of `T STW`.
 pub fn push_status_store(alloc: Global, steps: &mut List<Stmt>) -> Result<(), NoMemory>
     ensures { OnOk result (steps.new ≡ steps.old ++ status_store_of) }
 {
@@ -124,7 +129,7 @@ pub fn push_status_store(alloc: Global, steps: &mut List<Stmt>) -> Result<(), No
     push_flag_from(alloc, steps, Reg::Br, 0x100)
 }
 
-/// A flag takes the bit of ACCU1 in a mask.
+/// A flag takes the bit of ACCU1 that a mask selects.
 fn push_flag_from(
     alloc: Global,
     steps: &mut List<Stmt>,
@@ -134,16 +139,16 @@ fn push_flag_from(
     ensures { OnOk result (steps.new ≡ steps.old ++ (flag_from_of flag mask ∷ [])) }
 {
     let bit = any_bit(alloc, read(Reg::Accu1), mask)?;
-    steps.push(set(flag, bit))
+    steps.push(set_register(flag, bit))
 }
 
-/// `TAK`.
+/// The statements of `TAK`.
 pub fn push_exchange(steps: &mut List<Stmt>, first: u32) -> Result<(), NoMemory>
     ensures { OnOk result (steps.new ≡ steps.old ++ exchange_of first) }
 {
     steps.push(set_local(first, read(Reg::Accu1)))?;
-    steps.push(set(Reg::Accu1, read(Reg::Accu2)))?;
-    steps.push(set(Reg::Accu2, local(first)))
+    steps.push(set_register(Reg::Accu1, read(Reg::Accu2)))?;
+    steps.push(set_register(Reg::Accu2, local(first)))
 }
 
 /// The types of the locals of `TAK`.
@@ -153,16 +158,16 @@ pub fn types_of_exchange() -> &'static [StType]
     &[StType::Dword]
 }
 
-/// `PUSH`.
+/// The statements of `PUSH`.
 pub fn push_push(steps: &mut List<Stmt>) -> Result<(), NoMemory>
     ensures { OnOk result (steps.new ≡ steps.old ++ push_of) }
 {
-    steps.push(set(Reg::Accu2, read(Reg::Accu1)))
+    steps.push(set_register(Reg::Accu2, read(Reg::Accu1)))
 }
 
-/// `POP`.
+/// The statements of `POP`.
 pub fn push_pop(steps: &mut List<Stmt>) -> Result<(), NoMemory>
     ensures { OnOk result (steps.new ≡ steps.old ++ pop_of) }
 {
-    steps.push(set(Reg::Accu1, read(Reg::Accu2)))
+    steps.push(set_register(Reg::Accu1, read(Reg::Accu2)))
 }

@@ -1,11 +1,11 @@
 //! Parts of the accumulators, as expressions.
 ghost use Rattle.std.specs.Prelude.{◌≡◌, IfOk};
-ghost use Rattle.accumulator_templates.specs.Parts.{above_byte, any_bit_of, bits_where_of, cut_of, dword_of, extended_of, with_byte_of};
+ghost use Rattle.accumulator_templates.specs.AccumulatorParts.{above_byte, any_bit_of, bits_where_of, lowest_bits_of, dword_of, zero_extension_of, with_byte_of};
 
-use row_templates::{and, binary, constant, convert, or, read, select};
 use s7_base::{NoMemory, Reg, Width};
 use st_tree::{BinaryOp, Expr, StType};
 use std::alloc::Global;
+use template_parts::{and, binary, constant, convert, or, read, select};
 
 /// A DWORD as a constant.
 pub fn dword(number: u32) -> Expr
@@ -14,7 +14,7 @@ pub fn dword(number: u32) -> Expr
     constant(StType::Dword, i64::from(number))
 }
 
-/// A DWORD is other than zero in the bits of a mask.
+/// Whether a DWORD is other than zero in the bits of a mask.
 pub fn any_bit(alloc: Global, pattern: Expr, mask: u32) -> Result<Expr, NoMemory>
     ensures { IfOk result (λ value. value ≡ any_bit_of pattern mask) }
 {
@@ -29,9 +29,9 @@ pub fn bits_where(alloc: Global, flag: Expr, mask: u32) -> Result<Expr, NoMemory
     select(alloc, flag, dword(0), dword(mask))
 }
 
-/// The lowest bits of a DWORD, so many as a width has.
-pub fn cut(alloc: Global, width: Width, pattern: Expr) -> Result<Expr, NoMemory>
-    ensures { IfOk result (λ value. value ≡ cut_of width pattern) }
+/// The lowest bits of a DWORD, as a pattern of a width.
+pub fn lowest_bits(alloc: Global, width: Width, pattern: Expr) -> Result<Expr, NoMemory>
+    ensures { IfOk result (λ value. value ≡ lowest_bits_of width pattern) }
 {
     match width {
         Width::Bit => any_bit(alloc, pattern, 1),
@@ -42,8 +42,8 @@ pub fn cut(alloc: Global, width: Width, pattern: Expr) -> Result<Expr, NoMemory>
 }
 
 /// A pattern of a width as a DWORD, extended by zeros.
-pub fn extended(alloc: Global, width: Width, pattern: Expr) -> Result<Expr, NoMemory>
-    ensures { IfOk result (λ value. value ≡ extended_of width pattern) }
+pub fn zero_extension(alloc: Global, width: Width, pattern: Expr) -> Result<Expr, NoMemory>
+    ensures { IfOk result (λ value. value ≡ zero_extension_of width pattern) }
 {
     match width {
         Width::Bit => bits_where(alloc, pattern, 1),
@@ -53,16 +53,16 @@ pub fn extended(alloc: Global, width: Width, pattern: Expr) -> Result<Expr, NoMe
     }
 }
 
-/// ACCU1 with another low byte.
+/// ACCU1 with another lowest byte.
 pub fn with_byte(alloc: Global, pattern: Expr) -> Result<Expr, NoMemory>
     ensures { IfOk result (λ value. value ≡ with_byte_of pattern) }
 {
-    let byte = extended(alloc, Width::Byte, pattern)?;
+    let byte = zero_extension(alloc, Width::Byte, pattern)?;
     let kept = above_byte(alloc)?;
     or(alloc, kept, byte)
 }
 
-/// ACCU1 above its low byte.
+/// ACCU1 with its lowest byte zero.
 fn above_byte(alloc: Global) -> Result<Expr, NoMemory>
     ensures { IfOk result (λ value. value ≡ above_byte) }
 {

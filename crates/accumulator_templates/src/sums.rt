@@ -1,12 +1,13 @@
-//! A constant added to a part of ACCU1, or taken from it. A constant 0 reads nothing, so that ACCU1 may be unset there.
+//! Templates of the instructions that add a constant to a part of ACCU1: `+`, INC and DEC. A constant 0 reads
+//! nothing, so ACCU1 may be unset there.
 ghost use Rattle.std.specs.Prelude.{◌≡◌, ◌++◌, IfOk, OnOk};
 ghost use Rattle.accumulator_templates.specs.Sums.{add_dword_of, add_word_of, byte_sum_of, dec_of, inc_of, sum_of};
 
 use crate::parts::with_byte;
-use row_templates::{binary, constant, convert, read, set, with_low};
 use s7_base::{List, NoMemory, Reg};
 use st_tree::{BinaryOp, Expr, StType, Stmt};
 use std::alloc::Global;
+use template_parts::{binary, constant, convert, read, set_register, with_low};
 
 /// ACCU1 as a number of a type, with a constant, as a pattern of another type.
 fn sum(
@@ -23,7 +24,7 @@ fn sum(
     convert(alloc, number, pattern, sum)
 }
 
-/// `+ n`.
+/// The statements of `+ n`, which adds 16 bits.
 pub fn push_add_word(alloc: Global, steps: &mut List<Stmt>, number: i16) -> Result<(), NoMemory>
     ensures { OnOk result (steps.new ≡ steps.old ++ add_word_of number) }
 {
@@ -38,10 +39,10 @@ pub fn push_add_word(alloc: Global, steps: &mut List<Stmt>, number: i16) -> Resu
         i64::from(number),
     )?;
     let whole = with_low(alloc, sum)?;
-    steps.push(set(Reg::Accu1, whole))
+    steps.push(set_register(Reg::Accu1, whole))
 }
 
-/// `+ L#n`.
+/// The statements of `+ L#n`, which adds 32 bits.
 pub fn push_add_dword(alloc: Global, steps: &mut List<Stmt>, number: i32) -> Result<(), NoMemory>
     ensures { OnOk result (steps.new ≡ steps.old ++ add_dword_of number) }
 {
@@ -55,10 +56,10 @@ pub fn push_add_dword(alloc: Global, steps: &mut List<Stmt>, number: i32) -> Res
         StType::Dword,
         i64::from(number),
     )?;
-    steps.push(set(Reg::Accu1, sum))
+    steps.push(set_register(Reg::Accu1, sum))
 }
 
-/// A constant added to the lowest byte of ACCU1, or taken from it.
+/// A constant added to the lowest byte of ACCU1, or subtracted from it.
 fn push_byte_sum(
     alloc: Global,
     steps: &mut List<Stmt>,
@@ -72,17 +73,17 @@ fn push_byte_sum(
     }
     let sum = sum(alloc, op, StType::Int, StType::Byte, i64::from(number))?;
     let whole = with_byte(alloc, sum)?;
-    steps.push(set(Reg::Accu1, whole))
+    steps.push(set_register(Reg::Accu1, whole))
 }
 
-/// `INC`.
+/// The statements of `INC`.
 pub fn push_inc(alloc: Global, steps: &mut List<Stmt>, number: u8) -> Result<(), NoMemory>
     ensures { OnOk result (steps.new ≡ steps.old ++ inc_of number) }
 {
     push_byte_sum(alloc, steps, BinaryOp::Add, number)
 }
 
-/// `DEC`.
+/// The statements of `DEC`.
 pub fn push_dec(alloc: Global, steps: &mut List<Stmt>, number: u8) -> Result<(), NoMemory>
     ensures { OnOk result (steps.new ≡ steps.old ++ dec_of number) }
 {

@@ -1,1 +1,1 @@
-mod PointerRows
+mod PointerCases

@@ -1,7 +1,7 @@
 //! Pointers, their parts and what is added to them.
 ghost use Rattle.std.specs.Prelude.{◌≡◌, ◌%◌, ◌^◌, pos, unsigned_abs};
 ghost use Rattle.std.specs.Int.{int_rem_euclid};
-ghost use Rattle.memory_areas.specs.Pointers.{bit_of_pointer, byte_of_pointer, code_of_pointer, moved, with_offset};
+ghost use Rattle.memory_areas.specs.Pointers.{bit_of_pointer, byte_of_pointer, code_of_pointer, pointer_plus, with_offset};
 
 /// One more than the greatest byte and bit number of a pointer.
 const PLACES: u32 = 1 << 19;
@@ -14,21 +14,21 @@ const NUMBERS: u32 = 1 << 24;
 pub struct Pointer(pub u32);
 
 impl Pointer {
-    /// The area code.
+    /// The area code of the pointer, from 0 to 255.
     pub fn area(self) -> u8
         ensures { result ≡ code_of_pointer self.0 }
     {
         (self.0 >> 24) as u8
     }
 
-    /// The byte number.
+    /// The byte number of the pointer, from 0 to 65,535.
     pub fn byte(self) -> u32
         ensures { result ≡ byte_of_pointer self.0 }
     {
         self.0 / 8 % 65536
     }
 
-    /// The bit number.
+    /// The bit number of the pointer, from 0 to 7.
     pub fn bit(self) -> u8
         ensures { result ≡ bit_of_pointer self.0 }
     {
@@ -45,7 +45,7 @@ impl Pointer {
 
     /// What an addition to an address register leaves in it, as `+AR1` does.
     pub fn add_signed(self, amount: i32) -> Pointer
-        ensures { result.0 ≡ moved self.0 amount }
+        ensures { result.0 ≡ pointer_plus self.0 amount }
     {
         let number = (self.0 % NUMBERS + amount.cast_unsigned() % NUMBERS) % NUMBERS;
         Pointer(self.0 / NUMBERS * NUMBERS + number)

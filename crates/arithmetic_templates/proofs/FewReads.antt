@@ -12,7 +12,7 @@ use Rattle.stl_tree.specs.declared.accumulator.Arith.TheVariants as row
 use Rattle.stl_tree.specs.declared.accumulator.UnaryRow.TheVariants as unary
 use Rattle.stl_tree.specs.declared.program.Op.TheVariants as op
 use Rattle.st_tree.specs.declared.program.Stmt.{Stmt}
-use Rattle.row_templates.proofs.ReadRegisters.{AllRead, Has, variables_read}
+use Rattle.template_parts.proofs.ReadRegisters.{AllRead, Has, variables_read}
 use Rattle.arithmetic_templates.specs.Calculations.{calculated_of, divisor_kept_of, divisor_of, negated_of, quotient_in_dword_of, quotient_in_words_of, remainder_in_dword_of}
 use Rattle.arithmetic_templates.specs.Comparisons.{compared_of}
 

@@ -1,9 +1,9 @@
-pub mod ComparisonRows
-pub mod DivisionRows
+pub mod ComparisonEffects
+pub mod DivisionEffects
 pub mod FewReads
-pub mod LawRows
-pub mod PlainRows
-pub mod ProductRows
-pub mod ResultRows
-pub mod Rows
+pub mod Serving
+pub mod PlainStatements
+pub mod ProductEffects
+pub mod ResultEffects
+pub mod Effects
 pub mod WideNumbers

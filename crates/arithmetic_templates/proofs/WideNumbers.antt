@@ -4,7 +4,7 @@ use Rattle.std.specs.Prelude.{ℤ, ◌+ℤ◌, ◌-ℤ◌, ◌*ℤ◌, neg_ℤ, 
 use Rattle.std.specs.Ordering.{int_eq}
 use Rattle.std.proofs.lemmas.Int.{ints, rem_below, unsigned_abs-mul}
 use Rattle.std.proofs.lemmas.Nat.{mul-le, or_shifted}
-use Rattle.row_templates.proofs.Numbers.{pattern_below}
+use Rattle.template_parts.proofs.Numbers.{pattern_below}
 use Rattle.st_tree.specs.Values.{number_of}
 use Rattle.s7_base.specs.SignedNumbers.{is_over, number, pattern}
 
@@ -22,7 +22,8 @@ wide_negative a = grind (arith, ints)
 pub wide_dword_sum : (a b : ℕ) → number 64 (pattern 64 (number 32 (a % 2 ^ 32) +ℤ number 32 (b % 2 ^ 32))) ≡ number 32 (a % 2 ^ 32) +ℤ number 32 (b % 2 ^ 32)
 wide_dword_sum a b = grind (arith, ints)
 
-pub wide_dword_difference : (a b : ℕ) → number 64 (pattern 64 (number 32 (a % 2 ^ 32) -ℤ number 32 (b % 2 ^ 32))) ≡ number 32 (a % 2 ^ 32) -ℤ number 32 (b % 2 ^ 32)
+pub wide_dword_difference : (a b : ℕ)
+    → number 64 (pattern 64 (number 32 (a % 2 ^ 32) -ℤ number 32 (b % 2 ^ 32))) ≡ number 32 (a % 2 ^ 32) -ℤ number 32 (b % 2 ^ 32)
 wide_dword_difference a b = grind (arith, ints)
 
 pub wide_dword_negative : (a : ℕ) → number 64 (pattern 64 (neg_ℤ (number 32 (a % 2 ^ 32)))) ≡ neg_ℤ (number 32 (a % 2 ^ 32))
@@ -70,7 +71,8 @@ wide_product a b =
     let h : unsigned_abs (x *ℤ y) ≤ 2 ^ 15 * 2 ^ 15 = product_size x y (2 ^ 15) (word_size a) (word_size b) in
     whole_dint (x *ℤ y) (omega (arith, h))
 
-pub wide_dword_product : (a b : ℕ) → number 64 (pattern 64 (number 32 (a % 2 ^ 32) *ℤ number 32 (b % 2 ^ 32))) ≡ number 32 (a % 2 ^ 32) *ℤ number 32 (b % 2 ^ 32)
+pub wide_dword_product : (a b : ℕ)
+    → number 64 (pattern 64 (number 32 (a % 2 ^ 32) *ℤ number 32 (b % 2 ^ 32))) ≡ number 32 (a % 2 ^ 32) *ℤ number 32 (b % 2 ^ 32)
 wide_dword_product a b =
     let x : ℤ = number 32 (a % 2 ^ 32) in
     let y : ℤ = number 32 (b % 2 ^ 32) in
@@ -133,7 +135,8 @@ low_of_pattern (pos n) = omega arith
 low_of_pattern (negsuc n) = omega arith
 
 pub put_words : (m q : ℤ)
-    → pattern 32 (pos (bit_or (pattern 32 (pos (pattern 32 (pos (pattern 32 (pos (pattern 32 m)) * 2 ^ 16 % 2 ^ 32))))) (pattern 32 (pos (pattern 32 (pos (pattern 16 q)))))))
+    → pattern 32 (pos
+    (bit_or (pattern 32 (pos (pattern 32 (pos (pattern 32 (pos (pattern 32 m)) * 2 ^ 16 % 2 ^ 32))))) (pattern 32 (pos (pattern 32 (pos (pattern 16 q)))))))
     ≡ pattern 16 m * 2 ^ 16 + pattern 16 q
 put_words m q =
     let h : pattern 16 q < 2 ^ 16 = pattern_below q in

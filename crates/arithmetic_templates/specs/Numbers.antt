@@ -1,7 +1,8 @@
--- The parts of which templates of calculations are made: numbers of a width and wider ones, and what ends a calculation.
-pub use Rattle.row_templates.specs.Builders.{with_low_of}
+-- The parts of which templates of calculations are made: numbers of a width and wider ones, and what ends a
+-- calculation.
+pub use Rattle.template_parts.specs.Builders.{with_low_of}
 use Rattle.std.specs.Prelude.{ℕ, pos, List, [], ◌∷◌, ◌++◌}
-use Rattle.row_templates.specs.Builders.{binary_of, constant_of, convert_of, local_of, or_of, read_of, set_of}
+use Rattle.template_parts.specs.Builders.{binary_of, constant_of, convert_of, local_of, or_of, read_of, set_of}
 use Rattle.s7_base.specs.declared.register.Reg.{Reg}
 use Rattle.s7_base.specs.declared.register.Reg.TheVariants as reg
 use Rattle.s7_base.specs.declared.word.Width.{Width}
@@ -17,7 +18,7 @@ abbrev pub narrow : Width → StType
 narrow width.Dword = type.Dint
 narrow other = type.Int
 
--- the type that has each sum, difference, product and quotient of two of them
+-- the type that has each sum, difference, product and quotient of two numbers of a width
 abbrev pub wide : Width → StType
 wide width.Dword = type.Lint
 wide other = type.Dint
@@ -28,15 +29,15 @@ wide other = type.Dint
 abbrev pub number_of : Width → Reg → Expr
 number_of w r = convert_of type.Dword (narrow w) (read_of r)
 
--- the same number in the wider type
+-- the number in an accumulator, in the wider type
 abbrev pub wide_number_of : Width → Reg → Expr
 wide_number_of w r = convert_of (narrow w) (wide w) (number_of w r)
 
--- what is left of a local of the wider type
-abbrev pub cut_of : Width → ℕ → Expr
-cut_of w i = convert_of (wide w) (narrow w) (local_of i)
+-- the number of a local of the wider type, cut to the width
+abbrev pub narrow_local_of : Width → ℕ → Expr
+narrow_local_of w i = convert_of (wide w) (narrow w) (local_of i)
 
--- what is left of a local is not what the local has
+-- the number of a local of the wider type is not the one cut to the width
 abbrev pub differs_of : Width → Expr → ℕ → Expr
 differs_of w cut i = binary_of binary.Ne (convert_of (narrow w) (wide w) cut) (local_of i)
 

@@ -1,21 +1,21 @@
-//! Arithmetic rows.
+//! Templates of the arithmetic instructions.
 ghost use Rattle.std.specs.Prelude.{◌≡◌, ◌++◌, ◌+◌, ◌<◌, ◌^◌, IfOk, OnOk};
-ghost use Rattle.arithmetic_templates.specs.Calculations.{both_words_of, calculated_of, divided_of, division_flags_of, division_left_of, divisor_kept_of, divisor_of, in_high_word_of, in_low_word_of, negated_of, operated_of, product_of, quotient_in_dword_of, quotient_in_words_of, quotient_over_of, remainder_in_dword_of, result_of, types_of_calculated, types_of_negated, zero_of};
+ghost use Rattle.arithmetic_templates.specs.Calculations.{both_words_of, calculated_of, division_by_local_of, division_flags_of, division_left_of, divisor_kept_of, divisor_of, in_high_word_of, in_low_word_of, negated_of, operation_of, product_of, quotient_in_dword_of, quotient_in_words_of, quotient_over_of, remainder_in_dword_of, result_of, types_of_calculated, types_of_negated, zero_of};
 
 use crate::numbers::{
-    cut, differs, narrow, negative, positive, push_flags, push_overflow, wide, wide_number,
-    with_number,
-};
-use row_templates::{
-    binary, constant, convert, local, or, read, select, set, set_local, shift, unary,
+    differs, narrow, narrow_local, negative, positive, push_flags, push_overflow, wide,
+    wide_number, with_number,
 };
 use s7_base::{List, NoMemory, Reg, Width};
 use st_tree::{BinaryOp, Expr, ShiftOp, StType, Stmt, UnaryOp};
 use std::alloc::Global;
 use stl_tree::Arith;
+use template_parts::{
+    binary, constant, convert, local, or, read, select, set_local, set_register, shift, unary,
+};
 
-fn operated(alloc: Global, op: BinaryOp, width: Width) -> Result<Expr, NoMemory>
-    ensures { IfOk result (λ value. value ≡ operated_of op width) }
+fn operation(alloc: Global, op: BinaryOp, width: Width) -> Result<Expr, NoMemory>
+    ensures { IfOk result (λ value. value ≡ operation_of op width) }
 {
     let left = wide_number(alloc, width, Reg::Accu2)?;
     let right = wide_number(alloc, width, Reg::Accu1)?;
@@ -33,13 +33,13 @@ fn push_result(
     ensures { OnOk result (steps.new ≡ steps.old ++ result_of first width value) }
 {
     steps.push(set_local(first, value))?;
-    let left = cut(alloc, width, first)?;
+    let left = narrow_local(alloc, width, first)?;
     steps.push(set_local(first + 1, left))?;
     let over = differs(alloc, width, local(first + 1), first)?;
     steps.push(set_local(first + 2, over))?;
     push_flags(alloc, steps, narrow(width), first + 1, first + 2)?;
     let accu1 = with_number(alloc, width, local(first + 1))?;
-    steps.push(set(Reg::Accu1, accu1))
+    steps.push(set_register(Reg::Accu1, accu1))
 }
 
 fn push_product(
@@ -51,14 +51,14 @@ fn push_product(
     requires { first + 8 < 2 ^ 32 }
     ensures { OnOk result (steps.new ≡ steps.old ++ product_of first width) }
 {
-    let product = operated(alloc, BinaryOp::Mul, width)?;
+    let product = operation(alloc, BinaryOp::Mul, width)?;
     steps.push(set_local(first, product))?;
-    let left = cut(alloc, width, first)?;
+    let left = narrow_local(alloc, width, first)?;
     let over = differs(alloc, width, left, first)?;
     steps.push(set_local(first + 1, over))?;
     push_flags(alloc, steps, wide(width), first, first + 1)?;
     let accu1 = convert(alloc, wide(width), StType::Dword, local(first))?;
-    steps.push(set(Reg::Accu1, accu1))
+    steps.push(set_register(Reg::Accu1, accu1))
 }
 
 fn zero(alloc: Global, ty: StType, index: u32) -> Result<Expr, NoMemory>
@@ -75,8 +75,13 @@ fn divisor(alloc: Global, ty: StType, index: u32) -> Result<Expr, NoMemory>
     select(alloc, none, local(index), constant(ty, 1))
 }
 
-fn divided(alloc: Global, op: BinaryOp, width: Width, index: u32) -> Result<Expr, NoMemory>
-    ensures { IfOk result (λ value. value ≡ divided_of op width index) }
+fn division_by_local(
+    alloc: Global,
+    op: BinaryOp,
+    width: Width,
+    index: u32,
+) -> Result<Expr, NoMemory>
+    ensures { IfOk result (λ value. value ≡ division_by_local_of op width index) }
 {
     let number = wide_number(alloc, width, Reg::Accu2)?;
     let divisor = divisor(alloc, wide(width), index)?;
@@ -86,7 +91,7 @@ fn divided(alloc: Global, op: BinaryOp, width: Width, index: u32) -> Result<Expr
 fn quotient_over(alloc: Global, width: Width, none: u32, index: u32) -> Result<Expr, NoMemory>
     ensures { IfOk result (λ value. value ≡ quotient_over_of width none index) }
 {
-    let left = cut(alloc, width, index)?;
+    let left = narrow_local(alloc, width, index)?;
     let over = differs(alloc, width, left, index)?;
     or(alloc, local(none), over)
 }
@@ -128,10 +133,10 @@ fn push_division_flags(
 {
     let above = positive(alloc, wide(width), signed)?;
     let cc1 = or(alloc, local(none), above)?;
-    steps.push(set(Reg::Cc1, cc1))?;
+    steps.push(set_register(Reg::Cc1, cc1))?;
     let below = negative(alloc, wide(width), signed)?;
     let cc0 = or(alloc, local(none), below)?;
-    steps.push(set(Reg::Cc0, cc0))?;
+    steps.push(set_register(Reg::Cc0, cc0))?;
     push_overflow(alloc, steps, over)
 }
 
@@ -145,7 +150,7 @@ fn push_division_left(
     ensures { OnOk result (steps.new ≡ steps.old ++ division_left_of none accu1) }
 {
     let accu1 = select(alloc, local(none), accu1, read(Reg::Accu1))?;
-    steps.push(set(Reg::Accu1, accu1))
+    steps.push(set_register(Reg::Accu1, accu1))
 }
 
 #[tactic(auto, unfolding(crate::specs::Calculations::divisor_kept_of))]
@@ -169,9 +174,9 @@ fn push_quotient_in_words(alloc: Global, steps: &mut List<Stmt>, first: u32) -> 
     requires { first + 8 < 2 ^ 32 }
     ensures { OnOk result (steps.new ≡ steps.old ++ quotient_in_words_of first) }
 {
-    let quotient = divided(alloc, BinaryOp::Div, Width::Word, first)?;
+    let quotient = division_by_local(alloc, BinaryOp::Div, Width::Word, first)?;
     steps.push(set_local(first + 2, quotient))?;
-    let remainder = divided(alloc, BinaryOp::Mod, Width::Word, first)?;
+    let remainder = division_by_local(alloc, BinaryOp::Mod, Width::Word, first)?;
     steps.push(set_local(first + 3, remainder))?;
     let over = quotient_over(alloc, Width::Word, first + 1, first + 2)?;
     steps.push(set_local(first + 4, over))?;
@@ -185,7 +190,7 @@ fn push_quotient_in_dword(alloc: Global, steps: &mut List<Stmt>, first: u32) -> 
     requires { first + 8 < 2 ^ 32 }
     ensures { OnOk result (steps.new ≡ steps.old ++ quotient_in_dword_of first) }
 {
-    let quotient = divided(alloc, BinaryOp::Div, Width::Dword, first)?;
+    let quotient = division_by_local(alloc, BinaryOp::Div, Width::Dword, first)?;
     steps.push(set_local(first + 2, quotient))?;
     let over = quotient_over(alloc, Width::Dword, first + 1, first + 2)?;
     steps.push(set_local(first + 3, over))?;
@@ -203,7 +208,7 @@ fn push_remainder_in_dword(
     requires { first + 8 < 2 ^ 32 }
     ensures { OnOk result (steps.new ≡ steps.old ++ remainder_in_dword_of first) }
 {
-    let remainder = divided(alloc, BinaryOp::Mod, Width::Dword, first)?;
+    let remainder = division_by_local(alloc, BinaryOp::Mod, Width::Dword, first)?;
     steps.push(set_local(first + 2, remainder))?;
     push_division_flags(alloc, steps, Width::Dword, first + 1, first + 1, first + 2)?;
     let accu1 = convert(alloc, StType::Lint, StType::Dword, local(first + 2))?;
@@ -218,13 +223,13 @@ fn push_operated(
     width: Width,
 ) -> Result<(), NoMemory>
     requires { first + 8 < 2 ^ 32 }
-    ensures { OnOk result (steps.new ≡ steps.old ++ result_of first width (operated_of op width)) }
+    ensures { OnOk result (steps.new ≡ steps.old ++ result_of first width (operation_of op width)) }
 {
-    let value = operated(alloc, op, width)?;
+    let value = operation(alloc, op, width)?;
     push_result(alloc, steps, first, width, value)
 }
 
-/// Pushes the statements of an arithmetic row, whose locals are those from `first` on.
+/// Appends the statements of an arithmetic instruction, whose locals are those from `first` on.
 pub fn push_calculated(
     alloc: Global,
     steps: &mut List<Stmt>,
@@ -256,7 +261,7 @@ pub fn push_calculated(
     }
 }
 
-/// Pushes the statements of NEGI or NEGD, whose locals are those from `first` on.
+/// Appends the statements of NEGI or NEGD, whose locals are those from `first` on.
 pub fn push_negated(
     alloc: Global,
     steps: &mut List<Stmt>,
@@ -271,7 +276,7 @@ pub fn push_negated(
     push_result(alloc, steps, first, width, negated)
 }
 
-/// The types of the locals of an arithmetic row, in their order.
+/// The types of the locals of an arithmetic instruction, in their order.
 pub fn types_of_calculated(row: Arith) -> &'static [StType]
     ensures { result.now ≡ types_of_calculated row }
 {

@@ -1,14 +1,14 @@
 //! Comparisons of whole numbers.
 ghost use Rattle.std.specs.Prelude.{◌≡◌, ◌++◌, ◌+◌, ◌<◌, ◌^◌, IfOk, OnOk};
 ghost use Rattle.arithmetic_templates.specs.Comparisons.{compared_of, comparison_of, types_of_compared};
-ghost use Rattle.row_templates.specs.Builders.{binary_of, local_of};
+ghost use Rattle.template_parts.specs.Builders.{binary_of, local_of};
 
 use crate::numbers::number;
-use row_templates::{binary, literal, local, push_cleared, set, set_local};
 use s7_base::{List, NoMemory, Reg, Width};
 use st_tree::{BinaryOp, Expr, StType, Stmt};
 use status_word::Test;
 use std::alloc::Global;
+use template_parts::{binary, literal, local, push_clear_or, set_local, set_register};
 
 /// An operator between two locals.
 fn between(alloc: Global, op: BinaryOp, left: u32, right: u32) -> Result<Expr, NoMemory>
@@ -32,7 +32,7 @@ fn comparison(alloc: Global, test: Test, left: u32, right: u32) -> Result<Expr, 
     }
 }
 
-/// Pushes the statements of a comparison, whose locals are those from `first` on.
+/// Appends the statements of a comparison, whose locals are those from `first` on.
 pub fn push_compared(
     alloc: Global,
     steps: &mut List<Stmt>,
@@ -48,13 +48,13 @@ pub fn push_compared(
     let right = number(alloc, width, Reg::Accu1)?;
     steps.push(set_local(first + 1, right))?;
     let answer = comparison(alloc, test, first, first + 1)?;
-    steps.push(set(Reg::Rlo, answer))?;
+    steps.push(set_register(Reg::Rlo, answer))?;
     let above = between(alloc, BinaryOp::Gt, first, first + 1)?;
-    steps.push(set(Reg::Cc1, above))?;
+    steps.push(set_register(Reg::Cc1, above))?;
     let below = between(alloc, BinaryOp::Lt, first, first + 1)?;
-    steps.push(set(Reg::Cc0, below))?;
-    steps.push(set(Reg::Ov, literal(false)))?;
-    push_cleared(steps, true)
+    steps.push(set_register(Reg::Cc0, below))?;
+    steps.push(set_register(Reg::Ov, literal(false)))?;
+    push_clear_or(steps, true)
 }
 
 /// The types of the locals of a comparison, in their order.

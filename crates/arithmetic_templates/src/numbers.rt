@@ -1,11 +1,11 @@
 //! Numbers of a width and wider ones, and what ends a calculation.
 ghost use Rattle.std.specs.Prelude.{◌≡◌, ◌++◌, IfOk, OnOk};
-ghost use Rattle.arithmetic_templates.specs.Numbers.{cut_of, differs_of, flags_of, narrow, negative_of, number_of, overflow_of, positive_of, wide, wide_number_of, with_number_of};
+ghost use Rattle.arithmetic_templates.specs.Numbers.{narrow_local_of, differs_of, flags_of, narrow, negative_of, number_of, overflow_of, positive_of, wide, wide_number_of, with_number_of};
 
-use row_templates::{binary, constant, convert, local, or, read, set, with_low};
 use s7_base::{List, NoMemory, Reg, Width};
 use st_tree::{BinaryOp, Expr, StType, Stmt};
 use std::alloc::Global;
+use template_parts::{binary, constant, convert, local, or, read, set_register, with_low};
 
 pub fn narrow(width: Width) -> StType
     ensures { result ≡ narrow width }
@@ -38,16 +38,21 @@ pub fn wide_number(alloc: Global, width: Width, register: Reg) -> Result<Expr, N
     convert(alloc, narrow(width), wide(width), held)
 }
 
-pub fn cut(alloc: Global, width: Width, index: u32) -> Result<Expr, NoMemory>
-    ensures { IfOk result (λ value. value ≡ cut_of width index) }
+pub fn narrow_local(alloc: Global, width: Width, index: u32) -> Result<Expr, NoMemory>
+    ensures { IfOk result (λ value. value ≡ narrow_local_of width index) }
 {
     convert(alloc, wide(width), narrow(width), local(index))
 }
 
-pub fn differs(alloc: Global, width: Width, cut: Expr, index: u32) -> Result<Expr, NoMemory>
-    ensures { IfOk result (λ value. value ≡ differs_of width cut index) }
+pub fn differs(
+    alloc: Global,
+    width: Width,
+    narrow_local: Expr,
+    index: u32,
+) -> Result<Expr, NoMemory>
+    ensures { IfOk result (λ value. value ≡ differs_of width narrow_local index) }
 {
-    let widened = convert(alloc, narrow(width), wide(width), cut)?;
+    let widened = convert(alloc, narrow(width), wide(width), narrow_local)?;
     binary(alloc, BinaryOp::Ne, widened, local(index))
 }
 
@@ -79,9 +84,9 @@ pub fn with_number(alloc: Global, width: Width, number: Expr) -> Result<Expr, No
 pub fn push_overflow(alloc: Global, steps: &mut List<Stmt>, over: u32) -> Result<(), NoMemory>
     ensures { OnOk result (steps.new ≡ steps.old ++ overflow_of over) }
 {
-    steps.push(set(Reg::Ov, local(over)))?;
+    steps.push(set_register(Reg::Ov, local(over)))?;
     let stored = or(alloc, read(Reg::Os), local(over))?;
-    steps.push(set(Reg::Os, stored))
+    steps.push(set_register(Reg::Os, stored))
 }
 
 /// Flags of a calculation, of which those of a sign are a local's.
@@ -95,8 +100,8 @@ pub fn push_flags(
     ensures { OnOk result (steps.new ≡ steps.old ++ flags_of (positive_of ty signed) (negative_of ty signed) over) }
 {
     let cc1 = positive(alloc, ty, signed)?;
-    steps.push(set(Reg::Cc1, cc1))?;
+    steps.push(set_register(Reg::Cc1, cc1))?;
     let cc0 = negative(alloc, ty, signed)?;
-    steps.push(set(Reg::Cc0, cc0))?;
+    steps.push(set_register(Reg::Cc0, cc0))?;
     push_overflow(alloc, steps, over)
 }

@@ -74,7 +74,8 @@ pattern count s ds l e =
     }
 
 -- what a pattern with these digits and this sign reads as
-value_of : (count n a : ℕ) (ds : List ℕ) (b : Bool) → digits 16 count n ≡ ds → are_decimal ds ≡ true → is_negative count n ≡ b → worth 10 ds ≡ a → bcd_value count n ≡ Ok (with_sign b a)
+value_of : (count n a : ℕ) (ds : List ℕ) (b : Bool) → digits 16 count n ≡ ds → are_decimal ds ≡ true
+    → is_negative count n ≡ b → worth 10 ds ≡ a → bcd_value count n ≡ Ok (with_sign b a)
 value_of count n a ds b e f g h = rw (e, f, g, h) refl
 
 -- What is written for a number
@@ -89,7 +90,9 @@ written count n v e =
     let p = cond_some (nat_lt (unsigned_abs v) (10 ^ count)) (worth 16 (digits 10 count (unsigned_abs v) ++ sign_digit v ∷ [])) n e in
     record {
       fits = ltb-true (unsigned_abs v) (10 ^ count) p.0;
-      parts = rw (← p.1) (pattern count (sign_digit v) (digits 10 count (unsigned_abs v)) (length-digits 10 count (unsigned_abs v)) (ten_decimal count (unsigned_abs v)));
+      parts =
+          rw (← p.1)
+          (pattern count (sign_digit v) (digits 10 count (unsigned_abs v)) (length-digits 10 count (unsigned_abs v)) (ten_decimal count (unsigned_abs v)));
     }
 
 pub law_reads_back : ReadsBack
@@ -97,7 +100,8 @@ law_reads_back count n v e =
     let w : Written count n v = written count n v e in
     let ds : List ℕ = digits 10 count (unsigned_abs v) in
     let negative : is_negative count n ≡ int_lt v (pos 0) = top_bit count n ∙ rw w.parts.top (sign_bit (int_lt v (pos 0))) in
-    value_of count n (unsigned_abs v) ds (int_lt v (pos 0)) w.parts.lowest (ten_decimal count (unsigned_abs v)) negative (worth-all_digits 10 count (unsigned_abs v) w.fits)
+    value_of count n (unsigned_abs v) ds (int_lt v (pos 0)) w.parts.lowest
+    (ten_decimal count (unsigned_abs v)) negative (worth-all_digits 10 count (unsigned_abs v) w.fits)
     ∙ rw (whole v) refl
 
 -- What is read from a pattern
@@ -129,7 +133,8 @@ law_writes_back count n v w e =
     let abs : unsigned_abs v ≡ worth 10 ds = rw (← p.1) (abs-with_sign (is_negative count n) (worth 10 ds)) in
     let tens : digits 10 count (worth 10 ds) ≡ ds = rw (append-nil ds, l) at (digits-worth 10 ds [] below) in
     let all : t * 16 ^ count + worth 16 ds ≡ n = worth-digits 16 count n in
-    let some : t ≡ 0xF → worth 10 ds ≢ 0 = λ (f : t ≡ 0xF) (z : worth 10 ds ≡ 0). w.not_minus_zero (sym all ∙ rw (f, worth-zero 10 16 ds (omega arith) z) (omega arith)) in
+    let some : t ≡ 0xF → worth 10 ds ≢ 0 =
+    λ (f : t ≡ 0xF) (z : worth 10 ds ≡ 0). w.not_minus_zero (sym all ∙ rw (f, worth-zero 10 16 ds (omega arith) z) (omega arith)) in
     let sign : sign_digit v ≡ t = sign_kept t (worth 10 ds) v (rw top_bit at p.1) w.sign some in
     let last : worth 16 (t ∷ []) ≡ t = omega arith in
     let same : worth 16 (ds ++ t ∷ []) ≡ n = worth-append 16 ds (t ∷ []) ∙ rw (last, l) all in

@@ -61,7 +61,9 @@ carried m q w b d = omega arith
 -- what stands above the digits counts for as many powers of the base
 pub worth-append : (b : ℕ) (ds more : List ℕ) → worth b (ds ++ more) ≡ worth b more * b ^ length ds + worth b ds
 worth-append b [] more = rw pow-zero (omega arith)
-worth-append b (d ∷ ds) more = worth-cons b d (ds ++ more) ∙ rw (worth-append b ds more, worth-cons b d ds, pow-suc b (length ds)) (carried (worth b more) (b ^ length ds) (worth b ds) b d)
+worth-append b (d ∷ ds) more =
+    worth-cons b d (ds ++ more)
+    ∙ rw (worth-append b ds more, worth-cons b d ds, pow-suc b (length ds)) (carried (worth b more) (b ^ length ds) (worth b ds) b d)
 
 pub length-digits : (b count n : ℕ) → length (digits b count n) ≡ count
 length-digits b zero n = refl

@@ -1,3 +1,3 @@
-mod BcdRows
+mod BcdCases
 pub mod BcdRound
 pub mod Digits

@@ -1,7 +1,7 @@
 //! Laws of numbers in binary-coded decimal. Each is the contract of a function that does nothing.
 ghost use Rattle.bcd_words.specs.BcdLaws.{ReadsBack, WritesBack, WritesNoOther};
 
-/// What is written for a number reads as it.
+/// The pattern that is written for a number reads as the number.
 pub fn reads_back()
     ensures { ReadsBack }
 {}
@@ -11,7 +11,7 @@ pub fn writes_back()
     ensures { WritesBack }
 {}
 
-/// What is written is such a pattern.
+/// What is written for a number has a sign digit 0 or 15, and is not minus zero.
 pub fn writes_no_other()
     ensures { WritesNoOther }
 {}

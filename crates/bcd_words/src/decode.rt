@@ -4,7 +4,7 @@ ghost use Rattle.bcd_words.specs.Bcd.{digits, worth, are_decimal, is_negative, w
 
 use s7_base::Fault;
 
-/// The number that a word says in three digits.
+/// The number that a word says in three digits, -999 to 999, or the fault of a digit above 9.
 pub fn bcd3_to_int(w: u16) -> Result<i16, Fault>
     ensures { result ≡ bcd_value 3 w }
 {
@@ -15,7 +15,8 @@ pub fn bcd3_to_int(w: u16) -> Result<i16, Fault>
     }
 }
 
-/// The number that a double word says in seven digits.
+/// The number that a double word says in seven digits, -9,999,999 to 9,999,999, or the fault of a digit above
+/// 9.
 pub fn bcd7_to_dint(w: u32) -> Result<i32, Fault>
     ensures { result ≡ bcd_value 7 w }
 {

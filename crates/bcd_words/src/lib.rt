@@ -1,7 +1,7 @@
 //! Numbers in binary-coded decimal, of three digits in a word and of seven in a double word.
 //!
-//! Stands on `s7_base`. `specs/` has what a pattern says and which pattern is written for a number, one
-//! definition for every count of digits; `bcd_laws` proves that the two undo each other.
+//! Uses `s7_base`. `specs/` defines what a pattern says and which pattern is written for a number, once for
+//! every count of digits; `bcd_laws` proves that the two undo each other.
 #![tactic(auto)]
 
 pub use bcd_laws::{reads_back, writes_back, writes_no_other};

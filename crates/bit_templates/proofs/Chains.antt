@@ -5,9 +5,9 @@ use Rattle.s7_base.specs.declared.check.Check.TheVariants as check
 use Rattle.s7_base.specs.declared.outcome.Fault.{Fault}
 use Rattle.s7_base.specs.declared.register.Reg.TheVariants as reg
 use Rattle.stl_tree.specs.Now.{Now}
-use Rattle.row_templates.specs.Related.{Frames, Related}
-use Rattle.row_templates.proofs.Operands.{nfc_worth, rlo_worth}
-use Rattle.row_templates.proofs.Truths.{IsWorth, Stops, and_worth, left_stops, not_stops, not_worth, or_worth, register_worth, right_stops, xor_worth}
+use Rattle.template_parts.specs.Related.{Frames, Related}
+use Rattle.template_parts.proofs.Operands.{nfc_worth, rlo_worth}
+use Rattle.template_parts.proofs.Truths.{IsWorth, Stops, and_worth, left_stops, not_stops, not_worth, or_worth, register_worth, right_stops, xor_worth}
 use Rattle.status_word.specs.StatusBits.{StatusBits, rlo_after}
 use Rattle.st_tree.specs.State.{State}
 use Rattle.st_tree.specs.Values.{flag}
@@ -17,7 +17,7 @@ use Rattle.st_tree.specs.declared.expr.Expr.TheVariants as expr
 use Rattle.st_tree.specs.declared.program.Located.{Located}
 use Rattle.bit_templates.specs.declared.chain.Chain.{Chain}
 use Rattle.bit_templates.specs.Bits.{and_joined, next_rlo, rlo_before_and, rlo_before_or, running_chain}
-use Rattle.row_templates.specs.Builders.{and_of, not_of, or_of, xor_of}
+use Rattle.template_parts.specs.Builders.{and_of, not_of, or_of, xor_of}
 
 module _ (g : List Located) (s : State) where
   -- a chain keeps these bits
@@ -28,7 +28,9 @@ module _ (g : List Located) (s : State) where
 
   module _ (chain : Chain) (bits : StatusBits) (kept : IsChain chain bits) where
     before_and : IsWorth g s (rlo_before_and chain) (bits.rlo || not bits.nfc)
-    before_and = or_worth g s (expr.Read chain.rlo) (not_of (expr.Read chain.nfc)) bits.rlo (not bits.nfc) kept.rlo (not_worth g s (expr.Read chain.nfc) bits.nfc kept.nfc)
+    before_and =
+        or_worth g s (expr.Read chain.rlo) (not_of (expr.Read chain.nfc)) bits.rlo
+        (not bits.nfc) kept.rlo (not_worth g s (expr.Read chain.nfc) bits.nfc kept.nfc)
 
     before_or : IsWorth g s (rlo_before_or chain) (bits.rlo && bits.nfc)
     before_or = and_worth g s (expr.Read chain.rlo) (expr.Read chain.nfc) bits.rlo bits.nfc kept.rlo kept.nfc
@@ -38,25 +40,25 @@ module _ (g : List Located) (s : State) where
         or_worth g s (and_of (rlo_before_and chain) e) (expr.Read chain.orb) ((bits.rlo || not bits.nfc) && b) bits.orb
         (and_worth g s (rlo_before_and chain) e (bits.rlo || not bits.nfc) b before_and h) kept.orb
 
-    or_row : (rlo nfc b : Bool) → ((rlo && nfc) || b) ≡ (if nfc then rlo || b else b)
-    or_row true true b = refl
-    or_row true false b = refl
-    or_row false true b = refl
-    or_row false false b = refl
+    or_effect : (rlo nfc b : Bool) → ((rlo && nfc) || b) ≡ (if nfc then rlo || b else b)
+    or_effect true true b = refl
+    or_effect true false b = refl
+    or_effect false true b = refl
+    or_effect false false b = refl
 
-    xor_row : (rlo nfc b : Bool) → (if rlo && nfc then not b else b) ≡ (if nfc then (if rlo then not b else b) else b)
-    xor_row true true b = refl
-    xor_row true false b = refl
-    xor_row false true b = refl
-    xor_row false false b = refl
+    xor_effect : (rlo nfc b : Bool) → (if rlo && nfc then not b else b) ≡ (if nfc then (if rlo then not b else b) else b)
+    xor_effect true true b = refl
+    xor_effect true false b = refl
+    xor_effect false true b = refl
+    xor_effect false false b = refl
 
     or_else : (e : Expr) (b : Bool) → IsWorth g s e b → IsWorth g s (or_of (rlo_before_or chain) e) (if bits.nfc then bits.rlo || b else b)
     or_else e b h =
-        or_worth g s (rlo_before_or chain) e (bits.rlo && bits.nfc) b before_or h ∙ ap (λ x. Ok (flag x)) (or_row bits.rlo bits.nfc b)
+        or_worth g s (rlo_before_or chain) e (bits.rlo && bits.nfc) b before_or h ∙ ap (λ x. Ok (flag x)) (or_effect bits.rlo bits.nfc b)
 
     xor_else : (e : Expr) (b : Bool) → IsWorth g s e b → IsWorth g s (xor_of (rlo_before_or chain) e) (if bits.nfc then (if bits.rlo then not b else b) else b)
     xor_else e b h =
-        xor_worth g s (rlo_before_or chain) e (bits.rlo && bits.nfc) b before_or h ∙ ap (λ x. Ok (flag x)) (xor_row bits.rlo bits.nfc b)
+        xor_worth g s (rlo_before_or chain) e (bits.rlo && bits.nfc) b before_or h ∙ ap (λ x. Ok (flag x)) (xor_effect bits.rlo bits.nfc b)
 
     twice : (nfc rlo b : Bool) → (if nfc then (if rlo then not (not b) else not b) else not b) ≡ (if nfc then (if rlo then b else not b) else not b)
     twice true true true = refl
@@ -91,4 +93,8 @@ module _ (g : List Located) (frames : Frames) (now : Now) (s : State) (related :
   -- the registers keep the chain
   pub chain_runs : IsChain g s running_chain now.registers.status
   chain_runs =
-      record { rlo = rlo_worth g frames now s related; nfc = nfc_worth g frames now s related; orb = register_worth g s reg.Orb now.registers.status.orb refl (related.registers reg.Orb tt) }
+      record {
+        rlo = rlo_worth g frames now s related;
+        nfc = nfc_worth g frames now s related;
+        orb = register_worth g s reg.Orb now.registers.status.orb refl (related.registers reg.Orb tt);
+      }

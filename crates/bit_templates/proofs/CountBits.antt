@@ -15,16 +15,16 @@ use Rattle.st_tree.specs.declared.program.Stmt.{Stmt}
 use Rattle.stl_tree.specs.declared.program.BitArg.{BitArg}
 use Rattle.stl_tree.specs.declared.program.BitArg.TheVariants as arg
 use Rattle.stl_tree.specs.declared.program.Operand.{Operand}
-use Rattle.row_templates.proofs.Sizes.{counts, of_append, of_assign, of_cleared, of_joined, of_literal, of_nfc, of_not, of_not_register, of_nothing, of_read, of_register}
-use Rattle.row_templates.specs.Nodes.{nodes, nodes_in}
-use Rattle.row_templates.specs.Fetching.{fetch_of, fetched_of, reach_of, types_fetched, writing_of}
-use Rattle.row_templates.proofs.FetchBounds.{fetch_length, fetch_nodes, fetch_writes, fetched_nodes, reach_length, reach_nodes, reach_writes, writes_in_parts, writing_nodes, writing_writes}
+use Rattle.template_parts.proofs.Sizes.{counts, of_append, of_assign, of_cleared, of_joined, of_literal, of_nfc, of_not, of_not_register, of_nothing, of_read, of_register}
+use Rattle.template_parts.specs.Nodes.{nodes, nodes_in}
+use Rattle.template_parts.specs.Fetching.{fetch_of, fetched_value_of, reach_of, types_fetched, writing_of}
+use Rattle.template_parts.proofs.FetchBounds.{fetch_length, fetch_nodes, fetch_writes, fetched_nodes, reach_length, reach_nodes, reach_writes, writes_in_parts, writing_nodes, writing_writes}
 use Rattle.bit_templates.specs.declared.chain.Chain.{Chain}
 use Rattle.bit_templates.specs.declared.chain.OpenBracket.{OpenBracket}
 use Rattle.s7_base.specs.declared.word.Width.TheVariants as width
-use Rattle.row_templates.specs.Builders.{and_of, cleared, literal_of, local_of, not_of, read_of, set_of}
-use Rattle.row_templates.specs.Writes.{AreWrites}
-use Rattle.bit_templates.specs.Bits.{and_joined, answer_of, assigned_of, before_check, behind_check, check_of, checked_bit_of, checked_of, edge_at, edge_of, falling, inverted_of, keep_of, next_rlo, or_alone_of, reset_value, rising, rlo_before_and, rlo_before_or, rlo_set, running_chain, saved_of, set_value, store_of, stored_of}
+use Rattle.template_parts.specs.Builders.{and_of, clear_or, literal_of, local_of, not_of, read_of, set_of}
+use Rattle.template_parts.specs.Writes.{AreWrites}
+use Rattle.bit_templates.specs.Bits.{and_joined, answer_of, assigned_of, before_check, behind_check, check_of, checked_bit_of, check_value_of, edge_at, edge_of, falling, inverted_of, keep_of, next_rlo, or_alone_of, reset_value, rising, rlo_before_and, rlo_before_or, rlo_set, running_chain, saved_of, set_value, store_of, stored_of}
 use Rattle.bit_templates.specs.Brackets.{behind_close, close_of, open_of}
 
 -- Expressions
@@ -41,7 +41,7 @@ of_answer test.Ov = omega (arith, of_register reg.Ov)
 of_answer test.Os = omega (arith, of_register reg.Os)
 of_answer test.Br = omega (arith, of_register reg.Br)
 
-of_checked : (used : ℕ) (b : BitArg) → nodes (checked_of used b) ≤ 5
+of_checked : (used : ℕ) (b : BitArg) → nodes (check_value_of used b) ≤ 5
 of_checked used (arg.At o) = omega (arith, fetched_nodes used o width.Bit)
 of_checked used (arg.Flag t) = of_answer t
 
@@ -54,7 +54,13 @@ before_or chain = omega (arith, of_joined binary.And (expr.Read chain.rlo) (expr
 
 of_and : (chain : Chain) (e : Expr) → nodes (and_joined chain e) ≡ nodes e + 7
 of_and chain e =
-    omega (arith, of_joined binary.Or (and_of (rlo_before_and chain) e) (expr.Read chain.orb), of_joined binary.And (rlo_before_and chain) e, before_and chain, of_read chain.orb)
+    omega (
+      arith,
+      of_joined binary.Or (and_of (rlo_before_and chain) e) (expr.Read chain.orb),
+      of_joined binary.And (rlo_before_and chain) e,
+      before_and chain,
+      of_read chain.orb,
+    )
 
 -- Statements
 
@@ -85,13 +91,13 @@ close_nodes o =
 
 pub of_opened : (first : ℕ) → nodes_in (open_of first) ≡ 5
 of_opened first =
-    let nfc : List Stmt = keep_of (first + 2) reg.Nfc ∷ cleared false in
+    let nfc : List Stmt = keep_of (first + 2) reg.Nfc ∷ clear_or false in
     let orb : List Stmt = keep_of (first + 1) reg.Orb ∷ nfc in
     omega (
       arith,
       of_assign (var.Local first) (read_of reg.Rlo) orb,
       of_assign (var.Local (first + 1)) (read_of reg.Orb) nfc,
-      of_assign (var.Local (first + 2)) (read_of reg.Nfc) (cleared false),
+      of_assign (var.Local (first + 2)) (read_of reg.Nfc) (clear_or false),
       of_register reg.Rlo,
       of_register reg.Orb,
       of_register reg.Nfc,
@@ -99,16 +105,16 @@ of_opened first =
     )
 
 of_store : (used : ℕ) (o : Operand) (e : Expr) → nodes_in (store_of used o e) ≤ nodes e + 3
-of_store used o e = omega (arith, writing_nodes used o width.Bit e (cleared false), of_cleared false)
+of_store used o e = omega (arith, writing_nodes used o width.Bit e (clear_or false), of_cleared false)
 
 of_edge : (used : ℕ) (o : Operand) (i : ℕ) (e : Expr) → nodes_in (edge_of used o i e) ≤ nodes e + 5
 of_edge used o i e =
-    let last : List Stmt = set_of reg.Rlo (expr.Read (var.Local i)) ∷ cleared true in
+    let last : List Stmt = set_of reg.Rlo (expr.Read (var.Local i)) ∷ clear_or true in
     omega (
       arith,
       of_assign (var.Local i) e (writing_of used o width.Bit (read_of reg.Rlo) ∷ last),
       writing_nodes used o width.Bit (read_of reg.Rlo) last,
-      of_assign (var.Register reg.Rlo) (expr.Read (var.Local i)) (cleared true),
+      of_assign (var.Register reg.Rlo) (expr.Read (var.Local i)) (clear_or true),
       of_register reg.Rlo,
       of_read (var.Local i),
       of_cleared true,
@@ -118,15 +124,15 @@ of_before : (used : ℕ) (b : BitArg) → nodes_in (before_check used b) ≤ 13
 of_before used (arg.At o) = fetch_nodes used o width.Bit
 of_before used (arg.Flag t) = omega (arith, of_nothing)
 
-of_stored : (used : ℕ) (o : Operand) (value : Expr → Expr) → nodes (value (fetched_of used o width.Bit)) ≤ 5 → nodes_in (stored_of used o value) ≤ 91
+of_stored : (used : ℕ) (o : Operand) (value : Expr → Expr) → nodes (value (fetched_value_of used o width.Bit)) ≤ 5 → nodes_in (stored_of used o value) ≤ 91
 of_stored used o value few =
-    let e : Expr = value (fetched_of used o width.Bit) in
+    let e : Expr = value (fetched_value_of used o width.Bit) in
     let before = fetch_nodes used o width.Bit in
     omega (arith, of_append (fetch_of used o width.Bit) (store_of used o e), of_store used o e)
 
-of_edge_at : (used : ℕ) (o : Operand) (value : Expr → Expr) → nodes (value (fetched_of used o width.Bit)) ≤ 5 → nodes_in (edge_at used o value) ≤ 91
+of_edge_at : (used : ℕ) (o : Operand) (value : Expr → Expr) → nodes (value (fetched_value_of used o width.Bit)) ≤ 5 → nodes_in (edge_at used o value) ≤ 91
 of_edge_at used o value few =
-    let e : Expr = value (fetched_of used o width.Bit) in
+    let e : Expr = value (fetched_value_of used o width.Bit) in
     let later : ℕ = used + length (types_fetched o width.Bit) in
     let before = fetch_nodes used o width.Bit in
     omega (arith, of_append (fetch_of used o width.Bit) (edge_of used o later e), of_edge used o later e)
@@ -135,7 +141,7 @@ of_edge_at used o value few =
 
 pub check_nodes : (first : ℕ) (c : Check) (b : BitArg) → nodes_in (checked_bit_of first c b) ≤ 91
 check_nodes first c b =
-    let bit : Expr = checked_of first b in
+    let bit : Expr = check_value_of first b in
     let e : Expr = next_rlo running_chain c bit in
     let before = of_before first b in
     omega (
@@ -156,16 +162,16 @@ assign_nodes first o =
 
 pub set_nodes : (first : ℕ) (o : Operand) → nodes_in (stored_of first o set_value) ≤ 91
 set_nodes first o =
-    let bit : Expr = fetched_of first o width.Bit in
+    let bit : Expr = fetched_value_of first o width.Bit in
     of_stored first o set_value (omega (arith, of_joined binary.Or bit (read_of reg.Rlo), fetched_nodes first o width.Bit, of_register reg.Rlo))
 
 pub reset_nodes : (first : ℕ) (o : Operand) → nodes_in (stored_of first o reset_value) ≤ 91
 reset_nodes first o =
-    let bit : Expr = fetched_of first o width.Bit in
+    let bit : Expr = fetched_value_of first o width.Bit in
     of_stored first o reset_value (omega (arith, of_joined binary.And bit (not_of (read_of reg.Rlo)), fetched_nodes first o width.Bit, of_not_register reg.Rlo))
 
 pub rlo_set_nodes : (b : Bool) → nodes_in (rlo_set b) ≤ 91
-rlo_set_nodes b = omega (arith, of_assign (var.Register reg.Rlo) (literal_of b) (cleared false), of_literal b, of_cleared false)
+rlo_set_nodes b = omega (arith, of_assign (var.Register reg.Rlo) (literal_of b) (clear_or false), of_literal b, of_cleared false)
 
 pub inverted_nodes : nodes_in inverted_of ≤ 91
 inverted_nodes = simp counts (omega arith)
@@ -175,12 +181,13 @@ saved_nodes = simp counts (omega arith)
 
 pub up_nodes : (first : ℕ) (o : Operand) → nodes_in (edge_at first o rising) ≤ 91
 up_nodes first o =
-    let bit : Expr = fetched_of first o width.Bit in
-    of_edge_at first o rising (omega (arith, of_joined binary.And (read_of reg.Rlo) (not_of bit), of_not bit, fetched_nodes first o width.Bit, of_register reg.Rlo))
+    let bit : Expr = fetched_value_of first o width.Bit in
+    of_edge_at first o rising
+    (omega (arith, of_joined binary.And (read_of reg.Rlo) (not_of bit), of_not bit, fetched_nodes first o width.Bit, of_register reg.Rlo))
 
 pub down_nodes : (first : ℕ) (o : Operand) → nodes_in (edge_at first o falling) ≤ 91
 down_nodes first o =
-    let bit : Expr = fetched_of first o width.Bit in
+    let bit : Expr = fetched_value_of first o width.Bit in
     of_edge_at first o falling (omega (arith, of_joined binary.And (not_of (read_of reg.Rlo)) bit, fetched_nodes first o width.Bit, of_not_register reg.Rlo))
 
 -- How many statements
@@ -208,19 +215,19 @@ length_of_before used (arg.Flag t) = omega arith
 pub length_of_stored : (used : ℕ) (o : Operand) (value : Expr → Expr) → length (stored_of used o value) ≤ 11
 length_of_stored used o value =
     let few = fetch_length used o width.Bit in
-    omega (arith, length-append (fetch_of used o width.Bit) (store_of used o (value (fetched_of used o width.Bit))))
+    omega (arith, length-append (fetch_of used o width.Bit) (store_of used o (value (fetched_value_of used o width.Bit))))
 
 pub length_of_edge : (used : ℕ) (o : Operand) (value : Expr → Expr) → length (edge_at used o value) ≤ 11
 length_of_edge used o value =
     let few = fetch_length used o width.Bit in
     let later : ℕ = used + length (types_fetched o width.Bit) in
-    omega (arith, length-append (fetch_of used o width.Bit) (edge_of used o later (value (fetched_of used o width.Bit))))
+    omega (arith, length-append (fetch_of used o width.Bit) (edge_of used o later (value (fetched_value_of used o width.Bit))))
 
 pub check_length : (first : ℕ) (c : Check) (b : BitArg) → length (checked_bit_of first c b) ≤ 11
 check_length first c b =
     let few = length_of_check c in
     let before = length_of_before first b in
-    omega (arith, length-append (before_check first b) (check_of c (checked_of first b)))
+    omega (arith, length-append (before_check first b) (check_of c (check_value_of first b)))
 
 pub close_length : (o : OpenBracket) → length (close_of o) ≤ 11
 close_length o = let few = length_of_close o.check o.kept.orb in omega arith
@@ -254,22 +261,23 @@ writes_of_before used (arg.Flag t) = tt
 
 pub writes_of_stored : (used : ℕ) (o : Operand) (value : Expr → Expr) → AreWrites (stored_of used o value)
 writes_of_stored used o value =
-    let e : Expr = value (fetched_of used o width.Bit) in
-    writes_in_parts (fetch_of used o width.Bit) (store_of used o e) (fetch_writes used o width.Bit) (writing_writes used o width.Bit e (cleared false) tt)
+    let e : Expr = value (fetched_value_of used o width.Bit) in
+    writes_in_parts (fetch_of used o width.Bit) (store_of used o e) (fetch_writes used o width.Bit) (writing_writes used o width.Bit e (clear_or false) tt)
 
 pub writes_of_edge : (used : ℕ) (o : Operand) (value : Expr → Expr) → AreWrites (edge_at used o value)
 writes_of_edge used o value =
     let later : ℕ = used + length (types_fetched o width.Bit) in
     let rlo : Expr = read_of reg.Rlo in
-    writes_in_parts (fetch_of used o width.Bit) (edge_of used o later (value (fetched_of used o width.Bit))) (fetch_writes used o width.Bit)
-    (writing_writes used o width.Bit rlo (set_of reg.Rlo (local_of later) ∷ cleared true) tt)
+    writes_in_parts (fetch_of used o width.Bit) (edge_of used o later (value (fetched_value_of used o width.Bit))) (fetch_writes used o width.Bit)
+    (writing_writes used o width.Bit rlo (set_of reg.Rlo (local_of later) ∷ clear_or true) tt)
 
 pub check_writes : (first : ℕ) (c : Check) (b : BitArg) → AreWrites (checked_bit_of first c b)
-check_writes first c b = writes_in_parts (before_check first b) (check_of c (checked_of first b)) (writes_of_before first b) (writes_of_check c)
+check_writes first c b = writes_in_parts (before_check first b) (check_of c (check_value_of first b)) (writes_of_before first b) (writes_of_check c)
 
 pub close_writes : (o : OpenBracket) → AreWrites (close_of o)
 close_writes o = writes_of_close o.check o.kept.orb
 
 pub assign_writes : (first : ℕ) (o : Operand) → AreWrites (assigned_of first o)
 assign_writes first o =
-    writes_in_parts (reach_of first o) (store_of first o (read_of reg.Rlo)) (reach_writes first o) (writing_writes first o width.Bit (read_of reg.Rlo) (cleared false) tt)
+    writes_in_parts (reach_of first o) (store_of first o (read_of reg.Rlo)) (reach_writes first o)
+    (writing_writes first o width.Bit (read_of reg.Rlo) (clear_or false) tt)

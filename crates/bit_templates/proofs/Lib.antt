@@ -1,10 +1,10 @@
-mod BitRows
-mod BracketRows
+mod BitEffects
+mod BracketEffects
 mod Chains
 mod CountBits
-mod EdgeRows
+mod EdgeEffects
 mod OrderBits
 mod PlainBits
 mod ReadBits
 pub mod Serving
-mod StatusRows
+mod StatusEffects

@@ -12,7 +12,7 @@ use Rattle.stl_tree.specs.declared.program.BitArg.{BitArg}
 use Rattle.stl_tree.specs.declared.program.BitArg.TheVariants as arg
 use Rattle.stl_tree.specs.declared.program.Operand.{Operand}
 use Rattle.st_tree.proofs.PartEquations.{reads_of_binary, reads_of_read, reads_of_unary}
-use Rattle.st_tree.specs.Parts.{reads_of}
+use Rattle.st_tree.specs.BodyParts.{reads_of}
 use Rattle.st_tree.specs.declared.expr.BinaryOp.{BinaryOp}
 use Rattle.st_tree.specs.declared.expr.BinaryOp.TheVariants as binary
 use Rattle.st_tree.specs.declared.expr.UnaryOp.TheVariants as unary
@@ -22,10 +22,10 @@ use Rattle.st_tree.specs.declared.expr.StType.TheVariants as type
 use Rattle.st_tree.specs.declared.expr.Var.TheVariants as var
 use Rattle.st_tree.specs.declared.program.Stmt.{Stmt}
 use Rattle.graph_rules.proofs.Runs.{disorder, disorder_in_parts, locals_set, missed, missed_in_parts, order_equations, sets_in_parts}
-use Rattle.row_templates.specs.Builders.{and_of, cleared, not_of, read_of, set_of}
-use Rattle.row_templates.specs.Fetching.{fetch_of, fetched_of, reach_of, types_fetched, types_reached, writing_of}
-use Rattle.row_templates.proofs.FetchBounds.{reached_fewer}
-use Rattle.row_templates.proofs.FetchOrder.{fetch_disorder, fetch_sets, fetched_misses, misses, reach_disorder, reach_sets, writing_disorder, writing_sets}
+use Rattle.template_parts.specs.Builders.{and_of, clear_or, not_of, read_of, set_of}
+use Rattle.template_parts.specs.Fetching.{fetch_of, fetched_value_of, reach_of, types_fetched, types_reached, writing_of}
+use Rattle.template_parts.proofs.FetchBounds.{reached_fewer}
+use Rattle.template_parts.proofs.FetchOrder.{fetch_disorder, fetch_sets, fetched_misses, misses, reach_disorder, reach_sets, writing_disorder, writing_sets}
 use Rattle.bit_templates.specs.Bits.{and_joined, answer_of, assigned_of, behind_check, check_of, checked_bit_of, edge_at, edge_of, falling, next_rlo, reset_value, rising, rlo_before_and, rlo_before_or, rlo_set, running_chain, set_value, store_of, stored_of, types_checked, types_of_edge}
 use Rattle.bit_templates.specs.Brackets.{behind_close, bracket_at, close_of, open_of}
 
@@ -86,7 +86,7 @@ check_misses n check.On e h = omega (arith, both_misses n binary.Or (rlo_before_
 check_misses n check.X e h = omega (arith, both_misses n binary.Xor (rlo_before_or running_chain) e, before_or_misses n, h)
 check_misses n check.Xn e h = omega (arith, both_misses n binary.Xor (rlo_before_or running_chain) (not_of e), before_or_misses n, not_misses n e, h)
 
-cleared_disorder : (n : ℕ) (b : Bool) → disorder n (cleared b) ≡ 0
+cleared_disorder : (n : ℕ) (b : Bool) → disorder n (clear_or b) ≡ 0
 cleared_disorder n b = simp order_equations
 
 behind_disorder : (n : ℕ) (c : Check) → disorder n (behind_check c) ≡ 0
@@ -110,23 +110,23 @@ checked_disorder n c e h = omega (arith, check_misses n c e h, behind_disorder n
 
 pub check_disorder : (first : ℕ) (c : Check) (b : BitArg) → disorder first (checked_bit_of first c b) ≡ 0
 check_disorder first c (arg.At o) =
-    disorder_in_parts first (fetch_of first o width.Bit) (check_of c (fetched_of first o width.Bit)) (fetch_disorder first o width.Bit)
-    (checked_disorder (first + locals_set (fetch_of first o width.Bit)) c (fetched_of first o width.Bit)
+    disorder_in_parts first (fetch_of first o width.Bit) (check_of c (fetched_value_of first o width.Bit)) (fetch_disorder first o width.Bit)
+    (checked_disorder (first + locals_set (fetch_of first o width.Bit)) c (fetched_value_of first o width.Bit)
     (fetched_misses first o width.Bit (first + locals_set (fetch_of first o width.Bit)) (omega (arith, fetch_sets first o width.Bit))))
 check_disorder first c (arg.Flag t) = checked_disorder first c (answer_of t) (answer_misses first t)
 
 pub check_sets : (first : ℕ) (c : Check) (b : BitArg) → locals_set (checked_bit_of first c b) ≡ length (types_checked b)
 check_sets first c (arg.At o) =
-    omega (arith, sets_in_parts (fetch_of first o width.Bit) (check_of c (fetched_of first o width.Bit)), fetch_sets first o width.Bit, behind_sets c)
+    omega (arith, sets_in_parts (fetch_of first o width.Bit) (check_of c (fetched_value_of first o width.Bit)), fetch_sets first o width.Bit, behind_sets c)
 check_sets first c (arg.Flag t) = behind_sets c
 
 -- Bits
 
 store_disorder : (n first : ℕ) (o : Operand) (e : Expr) → first + length (types_reached o) ≤ n → misses n e ≡ 0 → disorder n (store_of first o e) ≡ 0
-store_disorder n first o e h k = writing_disorder n first o width.Bit e (cleared false) h k (cleared_disorder n false)
+store_disorder n first o e h k = writing_disorder n first o width.Bit e (clear_or false) h k (cleared_disorder n false)
 
 store_sets : (first : ℕ) (o : Operand) (e : Expr) → locals_set (store_of first o e) ≡ 0
-store_sets first o e = writing_sets first o width.Bit e (cleared false)
+store_sets first o e = writing_sets first o width.Bit e (clear_or false)
 
 rlo_misses : (n : ℕ) → misses n (read_of reg.Rlo) ≡ 0
 rlo_misses n = simp order_equations
@@ -160,14 +160,15 @@ falling_adds n e h = both_misses n binary.And (not_of (read_of reg.Rlo)) e ∙ o
 pub stored_disorder : (first : ℕ) (o : Operand) (value : Expr → Expr) → AddsNone value → disorder first (stored_of first o value) ≡ 0
 stored_disorder first o value adds =
     let n : ℕ = first + locals_set (fetch_of first o width.Bit) in
-    let bit : Expr = fetched_of first o width.Bit in
+    let bit : Expr = fetched_value_of first o width.Bit in
     let more = reached_fewer o width.Bit in
     disorder_in_parts first (fetch_of first o width.Bit) (store_of first o (value bit)) (fetch_disorder first o width.Bit)
-    (store_disorder n first o (value bit) (omega (arith, fetch_sets first o width.Bit, more)) (adds n bit (fetched_misses first o width.Bit n (omega (arith, fetch_sets first o width.Bit)))))
+    (store_disorder n first o (value bit) (omega (arith, fetch_sets first o width.Bit, more))
+    (adds n bit (fetched_misses first o width.Bit n (omega (arith, fetch_sets first o width.Bit)))))
 
 pub stored_sets : (first : ℕ) (o : Operand) (value : Expr → Expr) → locals_set (stored_of first o value) ≡ length (types_fetched o width.Bit)
 stored_sets first o value =
-    let e : Expr = value (fetched_of first o width.Bit) in
+    let e : Expr = value (fetched_value_of first o width.Bit) in
     omega (arith, sets_in_parts (fetch_of first o width.Bit) (store_of first o e), fetch_sets first o width.Bit, store_sets first o e)
 
 pub rlo_set_disorder : (first : ℕ) (b : Bool) → disorder first (rlo_set b) ≡ 0
@@ -177,19 +178,19 @@ rlo_set_disorder first b = simp order_equations
 
 edge_disorder : (n first : ℕ) (o : Operand) (e : Expr) → first + length (types_reached o) ≤ n → misses n e ≡ 0 → disorder n (edge_of first o n e) ≡ 0
 edge_disorder n first o e h k =
-    let last : List Stmt = set_of reg.Rlo (expr.Read (var.Local n)) ∷ cleared true in
+    let last : List Stmt = set_of reg.Rlo (expr.Read (var.Local n)) ∷ clear_or true in
     let end : disorder (suc n) last ≡ 0 = simp order_equations (omega arith) in
     let rest : disorder (suc n) (writing_of first o width.Bit (read_of reg.Rlo) ∷ last) ≡ 0 =
     writing_disorder (suc n) first o width.Bit (read_of reg.Rlo) last (omega (arith, h)) (rlo_misses (suc n)) end in
     omega (arith, k, rest)
 
 edge_sets : (first : ℕ) (o : Operand) (i : ℕ) (e : Expr) → locals_set (edge_of first o i e) ≡ 1
-edge_sets first o i e = ap suc (writing_sets first o width.Bit (read_of reg.Rlo) (set_of reg.Rlo (expr.Read (var.Local i)) ∷ cleared true))
+edge_sets first o i e = ap suc (writing_sets first o width.Bit (read_of reg.Rlo) (set_of reg.Rlo (expr.Read (var.Local i)) ∷ clear_or true))
 
 pub edge_at_disorder : (first : ℕ) (o : Operand) (value : Expr → Expr) → AddsNone value → disorder first (edge_at first o value) ≡ 0
 edge_at_disorder first o value adds =
     let n : ℕ = first + length (types_fetched o width.Bit) in
-    let bit : Expr = fetched_of first o width.Bit in
+    let bit : Expr = fetched_value_of first o width.Bit in
     let more = reached_fewer o width.Bit in
     disorder_in_parts first (fetch_of first o width.Bit) (edge_of first o n (value bit)) (fetch_disorder first o width.Bit)
     (ap (λ (k : ℕ). disorder (first + k) (edge_of first o n (value bit))) (fetch_sets first o width.Bit)
@@ -198,7 +199,7 @@ edge_at_disorder first o value adds =
 pub edge_at_sets : (first : ℕ) (o : Operand) (value : Expr → Expr) → locals_set (edge_at first o value) ≡ length (types_of_edge o)
 edge_at_sets first o value =
     let n : ℕ = first + length (types_fetched o width.Bit) in
-    let e : Expr = value (fetched_of first o width.Bit) in
+    let e : Expr = value (fetched_value_of first o width.Bit) in
     omega (
       arith,
       sets_in_parts (fetch_of first o width.Bit) (edge_of first o n e),

@@ -16,12 +16,12 @@ use Rattle.stl_tree.specs.Reads.{asked_by, chain_read, found_by, reads_of}
 use Rattle.stl_tree.specs.declared.program.BitArg.TheVariants as arg
 use Rattle.stl_tree.specs.declared.program.Operand.{Operand}
 use Rattle.s7_base.specs.declared.word.Width.TheVariants as width
-use Rattle.row_templates.specs.Fetching.{fetched_of, types_fetched, writing_of}
-use Rattle.row_templates.proofs.FetchBounds.{fetch_reads, fetched_reads, reach_reads, writing_reads}
-use Rattle.row_templates.proofs.ReadRegisters.{AllRead, Has, Reads, assigned_reads, cleared_reads, has_left, has_right, joined_reads, literal_reads, local_reads, nfc_reads, not_reads, register_reads, variables_read}
+use Rattle.template_parts.specs.Fetching.{fetched_value_of, types_fetched, writing_of}
+use Rattle.template_parts.proofs.FetchBounds.{fetch_reads, fetched_reads, reach_reads, writing_reads}
+use Rattle.template_parts.proofs.ReadRegisters.{AllRead, Has, Reads, assigned_reads, cleared_reads, has_left, has_right, joined_reads, literal_reads, local_reads, nfc_reads, not_reads, register_reads, variables_read}
 use Rattle.bit_templates.specs.declared.chain.Chain.{Chain}
 use Rattle.bit_templates.specs.declared.chain.OpenBracket.{OpenBracket}
-use Rattle.row_templates.specs.Builders.{and_of, cleared, literal_of, not_of, or_of, read_of, set_of, xor_of}
+use Rattle.template_parts.specs.Builders.{and_of, clear_or, literal_of, not_of, or_of, read_of, set_of, xor_of}
 use Rattle.bit_templates.specs.Bits.{and_joined, answer_of, assigned_of, behind_check, check_of, checked_bit_of, edge_at, edge_of, falling, inverted_of, next_rlo, or_alone_of, reset_value, rising, rlo_before_and, rlo_before_or, rlo_set, running_chain, saved_of, set_value, store_of, stored_of}
 use Rattle.bit_templates.specs.Brackets.{behind_close, chain_at, close_of, open_of}
 use Rattle.stl_tree.specs.declared.program.BitArg.{BitArg}
@@ -29,13 +29,24 @@ use Rattle.stl_tree.specs.declared.program.Op.TheVariants as op
 
 module _ (P : Reg → Type 0) where
   answer_reads : (t : Test) → Has P (asked_by t) → Reads P (answer_of t)
-  answer_reads test.Eq h = joined_reads P binary.And (not_of (read_of reg.Cc1)) (not_of (read_of reg.Cc0)) (not_reads P (read_of reg.Cc1) (register_reads P reg.Cc1 (h reg.Cc1 (inl refl)))) (not_reads P (read_of reg.Cc0) (register_reads P reg.Cc0 (h reg.Cc0 (inr (inl refl)))))
-  answer_reads test.Ne h = joined_reads P binary.Xor (read_of reg.Cc1) (read_of reg.Cc0) (register_reads P reg.Cc1 (h reg.Cc1 (inl refl))) (register_reads P reg.Cc0 (h reg.Cc0 (inr (inl refl))))
-  answer_reads test.Gt h = joined_reads P binary.And (read_of reg.Cc1) (not_of (read_of reg.Cc0)) (register_reads P reg.Cc1 (h reg.Cc1 (inl refl))) (not_reads P (read_of reg.Cc0) (register_reads P reg.Cc0 (h reg.Cc0 (inr (inl refl)))))
-  answer_reads test.Lt h = joined_reads P binary.And (not_of (read_of reg.Cc1)) (read_of reg.Cc0) (not_reads P (read_of reg.Cc1) (register_reads P reg.Cc1 (h reg.Cc1 (inl refl)))) (register_reads P reg.Cc0 (h reg.Cc0 (inr (inl refl))))
+  answer_reads test.Eq h =
+      joined_reads P binary.And (not_of (read_of reg.Cc1)) (not_of (read_of reg.Cc0))
+      (not_reads P (read_of reg.Cc1) (register_reads P reg.Cc1 (h reg.Cc1 (inl refl))))
+      (not_reads P (read_of reg.Cc0) (register_reads P reg.Cc0 (h reg.Cc0 (inr (inl refl)))))
+  answer_reads test.Ne h =
+      joined_reads P binary.Xor (read_of reg.Cc1) (read_of reg.Cc0)
+      (register_reads P reg.Cc1 (h reg.Cc1 (inl refl))) (register_reads P reg.Cc0 (h reg.Cc0 (inr (inl refl))))
+  answer_reads test.Gt h =
+      joined_reads P binary.And (read_of reg.Cc1) (not_of (read_of reg.Cc0)) (register_reads P reg.Cc1 (h reg.Cc1 (inl refl)))
+      (not_reads P (read_of reg.Cc0) (register_reads P reg.Cc0 (h reg.Cc0 (inr (inl refl)))))
+  answer_reads test.Lt h =
+      joined_reads P binary.And (not_of (read_of reg.Cc1)) (read_of reg.Cc0)
+      (not_reads P (read_of reg.Cc1) (register_reads P reg.Cc1 (h reg.Cc1 (inl refl)))) (register_reads P reg.Cc0 (h reg.Cc0 (inr (inl refl))))
   answer_reads test.Ge h = not_reads P (read_of reg.Cc0) (register_reads P reg.Cc0 (h reg.Cc0 (inl refl)))
   answer_reads test.Le h = not_reads P (read_of reg.Cc1) (register_reads P reg.Cc1 (h reg.Cc1 (inl refl)))
-  answer_reads test.Uo h = joined_reads P binary.And (read_of reg.Cc1) (read_of reg.Cc0) (register_reads P reg.Cc1 (h reg.Cc1 (inl refl))) (register_reads P reg.Cc0 (h reg.Cc0 (inr (inl refl))))
+  answer_reads test.Uo h =
+      joined_reads P binary.And (read_of reg.Cc1) (read_of reg.Cc0)
+      (register_reads P reg.Cc1 (h reg.Cc1 (inl refl))) (register_reads P reg.Cc0 (h reg.Cc0 (inr (inl refl))))
   answer_reads test.Ov h = register_reads P reg.Ov (h reg.Ov (inl refl))
   answer_reads test.Os h = register_reads P reg.Os (h reg.Os (inl refl))
   answer_reads test.Br h = register_reads P reg.Br (h reg.Br (inl refl))
@@ -60,12 +71,22 @@ module _ (P : Reg → Type 0) where
     xor_reads e h = joined_reads P binary.Xor (rlo_before_or chain) e before_or h
 
   check_reads : (c : Check) (e : Expr) → Has P (chain_read c) → Reads P e → Reads P (next_rlo running_chain c e)
-  check_reads check.A e h k = and_reads running_chain (register_reads P reg.Rlo (h reg.Rlo (inl refl))) (register_reads P reg.Nfc (h reg.Nfc (inr (inl refl)))) e (register_reads P reg.Orb (h reg.Orb (inr (inr (inl refl))))) k
-  check_reads check.An e h k = and_reads running_chain (register_reads P reg.Rlo (h reg.Rlo (inl refl))) (register_reads P reg.Nfc (h reg.Nfc (inr (inl refl)))) (not_of e) (register_reads P reg.Orb (h reg.Orb (inr (inr (inl refl))))) (not_reads P e k)
-  check_reads check.O e h k = or_reads running_chain (register_reads P reg.Rlo (h reg.Rlo (inl refl))) (register_reads P reg.Nfc (h reg.Nfc (inr (inl refl)))) e k
-  check_reads check.On e h k = or_reads running_chain (register_reads P reg.Rlo (h reg.Rlo (inl refl))) (register_reads P reg.Nfc (h reg.Nfc (inr (inl refl)))) (not_of e) (not_reads P e k)
-  check_reads check.X e h k = xor_reads running_chain (register_reads P reg.Rlo (h reg.Rlo (inl refl))) (register_reads P reg.Nfc (h reg.Nfc (inr (inl refl)))) e k
-  check_reads check.Xn e h k = xor_reads running_chain (register_reads P reg.Rlo (h reg.Rlo (inl refl))) (register_reads P reg.Nfc (h reg.Nfc (inr (inl refl)))) (not_of e) (not_reads P e k)
+  check_reads check.A e h k =
+      and_reads running_chain (register_reads P reg.Rlo (h reg.Rlo (inl refl)))
+      (register_reads P reg.Nfc (h reg.Nfc (inr (inl refl)))) e (register_reads P reg.Orb (h reg.Orb (inr (inr (inl refl))))) k
+  check_reads check.An e h k =
+      and_reads running_chain (register_reads P reg.Rlo (h reg.Rlo (inl refl))) (register_reads P reg.Nfc (h reg.Nfc (inr (inl refl))))
+      (not_of e) (register_reads P reg.Orb (h reg.Orb (inr (inr (inl refl))))) (not_reads P e k)
+  check_reads check.O e h k =
+      or_reads running_chain (register_reads P reg.Rlo (h reg.Rlo (inl refl))) (register_reads P reg.Nfc (h reg.Nfc (inr (inl refl)))) e k
+  check_reads check.On e h k =
+      or_reads running_chain (register_reads P reg.Rlo (h reg.Rlo (inl refl)))
+      (register_reads P reg.Nfc (h reg.Nfc (inr (inl refl)))) (not_of e) (not_reads P e k)
+  check_reads check.X e h k =
+      xor_reads running_chain (register_reads P reg.Rlo (h reg.Rlo (inl refl))) (register_reads P reg.Nfc (h reg.Nfc (inr (inl refl)))) e k
+  check_reads check.Xn e h k =
+      xor_reads running_chain (register_reads P reg.Rlo (h reg.Rlo (inl refl)))
+      (register_reads P reg.Nfc (h reg.Nfc (inr (inl refl)))) (not_of e) (not_reads P e k)
 
   -- the variables of a chain are no other registers
   pub record ReadsChain (chain : Chain) : Type 0 where
@@ -103,12 +124,12 @@ module _ (P : Reg → Type 0) where
 
   edge_reads : (used : ℕ) (o : Operand) (i : ℕ) (e : Expr) (rest : List Stmt) → P reg.Rlo → Reads P e → AllRead P rest → AllRead P (edge_of used o i e ++ rest)
   edge_reads used o i e rest rlo h k =
-      assigned_reads P (var.Local i) e (writing_of used o width.Bit (read_of reg.Rlo) ∷ set_of reg.Rlo (expr.Read (var.Local i)) ∷ cleared true ++ rest) h
-      (writing_reads P used o width.Bit (read_of reg.Rlo) (set_of reg.Rlo (expr.Read (var.Local i)) ∷ cleared true ++ rest) (register_reads P reg.Rlo rlo)
-      (assigned_reads P (var.Register reg.Rlo) (expr.Read (var.Local i)) (cleared true ++ rest) (local_reads P i) (cleared_reads P true rest k)))
+      assigned_reads P (var.Local i) e (writing_of used o width.Bit (read_of reg.Rlo) ∷ set_of reg.Rlo (expr.Read (var.Local i)) ∷ clear_or true ++ rest) h
+      (writing_reads P used o width.Bit (read_of reg.Rlo) (set_of reg.Rlo (expr.Read (var.Local i)) ∷ clear_or true ++ rest) (register_reads P reg.Rlo rlo)
+      (assigned_reads P (var.Register reg.Rlo) (expr.Read (var.Local i)) (clear_or true ++ rest) (local_reads P i) (cleared_reads P true rest k)))
 
   store_reads : (used : ℕ) (o : Operand) (e : Expr) (rest : List Stmt) → Reads P e → AllRead P rest → AllRead P (store_of used o e ++ rest)
-  store_reads used o e rest h k = writing_reads P used o width.Bit e (cleared false ++ rest) h (cleared_reads P false rest k)
+  store_reads used o e rest h k = writing_reads P used o width.Bit e (clear_or false ++ rest) h (cleared_reads P false rest k)
 
   -- what a row on a bit reads: what the bit is found by, and the RLO
   finds : (o : Operand) → Has P (found_by o ++ reg.Rlo ∷ []) → Has P (found_by o)
@@ -122,7 +143,7 @@ module _ (P : Reg → Type 0) where
   module _ (first : ℕ) (rest : List Stmt) (k : AllRead P rest) where
     pub check_reads_at : (c : Check) (b : BitArg) → Has P (reads_of (op.Check c b)) → AllRead P (checked_bit_of first c b ++ rest)
     check_reads_at c (arg.At o) h =
-        let bit : Expr = fetched_of first o width.Bit in
+        let bit : Expr = fetched_value_of first o width.Bit in
         fetch_reads P first o width.Bit (check_of c bit) rest (has_left P (found_by o) (chain_read c) h)
         (checked_reads c bit rest (has_right P (found_by o) (chain_read c) h) (fetched_reads P first o width.Bit) k)
     check_reads_at c (arg.Flag t) h =
@@ -149,20 +170,21 @@ module _ (P : Reg → Type 0) where
 
     pub set_reads : (o : Operand) → Has P (reads_of (op.Set o)) → AllRead P (stored_of first o set_value ++ rest)
     set_reads o h =
-        let bit : Expr = fetched_of first o width.Bit in
+        let bit : Expr = fetched_value_of first o width.Bit in
         fetch_reads P first o width.Bit (store_of first o (set_value bit)) rest (finds o h)
         (store_reads first o (set_value bit) rest
         (joined_reads P binary.Or bit (read_of reg.Rlo) (fetched_reads P first o width.Bit) (register_reads P reg.Rlo (reads_rlo o h))) k)
 
     pub reset_reads : (o : Operand) → Has P (reads_of (op.Reset o)) → AllRead P (stored_of first o reset_value ++ rest)
     reset_reads o h =
-        let bit : Expr = fetched_of first o width.Bit in
+        let bit : Expr = fetched_value_of first o width.Bit in
         fetch_reads P first o width.Bit (store_of first o (reset_value bit)) rest (finds o h)
         (store_reads first o (reset_value bit) rest
-        (joined_reads P binary.And bit (not_of (read_of reg.Rlo)) (fetched_reads P first o width.Bit) (not_reads P (read_of reg.Rlo) (register_reads P reg.Rlo (reads_rlo o h)))) k)
+        (joined_reads P binary.And bit (not_of (read_of reg.Rlo)) (fetched_reads P first o width.Bit)
+        (not_reads P (read_of reg.Rlo) (register_reads P reg.Rlo (reads_rlo o h)))) k)
 
     pub rlo_set_reads : (b : Bool) → AllRead P (rlo_set b ++ rest)
-    rlo_set_reads b = assigned_reads P (var.Register reg.Rlo) (literal_of b) (cleared false ++ rest) (literal_reads P b) (cleared_reads P false rest k)
+    rlo_set_reads b = assigned_reads P (var.Register reg.Rlo) (literal_of b) (clear_or false ++ rest) (literal_reads P b) (cleared_reads P false rest k)
 
     pub inverted_reads : Has P (reads_of op.NotRlo) → AllRead P (inverted_of ++ rest)
     inverted_reads h = simp variables_read (h reg.Rlo (inl refl), k)
@@ -172,7 +194,7 @@ module _ (P : Reg → Type 0) where
 
     pub up_reads : (o : Operand) → Has P (reads_of (op.EdgeUp o)) → AllRead P (edge_at first o rising ++ rest)
     up_reads o h =
-        let bit : Expr = fetched_of first o width.Bit in
+        let bit : Expr = fetched_value_of first o width.Bit in
         let rlo : P reg.Rlo = reads_rlo o h in
         fetch_reads P first o width.Bit (edge_of first o (first + length (types_fetched o width.Bit)) (rising bit)) rest (finds o h)
         (edge_reads first o (first + length (types_fetched o width.Bit)) (rising bit) rest rlo
@@ -180,8 +202,9 @@ module _ (P : Reg → Type 0) where
 
     pub down_reads : (o : Operand) → Has P (reads_of (op.EdgeDown o)) → AllRead P (edge_at first o falling ++ rest)
     down_reads o h =
-        let bit : Expr = fetched_of first o width.Bit in
+        let bit : Expr = fetched_value_of first o width.Bit in
         let rlo : P reg.Rlo = reads_rlo o h in
         fetch_reads P first o width.Bit (edge_of first o (first + length (types_fetched o width.Bit)) (falling bit)) rest (finds o h)
         (edge_reads first o (first + length (types_fetched o width.Bit)) (falling bit) rest rlo
-        (joined_reads P binary.And (not_of (read_of reg.Rlo)) bit (not_reads P (read_of reg.Rlo) (register_reads P reg.Rlo rlo)) (fetched_reads P first o width.Bit)) k)
+        (joined_reads P binary.And (not_of (read_of reg.Rlo)) bit
+        (not_reads P (read_of reg.Rlo) (register_reads P reg.Rlo rlo)) (fetched_reads P first o width.Bit)) k)

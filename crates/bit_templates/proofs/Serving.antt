@@ -11,43 +11,48 @@ use Rattle.stl_tree.specs.declared.program.BitArg.TheVariants as arg
 use Rattle.stl_tree.specs.declared.program.Op.TheVariants as op
 use Rattle.stl_tree.specs.declared.program.Operand.{Operand}
 use Rattle.st_tree.specs.declared.expr.StType.TheVariants as type
-use Rattle.row_templates.specs.DoesRow.{own_of}
-use Rattle.row_templates.specs.Fetching.{types_fetched, types_reached}
-use Rattle.row_templates.specs.Reading.{IsAmong}
-use Rattle.row_templates.specs.Templates.{IsPlainBody, Serves}
-use Rattle.row_templates.proofs.Obligations.{alone, is_template, ordered}
-use Rattle.row_templates.proofs.ReadRegisters.{AllRead}
-use Rattle.row_templates.proofs.Sizes.{of_nothing}
+use Rattle.template_parts.specs.DoesInstruction.{own_of}
+use Rattle.template_parts.specs.Fetching.{types_fetched, types_reached}
+use Rattle.template_parts.specs.Reading.{IsAmong}
+use Rattle.template_parts.specs.Templates.{IsPlainBody, Serves}
+use Rattle.template_parts.proofs.Obligations.{alone, is_template, ordered}
+use Rattle.template_parts.proofs.ReadRegisters.{AllRead}
+use Rattle.template_parts.proofs.Sizes.{of_nothing}
 use Rattle.graph_rules.proofs.Runs.{order_equations}
-use Rattle.row_templates.proofs.Typing.{no_statement}
+use Rattle.template_parts.proofs.Typing.{no_statement}
 use Rattle.bit_templates.specs.BitLaw.{BitLogicServes, ServesClosing, ServesOpening}
 use Rattle.bit_templates.specs.Bits.{assigned_of, checked_bit_of, edge_at, falling, inverted_of, or_alone_of, reset_value, rising, rlo_set, saved_of, set_value, stored_of, types_checked, types_of_edge}
 use Rattle.bit_templates.specs.Brackets.{bracket_at, close_of, open_of, types_of_bracket}
-use Rattle.bit_templates.proofs.BitRows.{assign_row, check_goes, check_row, reset_row, set_row}
-use Rattle.bit_templates.proofs.BracketRows.{close_does, open_does}
+use Rattle.bit_templates.proofs.BitEffects.{assign_effect, check_goes, check_effect, reset_effect, set_effect}
+use Rattle.bit_templates.proofs.BracketEffects.{close_does, open_does}
 use Rattle.bit_templates.proofs.CountBits.{assign_length, assign_nodes, assign_writes, check_length, check_nodes, check_writes, close_length, close_nodes, close_writes, down_nodes, inverted_nodes, length_of_edge, length_of_stored, of_opened, or_alone_nodes, reset_nodes, rlo_set_nodes, saved_nodes, set_nodes, up_nodes, writes_of_edge, writes_of_stored}
-use Rattle.bit_templates.proofs.EdgeRows.{down_row, up_row}
+use Rattle.bit_templates.proofs.EdgeEffects.{down_effect, up_effect}
 use Rattle.bit_templates.proofs.OrderBits.{assign_disorder, assign_sets, check_disorder, check_sets, close_disorder, close_sets, edge_at_disorder, edge_at_sets, falling_adds, open_disorder, reset_adds, rising_adds, rlo_set_disorder, set_adds, stored_disorder, stored_sets}
 use Rattle.bit_templates.proofs.PlainBits.{assign_plain, bracket_bool, bracket_plain, check_plain_at, down_plain, inverted_plain, open_plain, or_alone_plain, reset_plain, rlo_set_plain, saved_plain, set_plain_at, up_plain}
 use Rattle.bit_templates.proofs.ReadBits.{assign_reads, bracket_reads, check_reads_at, close_reads, down_reads, inverted_reads, open_reads, or_alone_reads, reset_reads, rlo_set_reads, saved_reads, set_reads, up_reads}
-use Rattle.bit_templates.proofs.StatusRows.{answer_worth, clear_rlo_does, nop_does, not_does, or_does, save_does, set_rlo_does}
+use Rattle.bit_templates.proofs.StatusEffects.{answer_worth, clear_rlo_does, nop_does, not_does, or_does, save_does, set_rlo_does}
 
 -- Checks
 
 check_serves : (c : Check) (b : BitArg) (first : ℕ) → HasOperand (op.Check c b) → Serves (op.Check c b) first (types_checked b) (checked_bit_of first c b)
 check_serves c (arg.At o) first h =
     record {
-      does = λ g calls units frames now s related room. check_row g calls units frames now s related first o h c room;
-      template = is_template (reads_of (op.Check c (arg.At o))) first (types_checked (arg.At o)) (checked_bit_of first c (arg.At o)) (check_writes first c (arg.At o))
-          (check_length first c (arg.At o)) (check_nodes first c (arg.At o)) (λ P has. check_reads_at P first [] tt c (arg.At o) has) (check_disorder first c (arg.At o))
+      does = λ g calls units frames now s related room. check_effect g calls units frames now s related first o h c room;
+      template =
+          is_template (reads_of (op.Check c (arg.At o))) first (types_checked (arg.At o)) (checked_bit_of first c (arg.At o)) (check_writes first c (arg.At o))
+          (check_length first c (arg.At o)) (check_nodes first c (arg.At o))
+          (λ P has. check_reads_at P first [] tt c (arg.At o) has) (check_disorder first c (arg.At o))
           (check_sets first c (arg.At o)) (λ sight own. check_plain_at sight c (arg.At o) first [] h own (no_statement sight));
     }
 check_serves c (arg.Flag t) first h =
     record {
       does = λ g calls units frames now s related room.
           check_goes g calls units frames now s related first c _ _ (answer_worth g calls units frames now s related first t);
-      template = is_template (reads_of (op.Check c (arg.Flag t))) first (types_checked (arg.Flag t)) (checked_bit_of first c (arg.Flag t)) (check_writes first c (arg.Flag t))
-          (check_length first c (arg.Flag t)) (check_nodes first c (arg.Flag t)) (λ P has. check_reads_at P first [] tt c (arg.Flag t) has) (check_disorder first c (arg.Flag t))
+      template =
+          is_template (reads_of (op.Check c (arg.Flag t))) first (types_checked (arg.Flag t))
+          (checked_bit_of first c (arg.Flag t)) (check_writes first c (arg.Flag t))
+          (check_length first c (arg.Flag t)) (check_nodes first c (arg.Flag t))
+          (λ P has. check_reads_at P first [] tt c (arg.Flag t) has) (check_disorder first c (arg.Flag t))
           (check_sets first c (arg.Flag t)) (λ sight own. check_plain_at sight c (arg.Flag t) first [] h own (no_statement sight));
     }
 
@@ -65,8 +70,10 @@ module _ (o : Operand) (first : ℕ) where
   assign_serves : HasOperand (op.Assign o) → Serves (op.Assign o) first (types_reached o) (assigned_of first o)
   assign_serves h =
       record {
-        does = λ g calls units frames now s related room. assign_row g calls units frames now s related first o h room;
-        template = is_template (reads_of (op.Assign o)) first (types_reached o) (assigned_of first o) (assign_writes first o) (assign_length first o) (assign_nodes first o)
+        does = λ g calls units frames now s related room. assign_effect g calls units frames now s related first o h room;
+        template =
+            is_template (reads_of (op.Assign o)) first (types_reached o) (assigned_of first o)
+            (assign_writes first o) (assign_length first o) (assign_nodes first o)
             (λ P has. assign_reads P first [] tt o has) (assign_disorder first o) (assign_sets first o)
             (λ sight own. assign_plain sight first o [] h own (no_statement sight));
       }
@@ -74,7 +81,7 @@ module _ (o : Operand) (first : ℕ) where
   set_serves : HasOperand (op.Set o) → Serves (op.Set o) first (types_fetched o width.Bit) (stored_of first o set_value)
   set_serves h =
       record {
-        does = λ g calls units frames now s related room. set_row g calls units frames now s related first o h room;
+        does = λ g calls units frames now s related room. set_effect g calls units frames now s related first o h room;
         template = is_template (reads_of (op.Set o)) first (types_fetched o width.Bit) (stored_of first o set_value) (writes_of_stored first o set_value)
             (length_of_stored first o set_value) (set_nodes first o) (λ P has. set_reads P first [] tt o has) (stored_disorder first o set_value set_adds)
             (stored_sets first o set_value) (λ sight own. set_plain_at sight first o [] h own (no_statement sight));
@@ -83,9 +90,10 @@ module _ (o : Operand) (first : ℕ) where
   reset_serves : HasOperand (op.Reset o) → Serves (op.Reset o) first (types_fetched o width.Bit) (stored_of first o reset_value)
   reset_serves h =
       record {
-        does = λ g calls units frames now s related room. reset_row g calls units frames now s related first o h room;
+        does = λ g calls units frames now s related room. reset_effect g calls units frames now s related first o h room;
         template = is_template (reads_of (op.Reset o)) first (types_fetched o width.Bit) (stored_of first o reset_value) (writes_of_stored first o reset_value)
-            (length_of_stored first o reset_value) (reset_nodes first o) (λ P has. reset_reads P first [] tt o has) (stored_disorder first o reset_value reset_adds)
+            (length_of_stored first o reset_value) (reset_nodes first o)
+            (λ P has. reset_reads P first [] tt o has) (stored_disorder first o reset_value reset_adds)
             (stored_sets first o reset_value) (λ sight own. reset_plain sight first o [] h own (no_statement sight));
       }
 
@@ -96,7 +104,8 @@ module _ (o : Operand) (first : ℕ) where
   up_serves : HasOperand (op.EdgeUp o) → Serves (op.EdgeUp o) first (types_of_edge o) (edge_at first o rising)
   up_serves h =
       record {
-        does = λ g calls units frames now s related room. up_row g calls units frames now s related first o h (edge_room (length (own_of s.activations)) room);
+        does =
+            λ g calls units frames now s related room. up_effect g calls units frames now s related first o h (edge_room (length (own_of s.activations)) room);
         template = is_template (reads_of (op.EdgeUp o)) first (types_of_edge o) (edge_at first o rising) (writes_of_edge first o rising)
             (length_of_edge first o rising) (up_nodes first o) (λ P has. up_reads P first [] tt o has) (edge_at_disorder first o rising rising_adds)
             (edge_at_sets first o rising) (λ sight own. up_plain sight first o [] h own (no_statement sight));
@@ -105,7 +114,9 @@ module _ (o : Operand) (first : ℕ) where
   down_serves : HasOperand (op.EdgeDown o) → Serves (op.EdgeDown o) first (types_of_edge o) (edge_at first o falling)
   down_serves h =
       record {
-        does = λ g calls units frames now s related room. down_row g calls units frames now s related first o h (edge_room (length (own_of s.activations)) room);
+        does =
+            λ g calls units frames now s related room. down_effect g calls units frames now s related first o h
+            (edge_room (length (own_of s.activations)) room);
         template = is_template (reads_of (op.EdgeDown o)) first (types_of_edge o) (edge_at first o falling) (writes_of_edge first o falling)
             (length_of_edge first o falling) (down_nodes first o) (λ P has. down_reads P first [] tt o has) (edge_at_disorder first o falling falling_adds)
             (edge_at_sets first o falling) (λ sight own. down_plain sight first o [] h own (no_statement sight));
@@ -126,7 +137,8 @@ module _ (first : ℕ) where
   clear_rlo_serves =
       record {
         does = λ g calls units frames now s related room. clear_rlo_does g calls units frames now s related first;
-        template = is_template (reads_of op.ClearRlo) first [] (rlo_set false) tt (omega arith) (rlo_set_nodes false) (λ P has. rlo_set_reads P first [] tt false)
+        template =
+            is_template (reads_of op.ClearRlo) first [] (rlo_set false) tt (omega arith) (rlo_set_nodes false) (λ P has. rlo_set_reads P first [] tt false)
             (rlo_set_disorder first false) refl (λ sight own. rlo_set_plain sight false [] (no_statement sight));
       }
 
@@ -150,7 +162,8 @@ module _ (first : ℕ) where
   nop_serves =
       record {
         does = λ g calls units frames now s related room. nop_does g calls units frames now s related first;
-        template = is_template (reads_of op.Nop) first [] [] tt (omega arith) (omega (arith, of_nothing)) (λ P has. tt) refl refl (λ sight own. no_statement sight);
+        template =
+            is_template (reads_of op.Nop) first [] [] tt (omega arith) (omega (arith, of_nothing)) (λ P has. tt) refl refl (λ sight own. no_statement sight);
       }
 
 -- Brackets

@@ -19,12 +19,12 @@ use Rattle.st_tree.specs.declared.expr.StType.TheVariants as type
 use Rattle.st_tree.specs.declared.expr.Var.TheVariants as var
 use Rattle.st_tree.specs.declared.program.Stmt.{Stmt}
 use Rattle.st_tree.specs.declared.program.Stmt.TheVariants as stmt
-use Rattle.row_templates.specs.Builders.{and_of, cleared, literal_of, not_of, or_of, read_of, set_of, xor_of}
-use Rattle.row_templates.specs.Fetching.{fetch_of, fetched_of, reach_of, types_fetched, writing_of}
+use Rattle.template_parts.specs.Builders.{and_of, clear_or, literal_of, not_of, or_of, read_of, set_of, xor_of}
+use Rattle.template_parts.specs.Fetching.{fetch_of, fetched_value_of, reach_of, types_fetched, writing_of}
 
 -- Expressions
 
--- the answer to a question to the status word
+-- the answer of the status word to a test
 abbrev pub answer_of : Test → Expr
 answer_of test.Eq = and_of (not_of (read_of reg.Cc1)) (not_of (read_of reg.Cc0))
 answer_of test.Ne = xor_of (read_of reg.Cc1) (read_of reg.Cc0)
@@ -37,19 +37,19 @@ answer_of test.Ov = read_of reg.Ov
 answer_of test.Os = read_of reg.Os
 answer_of test.Br = read_of reg.Br
 
--- what a check looks at
-abbrev pub checked_of : ℕ → BitArg → Expr
-checked_of first (arg.At o) = fetched_of first o width.Bit
-checked_of first (arg.Flag t) = answer_of t
+-- the bit that a check tests
+abbrev pub check_value_of : ℕ → BitArg → Expr
+check_value_of first (arg.At o) = fetched_value_of first o width.Bit
+check_value_of first (arg.Flag t) = answer_of t
 
--- what stands before it
+-- the statements before a check
 abbrev pub before_check : ℕ → BitArg → List Stmt
 before_check first (arg.At o) = fetch_of first o width.Bit
 before_check first (arg.Flag t) = []
 
 -- Checks
 
--- the chain that goes on in the registers
+-- the chain that continues in the registers
 abbrev pub running_chain : Chain
 running_chain = record { rlo = var.Register reg.Rlo; nfc = var.Register reg.Nfc; orb = var.Register reg.Orb }
 
@@ -65,7 +65,7 @@ rlo_before_or chain = and_of (expr.Read chain.rlo) (expr.Read chain.nfc)
 abbrev pub and_joined : Chain → Expr → Expr
 and_joined chain b = or_of (and_of (rlo_before_and chain) b) (expr.Read chain.orb)
 
--- what the RLO becomes at a check of the bit b in a chain
+-- the RLO after a check of the bit b in a chain
 abbrev pub next_rlo : Chain → Check → Expr → Expr
 next_rlo chain check.A b = and_joined chain b
 next_rlo chain check.An b = and_joined chain (not_of b)
@@ -76,7 +76,7 @@ next_rlo chain check.Xn b = xor_of (rlo_before_or chain) (not_of b)
 
 -- Bits
 
--- what S and R leave in a bit
+-- the value of a bit after S and R
 abbrev pub set_value : Expr → Expr
 set_value b = or_of b (read_of reg.Rlo)
 
@@ -92,14 +92,14 @@ falling b = and_of (not_of (read_of reg.Rlo)) b
 
 -- Statements
 
--- what stands behind the RLO of a check: an AND keeps OR
+-- OR after a check: an AND keeps it, the others clear it; the next check is not a first one
 abbrev pub behind_check : Check → List Stmt
 behind_check check.A = set_of reg.Nfc (literal_of true) ∷ []
 behind_check check.An = set_of reg.Nfc (literal_of true) ∷ []
-behind_check check.O = cleared true
-behind_check check.On = cleared true
-behind_check check.X = cleared true
-behind_check check.Xn = cleared true
+behind_check check.O = clear_or true
+behind_check check.On = clear_or true
+behind_check check.X = clear_or true
+behind_check check.Xn = clear_or true
 
 -- a check of a bit
 abbrev pub check_of : Check → Expr → List Stmt
@@ -107,31 +107,32 @@ check_of c b = set_of reg.Rlo (next_rlo running_chain c b) ∷ behind_check c
 
 -- a bit that was reached takes a value, and the chain ends
 abbrev pub store_of : ℕ → Operand → Expr → List Stmt
-store_of first o e = writing_of first o width.Bit e ∷ cleared false
+store_of first o e = writing_of first o width.Bit e ∷ clear_or false
 
--- = of a bit
+-- the statements of = of a bit
 abbrev pub assigned_of : ℕ → Operand → List Stmt
 assigned_of first o = reach_of first o ++ store_of first o (read_of reg.Rlo)
 
--- S or R of a bit, which is read before it takes what the value makes of it
+-- the statements of S or R of a bit, which is read before it takes its new value
 abbrev pub stored_of : ℕ → Operand → (Expr → Expr) → List Stmt
 stored_of first o value =
-    fetch_of first o width.Bit ++ store_of first o (value (fetched_of first o width.Bit))
+    fetch_of first o width.Bit ++ store_of first o (value (fetched_value_of first o width.Bit))
 
--- FP or FN of an edge bit: a local keeps what the RLO becomes until the bit has the old RLO
+-- the statements of FP or FN with an edge bit: a local keeps the new RLO until the bit has the old one
 abbrev pub edge_of : ℕ → Operand → ℕ → Expr → List Stmt
 edge_of first o i e =
-    stmt.Assign (var.Local i) e ∷ writing_of first o width.Bit (read_of reg.Rlo) ∷ set_of reg.Rlo (expr.Read (var.Local i)) ∷ cleared true
+    stmt.Assign (var.Local i) e ∷ writing_of first o width.Bit (read_of reg.Rlo)
+    ∷ set_of reg.Rlo (expr.Read (var.Local i)) ∷ clear_or true
 
--- FP or FN of an edge bit, which is read before
+-- the statements of FP or FN with an edge bit, which is read first
 abbrev pub edge_at : ℕ → Operand → (Expr → Expr) → List Stmt
 edge_at first o value =
     fetch_of first o width.Bit
-    ++ edge_of first o (first + length (types_fetched o width.Bit)) (value (fetched_of first o width.Bit))
+    ++ edge_of first o (first + length (types_fetched o width.Bit)) (value (fetched_value_of first o width.Bit))
 
 -- the RLO is set or cleared, and the chain ends
 abbrev pub rlo_set : Bool → List Stmt
-rlo_set rlo = set_of reg.Rlo (literal_of rlo) ∷ cleared false
+rlo_set rlo = set_of reg.Rlo (literal_of rlo) ∷ clear_or false
 
 -- a local takes the value of a register
 abbrev pub keep_of : ℕ → Reg → Stmt
@@ -139,9 +140,9 @@ keep_of i r = stmt.Assign (var.Local i) (read_of r)
 
 -- Instructions
 
--- a check of a bit at a place, or of an answer of the status word
+-- a check of a bit at a place, or of a test of the status word
 abbrev pub checked_bit_of : ℕ → Check → BitArg → List Stmt
-checked_bit_of first c b = before_check first b ++ check_of c (checked_of first b)
+checked_bit_of first c b = before_check first b ++ check_of c (check_value_of first b)
 
 -- O without an operand: OR keeps the RLO of the chain, and the next check is a first one
 abbrev pub or_alone_of : List Stmt
@@ -157,11 +158,11 @@ saved_of = set_of reg.Br (read_of reg.Rlo) ∷ []
 
 -- Locals
 
--- those of a check: what it looks at, where that may fault
+-- the types of the locals of a check: what it tests, where that may fault
 abbrev pub types_checked : BitArg → List StType
 types_checked (arg.At o) = types_fetched o width.Bit
 types_checked (arg.Flag t) = []
 
--- those of an edge: its bit, where that may fault, and the RLO
+-- the types of the locals of an edge: its bit, where that may fault, and the RLO
 abbrev pub types_of_edge : Operand → List StType
 types_of_edge o = types_fetched o width.Bit ++ type.Bool ∷ []

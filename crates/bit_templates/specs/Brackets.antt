@@ -15,26 +15,26 @@ use Rattle.st_tree.specs.declared.expr.Var.{Var}
 use Rattle.st_tree.specs.declared.expr.Var.TheVariants as var
 use Rattle.st_tree.specs.declared.program.Stmt.{Stmt}
 use Rattle.st_tree.specs.declared.state.Value.{Value}
-use Rattle.row_templates.specs.Builders.{cleared, literal_of, read_of, set_of}
+use Rattle.template_parts.specs.Builders.{clear_or, literal_of, read_of, set_of}
 
--- the chain that three locals in a row keep
+-- the chain that is kept by three locals, this one and the next two
 abbrev pub chain_at : ℕ → Chain
 chain_at first = record { rlo = var.Local first; nfc = var.Local (first + 2); orb = var.Local (first + 1) }
 
 -- a bracket is opened: the next three locals keep RLO, OR and NFC
 abbrev pub open_of : ℕ → List Stmt
-open_of first = keep_of first reg.Rlo ∷ keep_of (first + 1) reg.Orb ∷ keep_of (first + 2) reg.Nfc ∷ cleared false
+open_of first = keep_of first reg.Rlo ∷ keep_of (first + 1) reg.Orb ∷ keep_of (first + 2) reg.Nfc ∷ clear_or false
 
--- what stands behind the RLO of a bracket that is closed: an AND puts OR back
+-- the end of a closed bracket: an AND puts OR back, the others clear it
 abbrev pub behind_close : Check → Var → List Stmt
 behind_close check.A orb = set_of reg.Orb (expr.Read orb) ∷ set_of reg.Nfc (literal_of true) ∷ []
 behind_close check.An orb = set_of reg.Orb (expr.Read orb) ∷ set_of reg.Nfc (literal_of true) ∷ []
-behind_close check.O orb = cleared true
-behind_close check.On orb = cleared true
-behind_close check.X orb = cleared true
-behind_close check.Xn orb = cleared true
+behind_close check.O orb = clear_or true
+behind_close check.On orb = clear_or true
+behind_close check.X orb = clear_or true
+behind_close check.Xn orb = clear_or true
 
--- a bracket is closed: its check of the RLO inside, in the chain that it kept
+-- a bracket is closed: the RLO inside is checked in the chain that the bracket kept
 abbrev pub close_of : OpenBracket → List Stmt
 close_of o = set_of reg.Rlo (next_rlo o.kept o.check (read_of reg.Rlo)) ∷ behind_close o.check o.kept.orb
 
@@ -42,13 +42,13 @@ close_of o = set_of reg.Rlo (next_rlo o.kept o.check (read_of reg.Rlo)) ∷ behi
 abbrev pub bracket_at : ℕ → Check → OpenBracket
 bracket_at first c = record { check = c; kept = chain_at first }
 
--- its locals
+-- the types of the locals of a bracket
 abbrev pub types_of_bracket : List StType
 types_of_bracket = type.Bool ∷ type.Bool ∷ type.Bool ∷ []
 
 -- What locals keep
 
--- three locals, below so many, keep what an open bracket has kept
+-- three locals with numbers below `used` have the values that an open bracket has kept
 pub record KeepsBracket (used : ℕ) (o : OpenBracket) (e : Entry) (locals : List Value) : Type 0 where
   pub first : ℕ
   pub kept : o.kept ≡ chain_at first
@@ -58,9 +58,10 @@ pub record KeepsBracket (used : ℕ) (o : OpenBracket) (e : Entry) (locals : Lis
   pub orb : slice_get locals (first + 1) ≡ Some (flag e.orb)
   pub nfc : slice_get locals (first + 2) ≡ Some (flag e.nfc)
 
--- the open brackets of a text and those of a run, the innermost ones first
+-- the locals have the values of all open brackets, those of a text and those of a run, the innermost ones first
 abbrev pub KeepBrackets : ℕ → List OpenBracket → List Entry → List Value → Type 0
 KeepBrackets used [] [] locals = Unit {0}
 KeepBrackets used [] (e ∷ entries) locals = ⊥
 KeepBrackets used (o ∷ outer) [] locals = ⊥
-KeepBrackets used (o ∷ outer) (e ∷ entries) locals = KeepsBracket used o e locals × KeepBrackets used outer entries locals
+KeepBrackets used (o ∷ outer) (e ∷ entries) locals =
+    KeepsBracket used o e locals × KeepBrackets used outer entries locals

@@ -1,19 +1,19 @@
-//! What sets a bit, the RLO or BR, and edges.
+//! Templates of the instructions that set a bit, the RLO or BR, and of edges.
 ghost use Rattle.std.specs.Prelude.{◌≡◌, ◌<◌, ◌+◌, ◌^◌, [], ◌∷◌, ◌++◌, length, OnOk};
 ghost use Rattle.bit_templates.specs.Bits.{assigned_of, edge_at, edge_of, falling, inverted_of, reset_value, rising, rlo_set, saved_of, set_value, store_of, stored_of, types_of_edge};
-ghost use Rattle.row_templates.specs.Builders.{read_of};
-ghost use Rattle.row_templates.specs.Fetching.{types_fetched, writing_of};
+ghost use Rattle.template_parts.specs.Builders.{read_of};
+ghost use Rattle.template_parts.specs.Fetching.{types_fetched, writing_of};
 
-use row_templates::{
-    and, fetched, literal, local, may_fault, not, or, push_cleared, push_fetch, push_reach, read,
-    set, set_local, writing,
-};
 use s7_base::{List, NoMemory, Reg, Width};
 use st_tree::{Expr, StType, Stmt};
 use std::alloc::Global;
 use stl_tree::Operand;
+use template_parts::{
+    and, fetched_value, literal, local, may_fault, not, or, push_clear_or, push_fetch, push_reach,
+    read, set_local, set_register, writing,
+};
 
-/// `=` of a bit.
+/// The statements of `=` of a bit.
 pub fn push_assigned(
     alloc: Global,
     steps: &mut List<Stmt>,
@@ -27,7 +27,7 @@ pub fn push_assigned(
     push_store(alloc, steps, first, operand, read(Reg::Rlo))
 }
 
-/// S of a bit.
+/// The statements of `S` of a bit.
 pub fn push_set(
     alloc: Global,
     steps: &mut List<Stmt>,
@@ -38,11 +38,15 @@ pub fn push_set(
     ensures { OnOk result (steps.new ≡ steps.old ++ stored_of first operand.now set_value) }
 {
     push_fetch(alloc, steps, first, operand, Width::Bit)?;
-    let value = or(alloc, fetched(first, operand, Width::Bit), read(Reg::Rlo))?;
+    let value = or(
+        alloc,
+        fetched_value(first, operand, Width::Bit),
+        read(Reg::Rlo),
+    )?;
     push_store(alloc, steps, first, operand, value)
 }
 
-/// R of a bit.
+/// The statements of `R` of a bit.
 pub fn push_reset(
     alloc: Global,
     steps: &mut List<Stmt>,
@@ -54,7 +58,7 @@ pub fn push_reset(
 {
     push_fetch(alloc, steps, first, operand, Width::Bit)?;
     let low = not(alloc, read(Reg::Rlo))?;
-    let value = and(alloc, fetched(first, operand, Width::Bit), low)?;
+    let value = and(alloc, fetched_value(first, operand, Width::Bit), low)?;
     push_store(alloc, steps, first, operand, value)
 }
 
@@ -71,15 +75,15 @@ fn push_store(
 {
     let write = writing(alloc, first, operand, Width::Bit, value)?;
     steps.push(write)?;
-    push_cleared(steps, false)
+    push_clear_or(steps, false)
 }
 
 /// The RLO is set or cleared, and the chain ends.
 pub fn push_rlo(steps: &mut List<Stmt>, rlo: bool) -> Result<(), NoMemory>
     ensures { OnOk result (steps.new ≡ steps.old ++ rlo_set rlo) }
 {
-    steps.push(set(Reg::Rlo, literal(rlo)))?;
-    push_cleared(steps, false)
+    steps.push(set_register(Reg::Rlo, literal(rlo)))?;
+    push_clear_or(steps, false)
 }
 
 /// The RLO is inverted.
@@ -87,14 +91,14 @@ pub fn push_inverted(alloc: Global, steps: &mut List<Stmt>) -> Result<(), NoMemo
     ensures { OnOk result (steps.new ≡ steps.old ++ inverted_of) }
 {
     let inverted = not(alloc, read(Reg::Rlo))?;
-    steps.push(set(Reg::Rlo, inverted))
+    steps.push(set_register(Reg::Rlo, inverted))
 }
 
 /// BR keeps the RLO.
 pub fn push_saved(steps: &mut List<Stmt>) -> Result<(), NoMemory>
     ensures { OnOk result (steps.new ≡ steps.old ++ saved_of) }
 {
-    steps.push(set(Reg::Br, read(Reg::Rlo)))
+    steps.push(set_register(Reg::Br, read(Reg::Rlo)))
 }
 
 /// The types of the locals of an edge: those of its bit, where that may fault, and one for the RLO.
@@ -116,7 +120,7 @@ pub fn types_of_edge(operand: &Operand) -> &'static [StType]
     }
 }
 
-/// FP of an edge bit.
+/// The statements of `FP` with an edge bit.
 pub fn push_rising(
     alloc: Global,
     steps: &mut List<Stmt>,
@@ -127,12 +131,12 @@ pub fn push_rising(
     ensures { OnOk result (steps.new ≡ steps.old ++ edge_at first operand.now rising) }
 {
     push_fetch(alloc, steps, first, operand, Width::Bit)?;
-    let old = not(alloc, fetched(first, operand, Width::Bit))?;
+    let old = not(alloc, fetched_value(first, operand, Width::Bit))?;
     let value = and(alloc, read(Reg::Rlo), old)?;
     push_edge(alloc, steps, first, operand, value)
 }
 
-/// FN of an edge bit.
+/// The statements of `FN` with an edge bit.
 pub fn push_falling(
     alloc: Global,
     steps: &mut List<Stmt>,
@@ -144,7 +148,7 @@ pub fn push_falling(
 {
     push_fetch(alloc, steps, first, operand, Width::Bit)?;
     let low = not(alloc, read(Reg::Rlo))?;
-    let value = and(alloc, low, fetched(first, operand, Width::Bit))?;
+    let value = and(alloc, low, fetched_value(first, operand, Width::Bit))?;
     push_edge(alloc, steps, first, operand, value)
 }
 
@@ -162,8 +166,8 @@ fn push_edge(
     let index = behind_fetched(first, operand);
     steps.push(set_local(index, value))?;
     push_edge_bit(alloc, steps, first, operand)?;
-    steps.push(set(Reg::Rlo, local(index)))?;
-    push_cleared(steps, true)
+    steps.push(set_register(Reg::Rlo, local(index)))?;
+    push_clear_or(steps, true)
 }
 
 /// The edge bit takes the RLO.
@@ -180,7 +184,7 @@ fn push_edge_bit(
     steps.push(write)
 }
 
-/// The local behind those of a bit that is fetched.
+/// The number of the first local after those of a fetched bit.
 fn behind_fetched(first: u32, operand: &Operand) -> u32
     requires { first + 8 < 2 ^ 32 }
     ensures { result ≡ first + length (types_fetched operand.now Width.Bit) }

@@ -2,14 +2,14 @@
 ghost use Rattle.std.specs.Prelude.{◌≡◌, ◌+◌, ◌^◌, ◌<◌, IfOk};
 ghost use Rattle.bit_templates.specs.Bits.{and_joined, next_rlo, rlo_before_and, rlo_before_or, running_chain};
 ghost use Rattle.bit_templates.specs.Brackets.{bracket_at, chain_at};
-ghost use Rattle.row_templates.specs.Builders.{or_of, xor_of};
+ghost use Rattle.template_parts.specs.Builders.{or_of, xor_of};
 
-use row_templates::{and, not, or, xor};
 use s7_base::{Check, NoMemory, Reg};
 use st_tree::{Expr, Var};
 use std::alloc::Global;
+use template_parts::{and, not, or, xor};
 
-/// Where a chain of checks keeps its RLO, /FC and OR.
+/// The RLO, /FC and OR of a chain of checks, as expressions.
 #[derive(Clone, Copy)]
 pub struct Chain {
     pub rlo: Var,
@@ -25,7 +25,7 @@ pub struct OpenBracket {
 }
 
 impl OpenBracket {
-    /// The bracket of a check whose chain is kept by three locals in a row, `first` and the next two: RLO, OR, NFC.
+    /// The bracket of a check whose chain is kept by three locals, `first` and the next two: RLO, OR, NFC.
     pub fn at(first: u32, check: Check) -> OpenBracket
         requires { first + 2 < 2 ^ 32 }
         ensures { result ≡ bracket_at first check }
@@ -37,7 +37,7 @@ impl OpenBracket {
     }
 }
 
-/// The chain that three locals in a row keep.
+/// The chain that is kept by three locals, `first` and the next two.
 fn chain_at(first: u32) -> Chain
     requires { first + 2 < 2 ^ 32 }
     ensures { result ≡ chain_at first }
@@ -83,7 +83,7 @@ pub fn next_rlo(alloc: Global, chain: Chain, check: Check, bit: Expr) -> Result<
     }
 }
 
-/// An AND, joined to what OR keeps.
+/// The RLO after an AND: the bit is joined to the RLO, and to what OR keeps.
 fn and_joined(alloc: Global, chain: Chain, bit: Expr) -> Result<Expr, NoMemory>
     ensures { IfOk result (λ value. value ≡ and_joined chain bit) }
 {
@@ -92,7 +92,7 @@ fn and_joined(alloc: Global, chain: Chain, bit: Expr) -> Result<Expr, NoMemory>
     or(alloc, joined, Expr::Read(chain.orb))
 }
 
-/// An OR.
+/// The RLO after an OR.
 fn or_joined(alloc: Global, chain: Chain, bit: Expr) -> Result<Expr, NoMemory>
     ensures { IfOk result (λ value. value ≡ or_of (rlo_before_or chain) bit) }
 {
@@ -100,7 +100,7 @@ fn or_joined(alloc: Global, chain: Chain, bit: Expr) -> Result<Expr, NoMemory>
     or(alloc, before, bit)
 }
 
-/// An XOR.
+/// The RLO after an XOR.
 fn xor_joined(alloc: Global, chain: Chain, bit: Expr) -> Result<Expr, NoMemory>
     ensures { IfOk result (λ value. value ≡ xor_of (rlo_before_or chain) bit) }
 {

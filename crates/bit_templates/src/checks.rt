@@ -1,17 +1,18 @@
-//! Checks of bits, and of answers of the status word.
+//! Templates of checks of bits and of the status word.
 ghost use Rattle.std.specs.Prelude.{◌≡◌, ◌<◌, ◌+◌, ◌^◌, ◌++◌, IfOk, OnOk};
-ghost use Rattle.bit_templates.specs.Bits.{answer_of, behind_check, checked_bit_of, checked_of, or_alone_of, types_checked};
-ghost use Rattle.row_templates.specs.Builders.{and_of, not_of, read_of};
+ghost use Rattle.bit_templates.specs.Bits.{answer_of, behind_check, checked_bit_of, check_value_of, or_alone_of, types_checked};
+ghost use Rattle.template_parts.specs.Builders.{and_of, not_of, read_of};
 
 use crate::chain::{next_rlo, running_chain};
-use row_templates::{
-    and, fetched, literal, not, push_cleared, push_fetch, read, set, types_fetched, xor,
-};
 use s7_base::{Check, List, NoMemory, Reg, Width};
 use st_tree::{Expr, StType, Stmt};
 use status_word::Test;
 use std::alloc::Global;
 use stl_tree::BitArg;
+use template_parts::{
+    and, fetched_value, literal, not, push_clear_or, push_fetch, read, set_register, types_fetched,
+    xor,
+};
 
 /// The types of the locals of a check.
 pub fn types_checked(arg: &BitArg) -> &'static [StType]
@@ -23,7 +24,7 @@ pub fn types_checked(arg: &BitArg) -> &'static [StType]
     }
 }
 
-/// A check, behind what it fetches.
+/// The statements of a check, after those that fetch its bit.
 pub fn push_checked(
     alloc: Global,
     steps: &mut List<Stmt>,
@@ -37,9 +38,9 @@ pub fn push_checked(
     if let BitArg::At(operand) = arg {
         push_fetch(alloc, steps, first, operand, Width::Bit)?;
     }
-    let bit = checked(alloc, first, arg)?;
+    let bit = check_value(alloc, first, arg)?;
     let value = next_rlo(alloc, running_chain(), check, bit)?;
-    steps.push(set(Reg::Rlo, value))?;
+    steps.push(set_register(Reg::Rlo, value))?;
     push_behind_check(steps, check)
 }
 
@@ -48,32 +49,32 @@ pub fn push_or_alone(alloc: Global, steps: &mut List<Stmt>) -> Result<(), NoMemo
     ensures { OnOk result (steps.new ≡ steps.old ++ or_alone_of) }
 {
     let kept = and(alloc, read(Reg::Rlo), read(Reg::Nfc))?;
-    steps.push(set(Reg::Orb, kept))?;
-    steps.push(set(Reg::Nfc, literal(false)))
+    steps.push(set_register(Reg::Orb, kept))?;
+    steps.push(set_register(Reg::Nfc, literal(false)))
 }
 
-/// An AND keeps OR, the others clear it.
+/// OR after a check: an AND keeps it, the others clear it.
 fn push_behind_check(steps: &mut List<Stmt>, check: Check) -> Result<(), NoMemory>
     ensures { OnOk result (steps.new ≡ steps.old ++ behind_check check) }
 {
     match check {
-        Check::A | Check::An => steps.push(set(Reg::Nfc, literal(true))),
-        Check::O | Check::On | Check::X | Check::Xn => push_cleared(steps, true),
+        Check::A | Check::An => steps.push(set_register(Reg::Nfc, literal(true))),
+        Check::O | Check::On | Check::X | Check::Xn => push_clear_or(steps, true),
     }
 }
 
-/// What a check looks at.
-fn checked(alloc: Global, first: u32, arg: &BitArg) -> Result<Expr, NoMemory>
+/// The bit that a check tests.
+fn check_value(alloc: Global, first: u32, arg: &BitArg) -> Result<Expr, NoMemory>
     requires { first + 8 < 2 ^ 32 }
-    ensures { IfOk result (λ value. value ≡ checked_of first arg.now) }
+    ensures { IfOk result (λ value. value ≡ check_value_of first arg.now) }
 {
     match arg {
-        BitArg::At(operand) => Ok(fetched(first, operand, Width::Bit)),
+        BitArg::At(operand) => Ok(fetched_value(first, operand, Width::Bit)),
         BitArg::Flag(test) => answer(alloc, *test),
     }
 }
 
-/// The answer to a question to the status word.
+/// The answer of the status word to a test.
 fn answer(alloc: Global, test: Test) -> Result<Expr, NoMemory>
     ensures { IfOk result (λ value. value ≡ answer_of test) }
 {
@@ -97,7 +98,7 @@ fn answer(alloc: Global, test: Test) -> Result<Expr, NoMemory>
     }
 }
 
-/// A bit, and that CC0 is FALSE.
+/// Whether a bit is TRUE and CC0 is FALSE.
 fn and_not_less(alloc: Global, bit: Expr) -> Result<Expr, NoMemory>
     ensures { IfOk result (λ value. value ≡ and_of bit (not_of (read_of Reg.Cc0))) }
 {

@@ -1,8 +1,8 @@
 //! The templates of bit logic: the statements of checks, brackets, edges and of what sets a bit or the RLO.
 //!
-//! Stands on `row_templates`. What an instruction does is a definition of `stl_tree` and `status_word`. The code pushes
-//! the statements of an instruction and tells the types of the locals that these take. `bit_logic_serves` promises of
-//! them what `Serves` asks; and of brackets that the locals keep what a bracket kept.
+//! Uses `template_parts`. What an instruction does is a definition of `stl_tree` and `status_word`. The code
+//! appends the statements of an instruction and gives the types of their locals. `bit_logic_serves` promises
+//! of them what `Serves` asks; and of brackets that the locals keep what a bracket kept.
 #![tactic(auto)]
 
 ghost use Rattle.bit_templates.specs.BitLaw.{BitLogicServes};

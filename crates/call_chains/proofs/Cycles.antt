@@ -4,7 +4,7 @@ use Rattle.std.proofs.lemmas.Bool.{leb-true, leb-false}
 use Rattle.std.proofs.lemmas.Option.{slice_get-get_or}
 use Rattle.s7_base.specs.declared.reason.Line.{Line}
 use Rattle.call_chains.specs.Chain.{Graph, Reaches, OnCycle, IsFirstCycle, call_in, call_at, follow, with_call}
-use Rattle.call_chains.specs.Cycles.{fall, all_fall, Considers, Before, IsFirstBefore}
+use Rattle.call_chains.specs.inner.Cycles.{fall, all_fall, Considers, Before, IsFirstBefore}
 use Rattle.call_chains.specs.declared.call.Call.{Call}
 
 -- Numbers
@@ -17,7 +17,8 @@ second_of : (a b : Bool) → (a && b) ≡ true → b ≡ true
 second_of true b e = e
 second_of false b e = cc
 
-falls_at : (numbers : List ℕ) (n : ℕ) (calls : List Call) (k : ℕ) (c : Call) → fall numbers n calls ≡ true → slice_get calls k ≡ Some c → get_or numbers c.callee 0 ≤ n
+falls_at : (numbers : List ℕ) (n : ℕ) (calls : List Call) (k : ℕ) (c : Call)
+    → fall numbers n calls ≡ true → slice_get calls k ≡ Some c → get_or numbers c.callee 0 ≤ n
 falls_at numbers n [] k c h q = absurd cc
 falls_at numbers n (d ∷ calls) zero c h q =
     let same : d ≡ c = cc in
@@ -25,7 +26,8 @@ falls_at numbers n (d ∷ calls) zero c h q =
     subst (λ (e : Call). get_or numbers e.callee 0 ≤ n) same here
 falls_at numbers n (d ∷ calls) (suc k) c h q = falls_at numbers n calls k c (second_of (nat_le (get_or numbers d.callee 0) n) (fall numbers n calls) h) q
 
-falls_in : (numbers : List ℕ) (graph : Graph) (i j k : ℕ) (c : Call) → all_fall numbers i graph ≡ true → call_at graph j k ≡ Some c → get_or numbers c.callee 0 ≤ get_or numbers (i + j) 0
+falls_in : (numbers : List ℕ) (graph : Graph) (i j k : ℕ) (c : Call) → all_fall numbers i graph ≡ true
+    → call_at graph j k ≡ Some c → get_or numbers c.callee 0 ≤ get_or numbers (i + j) 0
 falls_in numbers [] i j k c h q = absurd cc
 falls_in numbers (calls ∷ graph) i zero k c h q =
     let here = falls_at numbers (get_or numbers i 0) calls k c (first_of (fall numbers (get_or numbers i 0) calls) (all_fall numbers (i + 1) graph) h) q in
@@ -36,7 +38,8 @@ falls_in numbers (calls ∷ graph) i (suc j) k c h q =
     let e : i + 1 + j ≡ i + suc j = omega arith in
     subst (λ n. get_or numbers c.callee 0 ≤ get_or numbers n 0) e there
 
-falls_along : (numbers : List ℕ) (graph : Graph) → all_fall numbers 0 graph ≡ true → (ks : List ℕ) (i j : ℕ) → follow graph i ks ≡ Some j → get_or numbers j 0 ≤ get_or numbers i 0
+falls_along : (numbers : List ℕ) (graph : Graph) → all_fall numbers 0 graph ≡ true
+    → (ks : List ℕ) (i j : ℕ) → follow graph i ks ≡ Some j → get_or numbers j 0 ≤ get_or numbers i 0
 falls_along numbers graph h [] i j p = let same : i ≡ j = cc in omega (arith, ap (λ n. get_or numbers n 0) same)
 falls_along numbers graph h (k ∷ ks) i j p = step (λ n. falls_along numbers graph h ks n j) (call_at graph i k) refl p
   where
@@ -50,7 +53,8 @@ falls_along numbers graph h (k ∷ ks) i j p = step (λ n. falls_along numbers g
         omega (arith, more c.callee q, here)
 
 -- a call to a unit with a lesser number lies on no cycle
-pub returns_not : (numbers : List ℕ) (graph : Graph) (unit callee : ℕ) → all_fall numbers 0 graph ≡ true → get_or numbers callee 0 < get_or numbers unit 0 → Reaches graph callee unit → ⊥
+pub returns_not : (numbers : List ℕ) (graph : Graph) (unit callee : ℕ) → all_fall numbers 0 graph ≡ true
+    → get_or numbers callee 0 < get_or numbers unit 0 → Reaches graph callee unit → ⊥
 returns_not numbers graph unit callee h l r = let b = falls_along numbers graph h r.0 callee unit r.1 in omega (arith, b, l)
 
 -- no numbers fall
@@ -116,7 +120,9 @@ considered graph i k c (Some old) (Some new) q b (inl h) = record {
   call = b.call;
   cycle = b.cycle;
   on_line = b.on_line ∙ sym h.0;
-  first = λ j m d e o. split graph i k j m c d q e o (λ x. omega (arith, line_of new old h.0, b.first j m d x o)) (λ s r. omega (arith, line_of new old h.0, h.1 r, call_line d c s));
+  first =
+      λ j m d e o. split graph i k j m c d q e o (λ x. omega (arith, line_of new old h.0, b.first j m d x o))
+      (λ s r. omega (arith, line_of new old h.0, h.1 r, call_line d c s));
 }
 considered graph i k c (Some old) (Some new) q b (inr h) = record {
   unit = i;
@@ -124,11 +130,14 @@ considered graph i k c (Some old) (Some new) q b (inr h) = record {
   call = c;
   cycle = record { is_call = q; back = h.1 };
   on_line = sym h.0;
-  first = λ j m d e o. split graph i k j m c d q e o (λ x. omega (arith, line_of new c.line h.0, b.first j m d x o, h.2)) (λ s r. omega (arith, line_of new c.line h.0, call_line d c s));
+  first =
+      λ j m d e o. split graph i k j m c d q e o (λ x. omega (arith, line_of new c.line h.0, b.first j m d x o, h.2))
+      (λ s r. omega (arith, line_of new c.line h.0, call_line d c s));
 }
 
 -- one more call of a unit, as a loop goes through them
-pub next_call : (graph : Graph) (i k : ℕ) (calls : List Call) (d : Call) (old new : Option Line) → i < length graph → get_or graph i calls ≡ calls → k < length calls
+pub next_call : (graph : Graph) (i k : ℕ) (calls : List Call) (d : Call) (old new : Option Line)
+    → i < length graph → get_or graph i calls ≡ calls → k < length calls
     → IsFirstBefore graph i k old → Considers (Reaches graph (get_or calls k d).callee i) (get_or calls k d).line old new → IsFirstBefore graph i (k + 1) new
 next_call graph i k calls d old new h at l b s =
     let unit : slice_get graph i ≡ Some calls = slice_get-get_or graph i calls h ∙ ap (λ (c : List Call). Some c) at in

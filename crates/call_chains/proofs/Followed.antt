@@ -44,12 +44,14 @@ sound graph zero i h = by_size (nat_le (length graph) i) refl
   where
     by_size : (t : Bool) → nat_le (length graph) i ≡ t → IsFollowed graph 0 i
     by_size true e =
-        let past : get_or (replicate (length graph) true) i false ≡ false = get_or_past (replicate (length graph) true) i false (omega (arith, length-replicate (length graph) true, leb-true (length graph) i e)) in
+        let past : get_or (replicate (length graph) true) i false ≡ false =
+        get_or_past (replicate (length graph) true) i false (omega (arith, length-replicate (length graph) true, leb-true (length graph) i e)) in
         absurd cc
     by_size false e = record { calls = []; last = i; size = refl; followed = refl; there = leb-false (length graph) i e }
 sound graph (suc n) i h = by_unit (λ j. sound graph n j) (map_true (calls_one (chains graph n)) graph i h)
   where
-    by_unit : ((j : ℕ) → get_or (chains graph n) j false ≡ true → IsFollowed graph n j) → (calls : List Call) × (slice_get graph i ≡ Some calls) × (calls_one (chains graph n) calls ≡ true)
+    by_unit : ((j : ℕ) → get_or (chains graph n) j false ≡ true → IsFollowed graph n j)
+        → (calls : List Call) × (slice_get graph i ≡ Some calls) × (calls_one (chains graph n) calls ≡ true)
         → IsFollowed graph (suc n) i
     by_unit more u =
         let c = any_true (λ (c : Call). get_or (chains graph n) c.callee false) u.0 u.2 in
@@ -70,11 +72,13 @@ along graph (k ∷ ks) i j p h = by_unit (λ n. along graph ks n j) (slice_get g
     Rest : Type 0
     Rest = (n : ℕ) → follow graph n ks ≡ Some j → j < length graph → get_or (chains graph (length ks)) n false ≡ true
 
-    by_call : Rest → (calls : List Call) (o : Option Call) → slice_get graph i ≡ Some calls → slice_get calls k ≡ o → with_call o (λ c. follow graph c.callee ks) ≡ Some j
+    by_call : Rest → (calls : List Call) (o : Option Call) → slice_get graph i ≡ Some calls
+        → slice_get calls k ≡ o → with_call o (λ c. follow graph c.callee ks) ≡ Some j
         → get_or (map (calls_one (chains graph (length ks))) graph) i false ≡ true
     by_call more calls None e f q = absurd cc
     by_call more calls (Some c) e f q =
-        map_at (calls_one (chains graph (length ks))) graph i calls false e ∙ any_at (λ (d : Call). get_or (chains graph (length ks)) d.callee false) calls k c f (more c.callee q h)
+        map_at (calls_one (chains graph (length ks))) graph i calls false e
+        ∙ any_at (λ (d : Call). get_or (chains graph (length ks)) d.callee false) calls k c f (more c.callee q h)
 
     by_unit : Rest → (u : Option (List Call)) → slice_get graph i ≡ u → with_call (call_in u k) (λ c. follow graph c.callee ks) ≡ Some j
         → get_or (chains graph (length (k ∷ ks))) i false ≡ true

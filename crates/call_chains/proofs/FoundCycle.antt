@@ -8,17 +8,17 @@ use Rattle.s7_base.specs.declared.reason.Line.{Line}
 use Rattle.call_chains.proofs.Cycles.{considered, next_unit, first_of_units, none_before}
 use Rattle.call_chains.proofs.Reached.{onward, reach_sound, one_less, decided}
 use Rattle.call_chains.specs.Chain.{Graph, Reaches, IsFirstCycle, call_in, call_at}
-use Rattle.call_chains.specs.Cycles.{Considers, IsFirstBefore}
-use Rattle.call_chains.specs.Search.{has, marks_after, unmarked, IsClosed, IsSound, Decides}
+use Rattle.call_chains.specs.inner.Cycles.{Considers, IsFirstBefore}
+use Rattle.call_chains.specs.Search.{has, marks_after, count_unmarked, IsClosed, IsSound, Decides}
 use Rattle.call_chains.specs.declared.call.Call.{Call}
 
 -- Marks
 
 -- a unit that is not seen is marked
-marks_less : (from i : ℕ) (seen : List Bool) → has from seen i ≡ false → unmarked (marks_after from i seen) < unmarked seen
+marks_less : (from i : ℕ) (seen : List Bool) → has from seen i ≡ false → count_unmarked (marks_after from i seen) < count_unmarked seen
 marks_less from i seen e = by (i == from) (get_or seen i true) refl e
   where
-    by : (t m : Bool) → get_or seen i true ≡ m → (t || m) ≡ false → unmarked (cond (t || m) seen (slice_set seen i true)) < unmarked seen
+    by : (t m : Bool) → get_or seen i true ≡ m → (t || m) ≡ false → count_unmarked (cond (t || m) seen (slice_set seen i true)) < count_unmarked seen
     by true m f h = absurd cc
     by false true f h = absurd cc
     by false false f h = one_less seen i f
@@ -49,7 +49,8 @@ are_closed from seen i [] = true
 are_closed from seen i (calls ∷ graph) =
     (not (has from seen i) || lead_to_seen from seen calls) && are_closed from seen (i + 1) graph
 
-lead_at : (from : ℕ) (seen : List Bool) (calls : List Call) (k : ℕ) (c : Call) → lead_to_seen from seen calls ≡ true → slice_get calls k ≡ Some c → has from seen c.callee ≡ true
+lead_at : (from : ℕ) (seen : List Bool) (calls : List Call) (k : ℕ) (c : Call)
+    → lead_to_seen from seen calls ≡ true → slice_get calls k ≡ Some c → has from seen c.callee ≡ true
 lead_at from seen [] k c h q = cc
 lead_at from seen (d ∷ calls) zero c h q =
     let same : d ≡ c = cc in
@@ -106,7 +107,8 @@ record Leads (graph : Graph) (from : ℕ) (seen : List Bool) (first : ℕ) : Typ
   is_seen : has from seen (first + unit) ≡ true
   is_new : has from seen call.callee ≡ false
 
-leads_of : (from : ℕ) (seen : List Bool) (calls : List Call) → lead_to_seen from seen calls ≡ false → (k : ℕ) × (c : Call) × (slice_get calls k ≡ Some c) × (has from seen c.callee ≡ false)
+leads_of : (from : ℕ) (seen : List Bool) (calls : List Call) → lead_to_seen from seen calls ≡ false
+    → (k : ℕ) × (c : Call) × (slice_get calls k ≡ Some c) × (has from seen c.callee ≡ false)
 leads_of from seen [] e = absurd cc
 leads_of from seen (c ∷ calls) e = by (has from seen c.callee) refl e (leads_of from seen calls)
   where
@@ -134,7 +136,8 @@ leads (calls ∷ graph) from seen first e =
     by : (t m : Bool) → has from seen first ≡ t → lead_to_seen from seen calls ≡ m → ((not t || m) && are_closed from seen (first + 1) graph) ≡ false
         → (are_closed from seen (first + 1) graph ≡ false → Leads graph from seen (first + 1)) → Leads (calls ∷ graph) from seen first
     by true false f g h more =
-        let l = leads_of from seen calls g in record { unit = 0; number = l.0; call = l.1; is_call = l.2; is_seen = ap (has from seen) (omega arith) ∙ f; is_new = l.3 }
+        let l = leads_of from seen calls g in
+        record { unit = 0; number = l.0; call = l.1; is_call = l.2; is_seen = ap (has from seen) (omega arith) ∙ f; is_new = l.3 }
     by true true f g h more = further (more h)
     by false m f g h more = further (more h)
 
@@ -159,7 +162,8 @@ unit_within graph i k c e = by (slice_get graph i) refl e
     by None f q = absurd cc
     by (Some calls) f q = slice_get_within graph i calls f
 
-one_more : (graph : Graph) (from : ℕ) (seen : List Bool) (w : Leads graph from seen 0) → IsSound graph from seen [] → IsSound graph from (marks_after from w.call.callee seen) []
+one_more : (graph : Graph) (from : ℕ) (seen : List Bool) (w : Leads graph from seen 0)
+    → IsSound graph from seen [] → IsSound graph from (marks_after from w.call.callee seen) []
 one_more graph from seen w s =
     let is_seen : has from seen w.unit ≡ true = ap (has from seen) (omega arith) ∙ w.is_seen in
     let r = seen_reached graph from w.unit seen s (unit_within graph w.unit w.number w.call w.is_call) is_seen in
@@ -167,22 +171,25 @@ one_more graph from seen w s =
     record { size = t.size; marked = t.marked; waiting = tt }
 
 close_step : (graph : Graph) (from : ℕ) (seen : List Bool) (t : Bool) → are_closed from seen 0 graph ≡ t → IsSound graph from seen []
-    → ((marks : List Bool) → IsSound graph from marks [] → unmarked marks < unmarked seen → Closed graph from) → Closed graph from
+    → ((marks : List Bool) → IsSound graph from marks [] → count_unmarked marks < count_unmarked seen → Closed graph from) → Closed graph from
 close_step graph from seen true e s on = record { seen = seen; sound = s; closed = e }
 close_step graph from seen false e s on =
     let w = leads graph from seen 0 e in on (marks_after from w.call.callee seen) (one_more graph from seen w s) (marks_less from w.call.callee seen w.is_new)
 
-close : (most : ℕ) (graph : Graph) (from : ℕ) (seen : List Bool) → IsSound graph from seen [] → unmarked seen ≤ most → Closed graph from
+close : (most : ℕ) (graph : Graph) (from : ℕ) (seen : List Bool) → IsSound graph from seen [] → count_unmarked seen ≤ most → Closed graph from
 close zero graph from seen s h = close_step graph from seen (are_closed from seen 0 graph) refl s (λ marks r l. absurd (omega (arith, l, h)))
-close (suc most) graph from seen s h = close_step graph from seen (are_closed from seen 0 graph) refl s (λ marks r l. close most graph from marks r (omega (arith, l, h)))
+close (suc most) graph from seen s h =
+    close_step graph from seen (are_closed from seen 0 graph) refl s (λ marks r l. close most graph from marks r (omega (arith, l, h)))
 
 closed_from : (graph : Graph) (from : ℕ) → Closed graph from
 closed_from graph from =
     let s : IsSound graph from (no_marks graph) [] = record { size = no_marks_size graph; marked = λ i h e. absurd (none_marked graph i h e); waiting = tt } in
-    close (unmarked (no_marks graph)) graph from (no_marks graph) s (omega arith)
+    close (count_unmarked (no_marks graph)) graph from (no_marks graph) s (omega arith)
 
 reached_or_not : (graph : Graph) (from to : ℕ) → to < length graph → Reaches graph from to ⊎ (Reaches graph from to → ⊥)
-reached_or_not graph from to h = let c = closed_from graph from in by (has from c.seen to) (decided graph from to c.seen [] c.sound (are_followed graph from c.seen c.closed) h)
+reached_or_not graph from to h =
+    let c = closed_from graph from in
+    by (has from c.seen to) (decided graph from to c.seen [] c.sound (are_followed graph from c.seen c.closed) h)
   where
     by : (t : Bool) → Decides (Reaches graph from to) t → Reaches graph from to ⊎ (Reaches graph from to → ⊥)
     by true d = inl d
@@ -204,7 +211,8 @@ consider P line (Some old) (inr n) = (Some old, inl (refl, λ p. absurd (n p)))
 abbrev FoundBefore : Graph → ℕ → ℕ → Type 0
 FoundBefore graph i k = (first : Option Line) × IsFirstBefore graph i k first
 
-found_call : (graph : Graph) (i : ℕ) (calls : List Call) (k : ℕ) → slice_get graph i ≡ Some calls → k < length calls → FoundBefore graph i k → FoundBefore graph i (k + 1)
+found_call : (graph : Graph) (i : ℕ) (calls : List Call) (k : ℕ) → slice_get graph i ≡ Some calls
+    → k < length calls → FoundBefore graph i k → FoundBefore graph i (k + 1)
 found_call graph i calls k e h f = by (slice_get_cases calls k).1
   where
     with_call : (c : Call) → slice_get calls k ≡ Some c → FoundBefore graph i (k + 1)
@@ -213,14 +221,16 @@ found_call graph i calls k e h f = by (slice_get_cases calls k).1
         let is_call : call_at graph i k ≡ Some c = ap (λ (u : Option (List Call)). call_in u k) e ∙ g in
         (n.0, considered graph i k c f.0 n.0 is_call f.1 n.1)
 
-    by : ((x : Call) × (k < length calls) × (slice_get calls k ≡ Some x) × (get_or calls k x ≡ x)) ⊎ ((length calls ≤ k) × (slice_get calls k ≡ None)) → FoundBefore graph i (k + 1)
+    by : ((x : Call) × (k < length calls) × (slice_get calls k ≡ Some x) × (get_or calls k x ≡ x)) ⊎ ((length calls ≤ k) × (slice_get calls k ≡ None))
+        → FoundBefore graph i (k + 1)
     by (inl x) = with_call x.0 x.2
     by (inr x) = absurd (omega (arith, x.0, h))
 
 next_number : (k : ℕ) → k + 1 ≡ suc k
 next_number k = omega arith
 
-found_calls : (graph : Graph) (i : ℕ) (calls : List Call) (k : ℕ) → slice_get graph i ≡ Some calls → k ≤ length calls → FoundBefore graph i 0 → FoundBefore graph i k
+found_calls : (graph : Graph) (i : ℕ) (calls : List Call) (k : ℕ) → slice_get graph i ≡ Some calls
+    → k ≤ length calls → FoundBefore graph i 0 → FoundBefore graph i k
 found_calls graph i calls zero e h f = f
 found_calls graph i calls (suc k) e h f =
     subst (FoundBefore graph i) (next_number k) (found_call graph i calls k e (omega (arith, h)) (found_calls graph i calls k e (omega (arith, h)) f))
@@ -235,7 +245,8 @@ found_unit graph i h f =
 
 found_units : (graph : Graph) (i : ℕ) → i ≤ length graph → FoundBefore graph i 0
 found_units graph zero h = (None, none_before graph)
-found_units graph (suc i) h = subst (λ (n : ℕ). FoundBefore graph n 0) (next_number i) (found_unit graph i (omega (arith, h)) (found_units graph i (omega (arith, h))))
+found_units graph (suc i) h =
+    subst (λ (n : ℕ). FoundBefore graph n 0) (next_number i) (found_unit graph i (omega (arith, h)) (found_units graph i (omega (arith, h))))
 
 pub found_cycle : (graph : Graph) → (first : Option Line) × IsFirstCycle graph first
 found_cycle graph = let f = found_units graph (length graph) (omega arith) in (f.0, first_of_units graph f.0 f.1)

@@ -6,12 +6,13 @@ use Rattle.std.proofs.lemmas.Option.{slice_get-get_or, slice_get_within}
 use Rattle.std.proofs.lemmas.List.{get_or-replicate, get_or-set_other}
 use Rattle.std.proofs.lemmas.List.Elements.{Contains-append_cases, Contains-append_left, Contains-append_right}
 use Rattle.call_chains.specs.Chain.{Graph, Reaches, call_in, call_at, follow, with_call}
-use Rattle.call_chains.specs.Search.{AllReached, AreFollowed, Decides, Followed, IsClosed, IsClosedButFor, IsSound, has, marks_after, unmarked, work_after}
+use Rattle.call_chains.specs.Search.{AllReached, AreFollowed, Decides, Followed, IsClosed, IsClosedButFor, IsSound, has, marks_after, count_unmarked, work_after}
 use Rattle.call_chains.specs.declared.call.Call.{Call}
 
 -- Paths
 
-follow_on : (graph : Graph) (ks : List ℕ) (i j k : ℕ) (c : Call) → follow graph i ks ≡ Some j → call_at graph j k ≡ Some c → follow graph i (ks ++ k ∷ []) ≡ Some c.callee
+follow_on : (graph : Graph) (ks : List ℕ) (i j k : ℕ) (c : Call) → follow graph i ks ≡ Some j
+    → call_at graph j k ≡ Some c → follow graph i (ks ++ k ∷ []) ≡ Some c.callee
 follow_on graph [] i j k c p q =
     let same : i ≡ j = cc in
     let e : call_at graph i k ≡ Some c = ap (λ n. call_at graph n k) same ∙ q in
@@ -70,7 +71,8 @@ call_there graph i k calls items d h at same l =
     ap (λ u. call_in u k) unit ∙ slice_get-get_or items k d l
 
 -- one more call of a unit that is reached
-pub visited : (graph : Graph) (from i k : ℕ) (calls items : List Call) (d : Call) (seen : List Bool) (work : List ℕ) → i < length graph → calls ≡ get_or graph i calls → items ≡ calls
+pub visited : (graph : Graph) (from i k : ℕ) (calls items : List Call) (d : Call) (seen : List Bool) (work : List ℕ)
+    → i < length graph → calls ≡ get_or graph i calls → items ≡ calls
     → k < length items → IsSound graph from seen work → Reaches graph from i
     → IsSound graph from (marks_after from (get_or items k d).callee seen) (work_after from (get_or items k d).callee seen work)
 visited graph from i k calls items d seen work h at same l s r =
@@ -78,7 +80,7 @@ visited graph from i k calls items d seen work h at same l s r =
 
 -- What is left to do
 
-pub one_less : (seen : List Bool) (i : ℕ) → get_or seen i true ≡ false → unmarked (slice_set seen i true) < unmarked seen
+pub one_less : (seen : List Bool) (i : ℕ) → get_or seen i true ≡ false → count_unmarked (slice_set seen i true) < count_unmarked seen
 one_less [] i e = absurd cc
 one_less (true ∷ seen) zero e = absurd cc
 one_less (false ∷ seen) zero e = omega arith
@@ -91,18 +93,21 @@ no_more n = omega arith
 one_waits : (a b c d : ℕ) → a < b → d ≡ c + 1 → a + d ≤ b + c
 one_waits a b c d h e = omega (arith, h, e)
 
-leaves : (from i : ℕ) (seen : List Bool) (work : List ℕ) → unmarked (marks_after from i seen) + length (work_after from i seen work) ≤ unmarked seen + length work
+leaves : (from i : ℕ) (seen : List Bool) (work : List ℕ)
+    → count_unmarked (marks_after from i seen) + length (work_after from i seen work) ≤ count_unmarked seen + length work
 leaves from i seen work = by (i == from) (get_or seen i true) refl
   where
     by : (t m : Bool) → get_or seen i true ≡ m
-        → unmarked (cond (t || m) seen (slice_set seen i true)) + length (cond (t || m) work (work ++ i ∷ [])) ≤ unmarked seen + length work
-    by true m e = no_more (unmarked seen + length work)
-    by false true e = no_more (unmarked seen + length work)
-    by false false e = one_waits (unmarked (slice_set seen i true)) (unmarked seen) (length work) (length (work ++ i ∷ [])) (one_less seen i e) (length-append work (i ∷ []))
+        → count_unmarked (cond (t || m) seen (slice_set seen i true)) + length (cond (t || m) work (work ++ i ∷ [])) ≤ count_unmarked seen + length work
+    by true m e = no_more (count_unmarked seen + length work)
+    by false true e = no_more (count_unmarked seen + length work)
+    by false false e =
+        one_waits (count_unmarked (slice_set seen i true)) (count_unmarked seen) (length work)
+        (length (work ++ i ∷ [])) (one_less seen i e) (length-append work (i ∷ []))
 
 -- a unit that comes to wait gets a mark
 pub reach_leaves : (from i : ℕ) (seen after : List Bool) (work behind : List ℕ) → after ≡ marks_after from i seen → behind ≡ work_after from i seen work
-    → unmarked after + length behind ≤ unmarked seen + length work
+    → count_unmarked after + length behind ≤ count_unmarked seen + length work
 reach_leaves from i seen after work behind e f = rw (e, f) (leaves from i seen work)
 
 -- Calls that are followed
@@ -156,7 +161,8 @@ meets graph from unit n j seen work f = by_test (has from seen j) refl
         at i k c q h false g = wider i k c (f i k c q (sym (as_before from j i seen (λ r. eqb-false i j g r)) ∙ h))
 
 -- one more call of a unit is followed
-follows : (graph : Graph) (from unit n : ℕ) (c : Call) (seen : List Bool) (work : List ℕ) → call_at graph unit n ≡ Some c → AreFollowed graph from seen work unit n
+follows : (graph : Graph) (from unit n : ℕ) (c : Call) (seen : List Bool) (work : List ℕ)
+    → call_at graph unit n ≡ Some c → AreFollowed graph from seen work unit n
     → AreFollowed graph from (marks_after from c.callee seen) (work_after from c.callee seen work) unit (n + 1)
 follows graph from unit n c seen work is_call f = λ i k d q h. next i k d q (meets graph from unit n c.callee seen work f i k d q h)
   where
@@ -175,13 +181,16 @@ follows graph from unit n c seen work is_call f = λ i k d q h. next i k d q (me
         by false g = let apart : k ≢ n = λ e. eqb-false k n g e in inl (here.0, omega (arith, here.1, apart))
 
 -- one more call of a unit is followed, as a loop over its calls comes to it
-pub followed_at : (graph : Graph) (from i k : ℕ) (calls items : List Call) (d : Call) (seen : List Bool) (work : List ℕ) → i < length graph → calls ≡ get_or graph i calls
+pub followed_at : (graph : Graph) (from i k : ℕ) (calls items : List Call) (d : Call) (seen : List Bool) (work : List ℕ)
+    → i < length graph → calls ≡ get_or graph i calls
     → items ≡ calls → k < length items → AreFollowed graph from seen work i k
     → AreFollowed graph from (marks_after from (get_or items k d).callee seen) (work_after from (get_or items k d).callee seen work) i (k + 1)
-followed_at graph from i k calls items d seen work h at same l f = follows graph from i k (get_or items k d) seen work (call_there graph i k calls items d h at same l) f
+followed_at graph from i k calls items d seen work h at same l f =
+    follows graph from i k (get_or items k d) seen work (call_there graph i k calls items d h at same l) f
 
 -- a unit has no call at or behind its end
-pub all_followed : (graph : Graph) (from unit n : ℕ) (calls : List Call) (seen : List Bool) (work : List ℕ) → unit < length graph → calls ≡ get_or graph unit calls
+pub all_followed : (graph : Graph) (from unit n : ℕ) (calls : List Call) (seen : List Bool) (work : List ℕ)
+    → unit < length graph → calls ≡ get_or graph unit calls
     → length calls ≤ n → AreFollowed graph from seen work unit n → IsClosedButFor graph from seen work
 all_followed graph from unit n calls seen work h at l f = λ i k c q m. by i k c q (f i k c q m)
   where
@@ -196,7 +205,8 @@ all_followed graph from unit n calls seen work h at l f = λ i k c q m. by i k c
         absurd (omega (arith, l, here.1, within))
 
 -- the unit that is taken is the only one whose calls are still to be looked at and that does not wait
-pub taken_follows : (graph : Graph) (from unit : ℕ) (seen : List Bool) (work : List ℕ) → IsClosedButFor graph from seen (work ++ unit ∷ []) → AreFollowed graph from seen work unit 0
+pub taken_follows : (graph : Graph) (from unit : ℕ) (seen : List Bool) (work : List ℕ)
+    → IsClosedButFor graph from seen (work ++ unit ∷ []) → AreFollowed graph from seen work unit 0
 taken_follows graph from unit seen work f = λ i k c q h. by i k c (f i k c q h)
   where
     is_unit : (i k : ℕ) (c : Call) → Contains (unit ∷ []) i → Followed from seen work unit 0 i k c
@@ -212,7 +222,8 @@ taken_follows graph from unit seen work f = λ i k c q h. by i k c (f i k c q h)
     by i k c (inr seen_now) = inr (inr seen_now)
 
 -- where no unit is left to take, all calls of seen units are followed
-pub none_waits : (graph : Graph) (from n : ℕ) (seen : List Bool) (work rest : List ℕ) → n ≡ 0 → work ≡ rest ++ [] → rest ≡ take (n - 1) work → IsClosedButFor graph from seen work
+pub none_waits : (graph : Graph) (from n : ℕ) (seen : List Bool) (work rest : List ℕ) → n ≡ 0
+    → work ≡ rest ++ [] → rest ≡ take (n - 1) work → IsClosedButFor graph from seen work
     → IsClosed graph from seen
 none_waits graph from n seen work rest none whole e f = λ i k c q h. by c i (f i k c q h)
   where
@@ -239,7 +250,8 @@ begins graph from = λ i k c q h. inl (by i (i == from) refl (within i k c (slic
     by i false g l h = let e = get_or-replicate (length graph) i false true l in absurd cc
 
 -- what is reached from a seen unit is seen, where seen units call no others
-pub stays : (graph : Graph) (from : ℕ) (seen : List Bool) → IsClosed graph from seen → (ks : List ℕ) (i j : ℕ) → has from seen i ≡ true → follow graph i ks ≡ Some j
+pub stays : (graph : Graph) (from : ℕ) (seen : List Bool) → IsClosed graph from seen
+    → (ks : List ℕ) (i j : ℕ) → has from seen i ≡ true → follow graph i ks ≡ Some j
     → has from seen j ≡ true
 stays graph from seen h [] i j m p = let same : i ≡ j = cc in ap (has from seen) (sym same) ∙ m
 stays graph from seen h (k ∷ ks) i j m p = at_call (λ n. stays graph from seen h ks n j) (call_at graph i k) refl p

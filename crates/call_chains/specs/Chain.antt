@@ -1,4 +1,6 @@
--- The calls between units: which of them lie on a cycle, and where chains of so many begin.
+-- Cycles and long chains of calls. Which calls between units are on a cycle, and at which units chains of so many
+-- calls begin.
+-- Held against: IEC 61131-3, 'Program organization units', and this project's own bounds.
 use Rattle.std.specs.Prelude.{◌≡◌, ℕ, zero, suc, ◌≤◌, Bool, true, false, List, [], ◌∷◌, map, length, replicate, get_or, slice_get, Option, Some, None}
 use Rattle.std.specs.List.{list_any}
 use Rattle.s7_base.specs.declared.reason.Line.{Line}
@@ -10,7 +12,7 @@ Graph = List (List Call)
 
 -- Cycles
 
--- call k of some calls, if they are there
+-- call k of some calls, if both exist
 abbrev pub call_in : Option (List Call) → ℕ → Option Call
 call_in None k = None
 call_in (Some calls) k = slice_get calls k
@@ -19,7 +21,7 @@ call_in (Some calls) k = slice_get calls k
 abbrev pub call_at : Graph → ℕ → ℕ → Option Call
 call_at graph i k = call_in (slice_get graph i) k
 
--- what follows a call, if it is there
+-- the result for a call, if the call exists
 abbrev pub with_call : Option Call → (Call → Option ℕ) → Option ℕ
 with_call None next = None
 with_call (Some c) next = next c
@@ -58,7 +60,7 @@ IsFirstCycle graph (Some line) = FirstCycle graph line
 
 -- Chains
 
--- a unit has a call of one of some units
+-- a unit calls one of some units
 abbrev pub calls_one : List Bool → List Call → Bool
 calls_one some calls = list_any (λ (c : Call). get_or some c.callee false) calls
 

@@ -3,7 +3,7 @@ use Rattle.std.specs.Prelude.{◌≡◌, ℕ, ◌<◌, true, false, List, length
 use Rattle.call_chains.specs.Chain.{Graph, IsFirstCycle, chains, follow}
 use Rattle.s7_base.specs.declared.reason.Line.{Line}
 
--- n calls one behind another are followed from a unit to a unit that is there
+-- n calls one after another are followed from a unit to a unit that exists
 pub record IsFollowed (graph : Graph) (n i : ℕ) : Type 0 where
   pub calls : List ℕ
   pub last : ℕ

@@ -1,4 +1,4 @@
 pub mod Chain
 pub mod ChainLaws
-pub mod Cycles
 pub mod Search
+pub mod inner

@@ -3,12 +3,12 @@ use Rattle.std.specs.Prelude.{◌≡◌, ◌⊎◌, ℕ, suc, ◌<◌, ◌≤◌
 use Rattle.call_chains.specs.Chain.{Graph, Reaches, call_at}
 use Rattle.call_chains.specs.declared.call.Call.{Call}
 
--- a truth value says whether something holds
+-- a truth value says whether something is true
 abbrev pub Decides : Type 0 → Bool → Type 0
 Decides P true = P
 Decides P false = P → ⊥
 
--- a unit is seen: that where the search begins, one with a mark, or one that is not there
+-- a unit is seen: the one where the search begins, one with a mark, or one that does not exist
 abbrev pub has : ℕ → List Bool → ℕ → Bool
 has from seen i = i == from || get_or seen i true
 
@@ -17,10 +17,10 @@ abbrev pub marks_after : ℕ → ℕ → List Bool → List Bool
 marks_after from i seen = if has from seen i then seen else slice_set seen i true
 
 -- how many units have no mark
-abbrev pub unmarked : List Bool → ℕ
-unmarked [] = 0
-unmarked (true ∷ seen) = unmarked seen
-unmarked (false ∷ seen) = suc (unmarked seen)
+abbrev pub count_unmarked : List Bool → ℕ
+count_unmarked [] = 0
+count_unmarked (true ∷ seen) = count_unmarked seen
+count_unmarked (false ∷ seen) = suc (count_unmarked seen)
 
 -- the units that wait after one more unit is met; one that is seen already does not wait again
 abbrev pub work_after : ℕ → ℕ → List Bool → List ℕ → List ℕ
@@ -37,7 +37,7 @@ pub record IsSound (graph : Graph) (from : ℕ) (seen : List Bool) (work : List 
   pub marked : (i : ℕ) → i < length seen → get_or seen i true ≡ true → Reaches graph from i
   pub waiting : AllReached graph from work
 
--- what call k of unit i leads to is seen, or the unit waits, or the call is one of a unit's calls from call n on
+-- the unit that call k of unit i leads to is seen, or unit i waits, or the call is one of `unit` from call n on
 abbrev pub Followed : ℕ → List Bool → List ℕ → ℕ → ℕ → ℕ → ℕ → Call → Type 0
 Followed from seen work unit n i k c = ((i ≡ unit) × (n ≤ k)) ⊎ (Contains work i ⊎ (has from seen c.callee ≡ true))
 

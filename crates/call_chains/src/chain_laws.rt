@@ -1,7 +1,7 @@
 //! Laws of cycles and chains of calls. They compute nothing: their contracts are the laws.
 ghost use Rattle.call_chains.specs.ChainLaws.{ChainsAreFollowed, EachHasFirstCycle};
 
-/// Chains of so many calls begin at the units from which so many calls are followed, and at no other.
+/// Chains of n calls begin at the units from which n calls are followed, and at no other.
 pub fn chains_are_followed()
     ensures { ChainsAreFollowed }
 {}

@@ -1,7 +1,7 @@
 //! Numbers of units, equal for two units that lie on a cycle of calls with one another.
 //!
-//! Only the time of `first_cycle` rests on them: it looks whether the numbers fall along calls, and each
-//! call that keeps its number is still looked at. So no clause says what they are.
+//! Only the running time of `first_cycle` depends on them: it tests whether the numbers fall along calls, and
+//! follows each call that keeps its number. So no clause says what they are.
 
 use crate::call::Call;
 use s7_base::{List, NoMemory};
@@ -11,7 +11,7 @@ fn read(numbers: &[u32], unit: usize) -> u32 {
     numbers.get(unit).copied().unwrap_or(0)
 }
 
-fn put(numbers: &mut Vec<u32>, unit: usize, number: u32) {
+fn set_number(numbers: &mut Vec<u32>, unit: usize, number: u32) {
     if unit < numbers.len() {
         numbers[unit] = number;
     }
@@ -26,7 +26,7 @@ struct Walk {
     /// The least order of an open unit that is met from each unit.
     low: Vec<u32>,
 
-    /// The number of each unit that is closed, from 1.
+    /// The number of each unit that is closed, from 1; 0 for the others.
     numbers: Vec<u32>,
     open: Vec<usize>,
 
@@ -39,8 +39,8 @@ struct Walk {
 impl Walk {
     fn meet(&mut self, unit: usize) -> Result<(), NoMemory> {
         self.met = self.met.saturating_add(1);
-        put(&mut self.order, unit, self.met);
-        put(&mut self.low, unit, self.met);
+        set_number(&mut self.order, unit, self.met);
+        set_number(&mut self.low, unit, self.met);
         self.open.push(unit)?;
         self.path.push((unit, 0))?;
         Ok(())
@@ -48,7 +48,7 @@ impl Walk {
 
     fn lower(&mut self, unit: usize, order: u32) {
         let low = read(self.low.as_slice(), unit).min(order);
-        put(&mut self.low, unit, low);
+        set_number(&mut self.low, unit, low);
     }
 
     fn follow(&mut self, unit: usize, done: usize, callee: usize) -> Result<(), NoMemory> {
@@ -67,7 +67,7 @@ impl Walk {
     fn number(&mut self, unit: usize) {
         self.closed = self.closed.saturating_add(1);
         while let Some(last) = self.open.pop() {
-            put(&mut self.numbers, last, self.closed);
+            set_number(&mut self.numbers, last, self.closed);
             if last == unit {
                 return;
             }

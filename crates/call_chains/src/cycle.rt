@@ -1,7 +1,7 @@
 //! The first call that lies on a cycle of calls.
 ghost use Rattle.std.specs.Prelude.{◌≡◌, ◌<◌, ◌+◌, true, length, get_or, IfOk};
 ghost use Rattle.call_chains.specs.Chain.{IsFirstCycle, Reaches};
-ghost use Rattle.call_chains.specs.Cycles.{all_fall, fall, Considers, IsFirstBefore};
+ghost use Rattle.call_chains.specs.inner.Cycles.{all_fall, fall, Considers, IsFirstBefore};
 
 use crate::call::Call;
 use crate::components::components;
@@ -35,7 +35,7 @@ fn all_fall(numbers: &[u32], graph: &[List<Call>]) -> bool
     true
 }
 
-/// Considers one more call. Only one that may lie on a cycle, and on a line before, is looked at.
+/// Considers one more call. Only one that may lie on a cycle, and on a line before, is tested.
 #[tactic(auto, using(crate::proofs::Cycles::returns_not))]
 fn consider(
     alloc: Global,

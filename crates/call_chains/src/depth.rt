@@ -1,4 +1,4 @@
-//! At which units chains of so many calls begin.
+//! The units at which chains of a number of calls begin.
 ghost use Rattle.std.specs.Prelude.{◌≡◌, map, IfOk};
 ghost use Rattle.call_chains.specs.Chain.{calls_one, chains};
 
@@ -24,7 +24,7 @@ fn longer(alloc: Global, begins: &[bool], graph: &[List<Call>]) -> Result<Vec<bo
     Ok(longer)
 }
 
-/// At which units chains of no calls begin: at all.
+/// At which units chains of no calls begin: at every one.
 fn shortest(alloc: Global, graph: &[List<Call>]) -> Result<Vec<bool>, NoMemory>
     ensures { IfOk result (λ v. v.items ≡ chains graph.now 0) }
 {
@@ -33,7 +33,7 @@ fn shortest(alloc: Global, graph: &[List<Call>]) -> Result<Vec<bool>, NoMemory>
     Ok(all)
 }
 
-/// At which units chains of so many calls begin.
+/// At which units chains of `calls` calls begin.
 pub fn chains(alloc: Global, graph: &[List<Call>], calls: usize) -> Result<Vec<bool>, NoMemory>
     ensures { IfOk result (λ v. v.items ≡ chains graph.now calls) }
 {

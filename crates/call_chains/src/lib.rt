@@ -1,5 +1,6 @@
-//! The calls between units as a graph: the first line on which a call lies on a cycle, and where chains of so many
-//! calls begin. It knows nothing of a language but a call's line and the position of the unit that is called.
+//! The calls between units as a graph: the first line on which a call lies on a cycle, and where chains of a
+//! number of calls begin. It knows nothing of a language but a call's line and the position of the unit that
+//! is called.
 #![tactic(auto)]
 
 pub use call::Call;

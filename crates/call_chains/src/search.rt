@@ -1,7 +1,7 @@
 //! A search for the units that are reached from one.
 ghost use Rattle.std.specs.Prelude.{◌≡◌, ◌+◌, ◌<◌, ◌≤◌, [], ◌∷◌, false, length, replicate, IfOk, OnOk};
 ghost use Rattle.call_chains.specs.Chain.{Reaches};
-ghost use Rattle.call_chains.specs.Search.{AreFollowed, IsClosedButFor, Decides, IsClosed, IsSound, has, marks_after, unmarked, work_after};
+ghost use Rattle.call_chains.specs.Search.{AreFollowed, IsClosedButFor, Decides, IsClosed, IsSound, has, marks_after, count_unmarked, work_after};
 
 use crate::call::Call;
 use s7_base::{List, NoMemory};
@@ -27,7 +27,7 @@ impl Search {
         unit == self.from || self.seen.get(unit).copied().unwrap_or(true)
     }
 
-    /// Sees one more unit.
+    /// Notes that a unit is reached.
     fn reach(&mut self, unit: usize) -> Result<(), NoMemory>
         ensures from { OnOk result (self.new.from ≡ self.old.from) }
         ensures seen { OnOk result (self.new.seen.items ≡ marks_after self.old.from unit self.old.seen.items) }
@@ -44,7 +44,7 @@ impl Search {
         Ok(())
     }
 
-    /// Sees the units that a unit calls.
+    /// Notes the units that a unit calls.
     fn visit(&mut self, graph: &[List<Call>], unit: usize) -> Result<(), NoMemory>
         requires sound { IsSound graph.now self.old.from self.old.seen.items self.old.work.items }
         requires reached { Reaches graph.now self.old.from unit }
@@ -52,8 +52,8 @@ impl Search {
         ensures from { OnOk result (self.new.from ≡ self.old.from) }
         ensures sound { OnOk result (IsSound graph.now self.new.from self.new.seen.items self.new.work.items) }
         ensures followed { OnOk result (IsClosedButFor graph.now self.new.from self.new.seen.items self.new.work.items) }
-        ensures left { OnOk result (unmarked self.new.seen.items + length self.new.work.items
-            ≤ unmarked self.old.seen.items + length self.old.work.items) }
+        ensures left { OnOk result (count_unmarked self.new.seen.items + length self.new.work.items
+            ≤ count_unmarked self.old.seen.items + length self.old.work.items) }
     {
         let Some(calls) = graph.get(unit) else {
             return Ok(());

@@ -1,7 +1,7 @@
 //! Cases, as the lines of a file say them.
 //!
-//! A line begins with a key and a blank, a line of a text with four blanks, a comment with `#`. docs/ARCHITECTURE.md
-//! has the keys ("Where a worked row goes").
+//! A line begins with a key and a blank, a line of a text with four blanks, a comment with `#`.
+//! docs/ARCHITECTURE.md has the keys.
 use crate::stop::Stop;
 use crate::texts::{NamedText, put_line};
 use std::alloc::Global;
@@ -15,7 +15,7 @@ pub struct Faults {
     pub write: u32,
     pub room: usize,
 
-    /// Whether the image's file is there.
+    /// Whether the image's file exists.
     pub has_file: bool,
 }
 
@@ -37,16 +37,16 @@ pub struct Question {
     pub words: Vec<String>,
 }
 
-/// What the program is given, and what it is to answer.
+/// A case: what the program is given, and what it is to answer.
 #[derive(Drop)]
 pub struct Case {
-    /// The line of its answer, from 1.
+    /// The line of the case's answer, from 1.
     pub line: u32,
     pub source: Vec<u8>,
     pub image: Vec<u8>,
     pub faults: Faults,
 
-    /// The name of its status.
+    /// The name of the status that is to be answered.
     pub status: String,
     pub answer: Vec<u8>,
 }
@@ -89,12 +89,12 @@ pub struct Cases {
     part: Part,
     text: Vec<u8>,
 
-    /// A line end stands behind the text, if a line follows it or it is an answer.
+    /// Whether a line end follows the text: a line follows it, or it is an answer.
     has_end: bool,
 }
 
 impl Cases {
-    /// No line is read yet.
+    /// The state before the first line.
     pub fn new(alloc: Global) -> Cases {
         Cases {
             alloc,
@@ -148,7 +148,7 @@ impl Cases {
         Ok(())
     }
 
-    /// Reads a key and what stands behind it.
+    /// Reads a key and what follows it.
     fn open(&mut self, key: &str, rest: Option<&str>) -> Result<(), Stop> {
         match key {
             "words" => self.put_question(false, rest.unwrap_or("")),
@@ -207,7 +207,7 @@ impl Cases {
         self.begin(Part::Answer, rest)
     }
 
-    /// Begins a text, with its first line where it stands behind the key.
+    /// Begins a text, with its first line where it follows the key.
     fn begin(&mut self, part: Part, line: Option<&str>) -> Result<(), Stop> {
         self.part = part;
         self.text.extend_from_slice(front_of(part))?;
@@ -248,12 +248,12 @@ impl Cases {
     }
 }
 
-/// The line has a key.
+/// Whether the line has a key.
 pub fn has_key(line: &str) -> bool {
     !line.is_empty() && !line.starts_with('#') && !line.starts_with("    ")
 }
 
-/// What stands before the lines of a text.
+/// The bytes before the lines of a text.
 fn front_of(part: Part) -> &'static [u8] {
     match part {
         Part::Body => b"ORGANIZATION_BLOCK OB 1\nBEGIN\n",
@@ -262,7 +262,7 @@ fn front_of(part: Part) -> &'static [u8] {
     }
 }
 
-/// What stands behind the lines of a text.
+/// The bytes after the lines of a text.
 fn end_of(part: Part) -> &'static [u8] {
     match part {
         Part::Body => b"\nEND_ORGANIZATION_BLOCK\n",

@@ -1,7 +1,8 @@
-//! Cases of worked rows, as the lines of a file say them: what the program is asked, and what it is to answer.
+//! Worked cases, as the lines of a file say them: what the program is asked, and what it is to answer.
 //!
-//! Stands on `s7_base` alone, so it is proved beside what the program is made of; `worked_rows` runs the cases. As the
-//! crates of tests it promises nothing: a case that is read wrong fails, or its file has too few.
+//! Uses `s7_base` alone, so it is proved in parallel with what the program is made of; `worked_rows` runs the
+//! cases. As the crates of tests it promises nothing: a case that is read wrong fails, or its file has too
+//! few.
 #![tactic(auto)]
 
 pub use cases::{Case, Cases, Faults, Question, has_key};

@@ -6,7 +6,7 @@ use std::io;
 /// Why no further case of a file is run.
 #[derive(Clone, Copy, Debug, PartialEq)]
 pub enum Stop {
-    /// A line has no form of a case.
+    /// A line does not have the form of a line of a case.
     NoForm,
 
     /// The file can't be read, or the output not written.

@@ -1,12 +1,12 @@
-//! Texts of a case: what a line of one says, with its signs.
+//! Texts of a case: what a line of one says, with its escapes.
 //!
-//! A backslash begins a sign: `\n`, `\r`, `\t` and `\\`, `\xF6` for a byte, `\(NAME)` for the text of that name,
-//! `\200{piece}` for a piece so many times, in which `\#` is the number of the turn. A backslash at the end of a
-//! line takes away the line end behind it.
+//! A backslash begins an escape: `\n`, `\r`, `\t` and `\\`, `\xF6` for a byte, `\(NAME)` for the text of that
+//! name, `\200{piece}` for a piece this many times, in which `\#` is the number of the turn. A backslash at
+//! the end of a line removes the line end after it.
 use crate::stop::Stop;
 use itoa::Buffer;
 
-/// A text that others take in by its name.
+/// A text that other texts include by its name.
 #[derive(Drop)]
 pub struct NamedText {
     pub name: String,
@@ -31,7 +31,7 @@ pub fn put_line(out: &mut Vec<u8>, line: &str, texts: &[NamedText]) -> Result<bo
     Ok(true)
 }
 
-/// Writes what the sign at the front stands for. Returns what is behind it.
+/// Writes what the escape at the front means. Returns what follows it.
 fn put_sign<'t>(out: &mut Vec<u8>, sign: &'t str, texts: &[NamedText]) -> Result<&'t str, Stop> {
     if let Some(named) = sign.strip_prefix('(') {
         let (name, rest) = named.split_once(')').ok_or(Stop::NoForm)?;
@@ -62,7 +62,7 @@ fn put_named(out: &mut Vec<u8>, name: &str, texts: &[NamedText]) -> Result<(), S
     Err(Stop::NoForm)
 }
 
-/// Writes a piece so many times. One without the number of its turn is read once.
+/// Writes a piece as often as its count says. One without the number of its turn is read once.
 fn put_often(out: &mut Vec<u8>, count: &str, piece: &str) -> Result<(), Stop> {
     let count = count.parse::<u32>().map_err(|_| Stop::NoForm)?;
     if piece.find("\\#").is_some() {
@@ -87,7 +87,7 @@ fn put_turns(out: &mut Vec<u8>, count: u32, piece: &str) -> Result<(), Stop> {
     Ok(())
 }
 
-/// Writes a piece, in which signs stand for bytes, as it is in this turn of its repetition, from 0.
+/// Writes a piece with its escapes replaced, as it is in this turn of its repetition, from 0.
 fn put_piece(out: &mut Vec<u8>, piece: &str, turn: u32) -> Result<(), Stop> {
     let mut rest = piece;
     for _ in 0..piece.len() {
@@ -101,7 +101,7 @@ fn put_piece(out: &mut Vec<u8>, piece: &str, turn: u32) -> Result<(), Stop> {
     Ok(())
 }
 
-/// Writes the byte or the number that the sign at the front stands for. Returns what is behind it.
+/// Writes the byte or the number that the escape at the front means. Returns what follows it.
 fn put_byte<'t>(out: &mut Vec<u8>, sign: &'t str, turn: u32) -> Result<&'t str, Stop> {
     if let Some(rest) = sign.strip_prefix('#') {
         let number = u64::from(turn) + 1;

@@ -55,7 +55,8 @@ is_long : (before after : Option (List ℕ)) (limit : ℕ) → GaveExactly befor
 is_long None None limit (bytes, same, gave) = record { bytes = bytes; of_input = tt; long = omega arith }
 is_long None (Some after) limit (bytes, same, gave) = absurd gave
 is_long (Some before) None limit (bytes, same, gave) = absurd gave
-is_long (Some before) (Some after) limit (bytes, same, gave) = record { bytes = before; of_input = refl; long = omega (arith, ap length gave, length-append bytes after) }
+is_long (Some before) (Some after) limit (bytes, same, gave) =
+    record { bytes = before; of_input = refl; long = omega (arith, ap length gave, length-append bytes after) }
 
 -- some bytes of an input
 pub record HasBytes (left : Option (List ℕ)) : Type 0 where
@@ -74,7 +75,8 @@ status_written made status line e w = subst (λ (s : Status). IsWritten s) (sym 
 
 module _ (blocks : List DataBlock) (Fits : Type 0) (run : Areas → End) (i : Input) (made : Made) where
   -- the reply to an image that is too long
-  pub run_too_long : IsReadPast i IMAGE_LIMIT → reply_of made ≡ (TooLong, too_long_line) → AnsweredTo (λ bytes reply. AnswersRun blocks Fits run bytes reply) i made
+  pub run_too_long : IsReadPast i IMAGE_LIMIT → reply_of made ≡ (TooLong, too_long_line)
+      → AnsweredTo (λ bytes reply. AnswersRun blocks Fits run bytes reply) i made
   run_too_long past e =
       let long : IsLong i.left IMAGE_LIMIT = is_long i.left i.left_after IMAGE_LIMIT past in
       record {
@@ -85,43 +87,78 @@ module _ (blocks : List DataBlock) (Fits : Type 0) (run : Areas → End) (i : In
       }
 
   -- the reply to an image that is refused
-  pub run_refused : (bytes : List ℕ) (refusal : ImageRefusal) → IsReadWhole i bytes → length bytes ≤ IMAGE_LIMIT → ReadsAs (Err refusal) (image_of bytes blocks) → reply_of made ≡ image_reply refusal
+  pub run_refused : (bytes : List ℕ) (refusal : ImageRefusal) → IsReadWhole i bytes → length bytes ≤ IMAGE_LIMIT
+      → ReadsAs (Err refusal) (image_of bytes blocks) → reply_of made ≡ image_reply refusal
       → IsWritten made.status → AnsweredTo (λ bytes reply. AnswersRun blocks Fits run bytes reply) i made
   run_refused bytes (why.BadLine line) all within judged e w =
-      record { bytes = bytes; of_image = are_of i.left i.left_after bytes all; answers = subst (λ (r : Reply). AnswersRun blocks Fits run bytes r) (sym e) (bad_image within judged); written = w }
+      record {
+        bytes = bytes;
+        of_image = are_of i.left i.left_after bytes all;
+        answers = subst (λ (r : Reply). AnswersRun blocks Fits run bytes r) (sym e) (bad_image within judged);
+        written = w;
+      }
   run_refused bytes (why.BadByte line) all within judged e w =
-      record { bytes = bytes; of_image = are_of i.left i.left_after bytes all; answers = subst (λ (r : Reply). AnswersRun blocks Fits run bytes r) (sym e) (bad_image within judged); written = w }
+      record {
+        bytes = bytes;
+        of_image = are_of i.left i.left_after bytes all;
+        answers = subst (λ (r : Reply). AnswersRun blocks Fits run bytes r) (sym e) (bad_image within judged);
+        written = w;
+      }
   run_refused bytes (why.OutsideArea line) all within judged e w =
-      record { bytes = bytes; of_image = are_of i.left i.left_after bytes all; answers = subst (λ (r : Reply). AnswersRun blocks Fits run bytes r) (sym e) (bad_image within judged); written = w }
+      record {
+        bytes = bytes;
+        of_image = are_of i.left i.left_after bytes all;
+        answers = subst (λ (r : Reply). AnswersRun blocks Fits run bytes r) (sym e) (bad_image within judged);
+        written = w;
+      }
   run_refused bytes why.NoMemory all within judged e w = absurd (subst (λ (s : Status). IsWritten s) (ap (λ (r : Reply). r.0) e) w)
 
   -- the reply of a run from the memory of an image
-  pub run_from : (bytes : List ℕ) (memory : Contents) → IsReadWhole i bytes → length bytes ≤ IMAGE_LIMIT → image_of bytes blocks ≡ Ok memory → AnsweredCall Fits run memory.areas made
+  pub run_from : (bytes : List ℕ) (memory : Contents) → IsReadWhole i bytes → length bytes ≤ IMAGE_LIMIT
+      → image_of bytes blocks ≡ Ok memory → AnsweredCall Fits run memory.areas made
       → IsWritten made.status → AnsweredTo (λ bytes reply. AnswersRun blocks Fits run bytes reply) i made
   run_from bytes memory all within judged (inl (fits, e)) w =
-      record { bytes = bytes; of_image = are_of i.left i.left_after bytes all; answers = subst (λ (r : Reply). AnswersRun blocks Fits run bytes r) (sym e) (ran within judged fits); written = w }
+      record {
+        bytes = bytes;
+        of_image = are_of i.left i.left_after bytes all;
+        answers = subst (λ (r : Reply). AnswersRun blocks Fits run bytes r) (sym e) (ran within judged fits);
+        written = w;
+      }
   run_from bytes memory all within judged (inr (misfit, e)) w =
-      record { bytes = bytes; of_image = are_of i.left i.left_after bytes all; answers = subst (λ (r : Reply). AnswersRun blocks Fits run bytes r) (sym e) (bad_call within judged misfit); written = w }
+      record {
+        bytes = bytes;
+        of_image = are_of i.left i.left_after bytes all;
+        answers = subst (λ (r : Reply). AnswersRun blocks Fits run bytes r) (sym e) (bad_call within judged misfit);
+        written = w;
+      }
 
 -- the report of a run is that of its end, which an outcome and a memory show
-pub run_shown : (o : Outcome) (shown : End) (start areas : Areas) (made : Made) → Shows o shown areas → reply_of made ≡ (run_status o, report o areas) → reply_of made ≡ run_reply start shown
+pub run_shown : (o : Outcome) (shown : End) (start areas : Areas) (made : Made) → Shows o shown areas
+    → reply_of made ≡ (run_status o, report o areas) → reply_of made ≡ run_reply start shown
 run_shown (outcome.Ended f) shown start areas made s e = e ∙ sym (ap (run_reply start) s)
 run_shown outcome.Going shown start areas made s e = e ∙ sym (ap (run_reply start) s)
 
 -- and that of a run of STL, which its standing shows
-pub run_stood : (s : Standing) (start : Areas) (made : Made) → reply_of made ≡ (run_status (outcome_of s), report (outcome_of s) (memory_of s).areas) → reply_of made ≡ run_reply start (end_of s)
+pub run_stood : (s : Standing) (start : Areas) (made : Made)
+    → reply_of made ≡ (run_status (outcome_of s), report (outcome_of s) (memory_of s).areas) → reply_of made ≡ run_reply start (end_of s)
 run_stood (running program now) start made e = e
 run_stood (over memory f) start made e = e
 
 -- Work
 
 -- the reply of work that needs no image
-pub done_alone : {X : Type 0} (work : Work X) (To : X → Reply → Type 0) (x : X) (i : Input) (made : Made) (text : List ℕ) → work ≡ alone To → reply_of made ≡ (Done, text) → To x (Done, text)
+pub done_alone : {X : Type 0} (work : Work X) (To : X → Reply → Type 0) (x : X) (i : Input) (made : Made) (text : List ℕ)
+    → work ≡ alone To → reply_of made ≡ (Done, text) → To x (Done, text)
     → AnsweredTo (λ bytes reply. AnswersWork work bytes x reply) i made
 done_alone {X = X} work To x i made text e reply answers =
     let any : HasBytes i.left = some_bytes i.left in
     subst (λ (w : Work X). AnsweredTo (λ bytes r. AnswersWork w bytes x r) i made) (sym e)
-    (record { bytes = any.bytes; of_image = any.of_input; answers = subst (λ (r : Reply). To x r) (sym reply) answers; written = status_written made Done text reply tt })
+    (record {
+      bytes = any.bytes;
+      of_image = any.of_input;
+      answers = subst (λ (r : Reply). To x r) (sym reply) answers;
+      written = status_written made Done text reply tt;
+    })
 
 -- the data blocks of an accepted program are ones of a memory
 pub its_blocks : (program : Program) → IsAccepted program → AreBlocks program.dbs
@@ -141,12 +178,14 @@ translates program tree text proper same spelled =
 -- Sources
 
 -- what is answered to a source and the bytes of an image
-abbrev pub OfSource : {X : Type 0} → (List ℕ → X → Type 0) → (List ℕ → Line → Reason → Type 0) → (List ℕ → X → Reply → Type 0) → List ℕ → List ℕ → Reply → Type 0
+abbrev pub OfSource : {X : Type 0} → (List ℕ → X → Type 0) → (List ℕ → Line → Reason → Type 0)
+    → (List ℕ → X → Reply → Type 0) → List ℕ → List ℕ → Reply → Type 0
 OfSource Is Breaks To source bytes reply = AnswersSource Is Breaks (To bytes) source reply
 
 module _ {X : Type 0} (Is : List ℕ → X → Type 0) (Breaks : List ℕ → Line → Reason → Type 0) (To : List ℕ → X → Reply → Type 0) (program image : Input) where
   -- the reply to a source that is too long
-  pub source_long : (made : Made) → IsReadPast program INPUT_LIMIT → reply_of made ≡ (TooLong, too_long_line) → Answered (OfSource Is Breaks To) program image made
+  pub source_long : (made : Made) → IsReadPast program INPUT_LIMIT
+      → reply_of made ≡ (TooLong, too_long_line) → Answered (OfSource Is Breaks To) program image made
   source_long made past e =
       let long : IsLong program.left INPUT_LIMIT = is_long program.left program.left_after INPUT_LIMIT past in
       let any : HasBytes image.left = some_bytes image.left in
@@ -160,7 +199,8 @@ module _ {X : Type 0} (Is : List ℕ → X → Type 0) (Breaks : List ℕ → Li
       }
 
   -- the reply to a source that is refused
-  pub source_refused : (bytes : List ℕ) (line : Line) (reason : Reason) (made : Made) → IsReadWhole program bytes → length bytes ≤ INPUT_LIMIT → Breaks bytes line reason
+  pub source_refused : (bytes : List ℕ) (line : Line) (reason : Reason) (made : Made)
+      → IsReadWhole program bytes → length bytes ≤ INPUT_LIMIT → Breaks bytes line reason
       → reply_of made ≡ (Refused, refusal_line line reason) → Answered (OfSource Is Breaks To) program image made
   source_refused bytes line reason made all within judged e =
       let any : HasBytes image.left = some_bytes image.left in
@@ -201,5 +241,6 @@ usage_reply program image made e =
       written = status_written made Usage usage_line e tt;
     }
 
-pub usage_asked : (m : Option Command) (program image : Input) (made : Made) → m ≡ None → reply_of made ≡ (Usage, usage_line) → Answered (Answers m) program image made
+pub usage_asked : (m : Option Command) (program image : Input) (made : Made) → m ≡ None
+    → reply_of made ≡ (Usage, usage_line) → Answered (Answers m) program image made
 usage_asked m program image made none e = subst (λ (k : Option Command). Answered (Answers k) program image made) (sym none) (usage_reply program image made e)

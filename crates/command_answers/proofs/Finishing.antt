@@ -37,7 +37,8 @@ module _ (command : Option Command) (source image : List ℕ) (out : Output) (re
   sends result w (inr h) = subst (λ (s : Status). Sends command source image out s) (sym h.0) (reply, answers, h.1)
 
 -- what was written is the answer
-pub written : (command : Option Command) (devices : Devices) (made : Made) (result : Status) (bytes : List ℕ) → Answered (Answers command) devices.program devices.image made
+pub written : (command : Option Command) (devices : Devices) (made : Made) (result : Status) (bytes : List ℕ)
+    → Answered (Answers command) devices.program devices.image made
     → bytes ≡ bytes_of_text made.text → Ends devices.out.taken devices.out.taken_after made.status bytes result → Writes command result devices
 written command devices made result bytes a same ends =
     let text : Ends devices.out.taken devices.out.taken_after made.status (bytes_of_text made.text) result =
@@ -76,7 +77,8 @@ told None bytes source are e = cc
 told (Some x) bytes source are e = cc
 
 -- an answer to a source and to an image that is read only where it is wanted is one to what it would be
-retold_source : {X : Type 0} (Is : List ℕ → X → Type 0) (Breaks : List ℕ → Line → Reason → Type 0) (To : List ℕ → X → Reply → Type 0) (source a image : List ℕ) (reply : Reply)
+retold_source : {X : Type 0} (Is : List ℕ → X → Type 0) (Breaks : List ℕ → Line → Reason → Type 0)
+    (To : List ℕ → X → Reply → Type 0) (source a image : List ℕ) (reply : Reply)
     → (IsRead Is source → a ≡ image) → AnswersSource Is Breaks (To a) source reply → AnswersSource Is Breaks (To image) source reply
 retold_source Is Breaks To source a image reply same (source_too_long long) = source_too_long long
 retold_source Is Breaks To source a image reply same (refused within breaks) = refused within breaks
@@ -84,18 +86,22 @@ retold_source Is Breaks To source a image reply same (read {x = x} {reply = r} w
     read within is (subst (λ (t : List ℕ). To t x r) (same (record { within = within; it = x; is = is })) answers)
 
 retold_work : {X : Type 0} (Is : List ℕ → X → Type 0) (Breaks : List ℕ → Line → Reason → Type 0) (work : Work X) (source a image : List ℕ) (reply : Reply)
-    → (IsOnImage work × IsRead Is source → a ≡ image) → AnswersSource Is Breaks (AnswersWork work a) source reply → AnswersSource Is Breaks (AnswersWork work image) source reply
+    → (IsOnImage work × IsRead Is source → a ≡ image) → AnswersSource Is Breaks (AnswersWork work a) source reply
+    → AnswersSource Is Breaks (AnswersWork work image) source reply
 retold_work Is Breaks (alone To) source a image reply same answers = answers
 retold_work Is Breaks (on_image To) source a image reply same answers = retold_source Is Breaks To source a image reply (λ is. same (tt, is)) answers
 
-retold_row : (r : Row) (source a image : List ℕ) (reply : Reply) → (WantsRow r source → a ≡ image) → AnswersRow r source a reply → AnswersRow r source image reply
+retold_row : (r : Row) (source a image : List ℕ) (reply : Reply) → (WantsRow r source → a ≡ image)
+    → AnswersRow r source a reply → AnswersRow r source image reply
 retold_row (stl work) source a image reply same answers = retold_work IsAcceptedAs IsRefusedSource work source a image reply same answers
 retold_row (st work) source a image reply same answers = retold_work IsTextOf IsRefusedText work source a image reply same answers
 
-retold : (command : Option Command) (left : Option (List ℕ)) (source a image : List ℕ) (reply : Reply) → AreOf left a → (Wants command source → left ≡ Some image)
+retold : (command : Option Command) (left : Option (List ℕ)) (source a image : List ℕ) (reply : Reply)
+    → AreOf left a → (Wants command source → left ≡ Some image)
     → Answers command source a reply → Answers command source image reply
 retold None left source a image reply are is answers = answers
-retold (Some command) left source a image reply are is answers = retold_row (row command) source a image reply (λ wanted. told left a image are (is wanted)) answers
+retold (Some command) left source a image reply are is answers =
+    retold_row (row command) source a image reply (λ wanted. told left a image are (is wanted)) answers
 
 -- the answer that was sent
 sent : (command : Option Command) (source image : List ℕ) (out : Output) (result : Status) → Sends command source image out result
@@ -112,13 +118,15 @@ sent command source image out WriteFault s r f = absurd (f refl)
 sent command source image out TooLong s r f = inl (s.0, s.1, sym s.2)
 sent command source image out NoMemory s r f = inr refl
 
-of_told : (command : Option Command) (left : Option (List ℕ)) (source a image : List ℕ) (result : Status) → AreOf left a → (Wants command source → left ≡ Some image)
+of_told : (command : Option Command) (left : Option (List ℕ)) (source a image : List ℕ) (result : Status)
+    → AreOf left a → (Wants command source → left ≡ Some image)
     → IsAnswered command source a result ⊎ (result ≡ NoMemory) → IsAnswered command source image result ⊎ (result ≡ NoMemory)
 of_told command left source a image result are is (inl (reply, answers, e)) = inl (reply, retold command left source a image reply are is answers, e)
 of_told command left source a image result are is (inr none) = inr none
 
 -- no read failed that the command is told of
-not_failed : (command : Option Command) (program image : Input) (source : List ℕ) → program.left ≡ Some source → ¬ ReadFailed program → (Wants command source → ¬ ReadFailed image)
+not_failed : (command : Option Command) (program image : Input) (source : List ℕ)
+    → program.left ≡ Some source → ¬ ReadFailed program → (Wants command source → ¬ ReadFailed image)
     → FailedToRead command program image → ⊥
 not_failed None program image source e p i failed = failed
 not_failed (Some command) program image source e p i (inl rose) = p rose
@@ -126,7 +134,8 @@ not_failed (Some command) program image source e p i (inr (bytes, are, wants, ro
     i (subst (λ (s : List ℕ). Wants (Some command) s) (told program.left bytes source are e) wants) rose
 
 -- completeness follows from what is written and from the causes of faults
-pub complete : (command : Option Command) (result : Status) (devices : Devices) → Writes command result devices → HasCause command result devices → Completes command result devices
+pub complete : (command : Option Command) (result : Status) (devices : Devices)
+    → Writes command result devices → HasCause command result devices → Completes command result devices
 complete command result devices w cause source image e is p i k =
     let same : w.source ≡ source = told devices.program.left w.source source w.of_source e in
     of_told command devices.image.left source w.image image result w.of_image is

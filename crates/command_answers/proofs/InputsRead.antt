@@ -24,10 +24,14 @@ use Rattle.command_answers.specs.inner.Replies.{Ends, IsWritten, ReadsImage, Rea
 -- Sources that want no image
 
 -- a source that is refused wants none
-pub refused_wants_none : (work : Work Program) (source : List ℕ) (line : Line) (reason : Reason) → IsRefusedSource source line reason → ¬ WantsRow (stl work) source
-refused_wants_none work source line reason refused wanted = let clash : Ok wanted.1.it ≡ Err (rejection.Refused line reason) = sym wanted.1.is ∙ refused in absurd cc
+pub refused_wants_none : (work : Work Program) (source : List ℕ) (line : Line) (reason : Reason)
+    → IsRefusedSource source line reason → ¬ WantsRow (stl work) source
+refused_wants_none work source line reason refused wanted =
+    let clash : Ok wanted.1.it ≡ Err (rejection.Refused line reason) = sym wanted.1.is ∙ refused in
+    absurd cc
 
-pub refused_text_wants_none : (work : Work StProgram) (source : List ℕ) (line : Line) (reason : Reason) → IsRefusedText source line reason → ¬ WantsRow (st work) source
+pub refused_text_wants_none : (work : Work StProgram) (source : List ℕ) (line : Line) (reason : Reason)
+    → IsRefusedText source line reason → ¬ WantsRow (st work) source
 refused_text_wants_none work source line reason refused wanted = not_both source wanted.1.it line reason wanted.1.is refused
 
 -- Sources that are accepted or read
@@ -45,14 +49,17 @@ module _ (Wanted : List ℕ → Type 0) (program image : Input) (source : List �
   unwanted none within (untouched, inr e) = source_failed (subst (λ (s : Status). Stopped program s) (sym e) tt) within untouched
 
 -- what is read for work, where its source is read
-pub work_reads : {X : Type 0} (Is : List ℕ → X → Type 0) (work : Work X) (program image : Input) (source : List ℕ) (x : X) (status : Status) → IsReadWhole program source
+pub work_reads : {X : Type 0} (Is : List ℕ → X → Type 0) (work : Work X) (program image : Input) (source : List ℕ) (x : X) (status : Status)
+    → IsReadWhole program source
     → length source ≤ INPUT_LIMIT → IsReadWithin program INPUT_LIMIT → Is source x → ReadsWork work image status
     → ReadsFor (λ (text : List ℕ). IsOnImage work × IsRead Is text) program image status
 work_reads Is (alone To) program image source x status all within most is r = unwanted _ program image source all status (λ wants. wants.0) most r
-work_reads Is (on_image To) program image source x status all within most is r = wanted _ program image source all status (tt, record { within = within; it = x; is = is }) r
+work_reads Is (on_image To) program image source x status all within most is r =
+    wanted _ program image source all status (tt, record { within = within; it = x; is = is }) r
 
 -- and for work on an image
-pub image_reads : {X : Type 0} (work : Work X) (To : List ℕ → X → Reply → Type 0) (image : Input) (status : Status) → work ≡ on_image To → ReadsImage image status → ReadsWork work image status
+pub image_reads : {X : Type 0} (work : Work X) (To : List ℕ → X → Reply → Type 0) (image : Input) (status : Status)
+    → work ≡ on_image To → ReadsImage image status → ReadsWork work image status
 image_reads {X = X} work To image status e r = subst (λ (w : Work X). ReadsWork w image status) (sym e) r
 
 -- the command that is asked for
@@ -63,7 +70,8 @@ reads_asked m command t program image status e same reads =
     subst (λ (k : Option Command). ReadsInputs k program image status) (sym e) (subst (λ (r : Row). ReadsFor (WantsRow r) program image status) row_is reads)
 
 -- a source that is refused is read alone
-pub refused_alone : (Wanted : List ℕ → Type 0) (program image : Input) (source : List ℕ) (made : Made) (text : List ℕ) → reply_of made ≡ (Refused, text) → IsReadWhole program source
+pub refused_alone : (Wanted : List ℕ → Type 0) (program image : Input) (source : List ℕ) (made : Made) (text : List ℕ)
+    → reply_of made ≡ (Refused, text) → IsReadWhole program source
     → ¬ Wanted source → IsUntouched image → ReadsFor Wanted program image made.status
 refused_alone Wanted program image source made text e all none untouched =
     source_alone source (subst (λ (s : Status). SaysRead s) (sym (ap (λ (r : Reply). r.0) e)) tt) all none untouched
@@ -87,7 +95,8 @@ not_stopped i WriteFault w s = w
 not_stopped i TooLong w s = s
 not_stopped i NoMemory w s = w
 
-written_read : (program image : Input) (Wanted : List ℕ → Type 0) (status : Status) → IsWritten status → ReadsFor Wanted program image status → ReadsFor Wanted program image WriteFault
+written_read : (program image : Input) (Wanted : List ℕ → Type 0) (status : Status) → IsWritten status
+    → ReadsFor Wanted program image status → ReadsFor Wanted program image WriteFault
 written_read program image Wanted status w (source_failed s within untouched) = absurd (not_stopped program status w s)
 written_read program image Wanted status w (source_long s past untouched) = source_long (inr refl) past untouched
 written_read program image Wanted status w (source_alone source s all none untouched) = source_alone source tt all none untouched
@@ -95,7 +104,8 @@ written_read program image Wanted status w (image_failed source s all wants with
 written_read program image Wanted status w (image_long source s all wants past) = image_long source (inr refl) all wants past
 written_read program image Wanted status w (both source text s all wants all_of) = both source text tt all wants all_of
 
-at_write_fault : (command : Option Command) (program image : Input) (status : Status) → IsWritten status → ReadsInputs command program image status → ReadsInputs command program image WriteFault
+at_write_fault : (command : Option Command) (program image : Input) (status : Status) → IsWritten status
+    → ReadsInputs command program image status → ReadsInputs command program image WriteFault
 at_write_fault None program image status w r = (r.0, r.1, λ e. cc)
 at_write_fault (Some command) program image status w r = written_read program image (Wants (Some command)) status w r
 
@@ -103,7 +113,8 @@ at_write_fault (Some command) program image status w r = written_read program im
 pub inputs_read : (command : Option Command) (program image : Input) (before after : Option (List ℕ)) (status result : Status) (text : List ℕ) →
     IsWritten status → Ends before after status text result → ReadsInputs command program image status → ReadsInputs command program image result
 inputs_read command program image before after status result text w (inl h) r = subst (λ (s : Status). ReadsInputs command program image s) (sym h.0) r
-inputs_read command program image before after status result text w (inr h) r = subst (λ (s : Status). ReadsInputs command program image s) (sym h.0) (at_write_fault command program image status w r)
+inputs_read command program image before after status result text w (inr h) r =
+    subst (λ (s : Status). ReadsInputs command program image s) (sym h.0) (at_write_fault command program image status w r)
 
 -- Causes
 
@@ -120,6 +131,8 @@ failed_for command program image (image_long source s all wants past) = absurd (
 failed_for command program image (both source text s all wants all_of) = absurd s
 
 -- where the status is ReadFault a read failed
-pub read_cause : (command : Option Command) (program image : Input) (status : Status) → ReadsInputs command program image status → status ≡ ReadFault → FailedToRead command program image
+pub read_cause : (command : Option Command) (program image : Input) (status : Status)
+    → ReadsInputs command program image status → status ≡ ReadFault → FailedToRead command program image
 read_cause None program image status r e = absurd (r.2 e)
-read_cause (Some command) program image status r e = failed_for command program image (subst (λ (s : Status). ReadsFor (Wants (Some command)) program image s) e r)
+read_cause (Some command) program image status r e =
+    failed_for command program image (subst (λ (s : Status). ReadsFor (Wants (Some command)) program image s) e r)

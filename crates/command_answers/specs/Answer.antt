@@ -1,4 +1,6 @@
--- What the program answers: its exit status and the text that it writes.
+-- What the program answers. It is an exit status and the text that is written, by the command, the source and the
+-- image.
+-- Held against: this project's own commands.
 use Rattle.std.specs.Prelude.{◌≡◌, ℕ, ◌<◌, ◌≤◌, List, [], ◌++◌, length, Option, Some, None, Ok, Err, codes, decimal}
 use Rattle.image_text.specs.Image.{image_of}
 use Rattle.image_text.specs.Report.{report}
@@ -31,50 +33,51 @@ use Rattle.command_answers.specs.declared.status.Status.TheVariants.{Done, Refus
 
 -- Lines
 
--- the line for arguments that are no command
+-- the answer to arguments that are no command
 abbrev pub usage_line : List ℕ
 usage_line = codes "usage: stl2st translate | check | run-stl STEPS CALL IMAGE | run-st UNITS CALL IMAGE | demo N\n"
 
--- the line that an input above its limit gets
+-- the answer where an input is above its limit
 abbrev pub too_long_line : List ℕ
 too_long_line = codes "too long\n"
 
--- the line that a source without a broken rule gets
+-- the answer of `check` where no rule is broken
 abbrev pub accepted_line : List ℕ
 accepted_line = codes "accepted\n"
 
--- the line that a call which does not fit gets
+-- the answer to a call that does not fit
 abbrev pub bad_call_line : List ℕ
 bad_call_line = codes "bad call\n"
 
--- the line that names a broken rule
+-- the answer that names a broken rule
 abbrev pub refusal_line : Line → Reason → List ℕ
 refusal_line line reason = codes "line " ++ decimal line.0 ++ codes ": " ++ reason_text reason ++ codes "\n"
 
--- the line that names a faulty line of an image
+-- the answer that names a faulty line of an image
 abbrev pub image_line : Line → List ℕ → List ℕ
 image_line line name = codes "image line " ++ decimal line.0 ++ codes ": " ++ name ++ codes "\n"
 
 -- Replies
 
--- a status and the text that goes with it
+-- the answer of a command: a status and a text
 abbrev pub Reply : Type 0
 Reply = Status × List ℕ
 
--- an image that is refused
+-- the answer to an image that is refused
 abbrev pub image_reply : ImageRefusal → Reply
 image_reply (image.BadLine line) = (BadImage, image_line line (codes "BadLine"))
 image_reply (image.BadByte line) = (BadImage, image_line line (codes "BadByte"))
 image_reply (image.OutsideArea line) = (BadImage, image_line line (codes "OutsideArea"))
 image_reply image.NoMemory = (NoMemory, [])
 
--- the status of a run
+-- the status of a run by its outcome
 abbrev pub run_status : Outcome → Status
 run_status (outcome.Ended None) = Done
 run_status (outcome.Ended (Some f)) = Faulted
 run_status outcome.Going = Going
 
--- a run within its bound: its report; one that goes on shows no memory, so the one at its start will do
+-- the answer of a run within its bound: its report. The report of a run that goes on shows no memory, so it is made
+-- with the memory at the start
 abbrev pub run_reply : Areas → End → Reply
 run_reply start (Ended areas f) = (run_status (outcome.Ended f), report (outcome.Ended f) areas)
 run_reply start Unended = (run_status outcome.Going, report outcome.Going start)
@@ -89,8 +92,8 @@ IsAcceptedAs source program = verdict source ≡ Ok program
 abbrev pub IsRefusedSource : List ℕ → Line → Reason → Type 0
 IsRefusedSource source line reason = verdict source ≡ Err (rejection.Refused line reason)
 
--- what is answered to a source of a language, where `Is` says what it is read as, `Breaks` its first broken
--- rule, and `To` what is answered to what was read
+-- the answer to a source of a language. `Is` says what the source is read as, `Breaks` what its first broken rule is,
+-- and `To` what is answered to what was read
 pub data AnswersSource {X : Type 0} (Is : List ℕ → X → Type 0) (Breaks : List ℕ → Line → Reason → Type 0)
     (To : X → Reply → Type 0) (source : List ℕ) : Reply → Type 0 where
   source_too_long : INPUT_LIMIT < length source → AnswersSource Is Breaks To source (TooLong, too_long_line)
@@ -99,18 +102,18 @@ pub data AnswersSource {X : Type 0} (Is : List ℕ → X → Type 0) (Breaks : L
   read : {x : X} {reply : Reply} → length source ≤ INPUT_LIMIT → Is source x → To x reply
       → AnswersSource Is Breaks To source reply
 
--- what is answered to an STL source, by what is answered to its program
+-- the answer to an STL source, where `To` says the answer to its program
 abbrev pub AnswersStl : (Program → Reply → Type 0) → List ℕ → Reply → Type 0
 AnswersStl To source reply = AnswersSource IsAcceptedAs IsRefusedSource To source reply
 
--- what is answered to a Structured Text, by what is answered to its tree
+-- the answer to a Structured Text, where `To` says the answer to its tree
 abbrev pub AnswersSt : (StProgram → Reply → Type 0) → List ℕ → Reply → Type 0
 AnswersSt To source reply = AnswersSource IsTextOf IsRefusedText To source reply
 
 -- Programs and trees
 
--- the text means what the program means: it is the canonical spelling of a proper tree, which it reads back
--- as, and which means the same as the program
+-- the text means what the program means: it is the canonical spelling of a proper tree, it reads as this tree, and
+-- the tree means the same as the program
 pub record Translates (program : Program) (text : List ℕ) : Type 0 where
   pub tree : StProgram
   pub proper : Proper tree
@@ -118,16 +121,16 @@ pub record Translates (program : Program) (text : List ℕ) : Type 0 where
   pub reads_back : IsTextOf text tree
   pub same : Same program tree
 
--- what `translate` answers to a program: some text that means what the program means
+-- the answer of `translate` to a program: a text that means what the program means
 abbrev pub AnswersTranslate : Program → Reply → Type 0
 AnswersTranslate program reply = (reply.0 ≡ Done) × Translates program reply.1
 
--- what `check` answers to a program
+-- the answer of `check` to a program
 abbrev pub AnswersCheck : Program → Reply → Type 0
 AnswersCheck program reply = reply ≡ (Done, accepted_line)
 
--- what a run answers to the text of an image: the image begins with these data blocks, the call fits or it
--- does not, and from a memory the run ends so
+-- the answer of a run to the text of an image, which begins with these data blocks: the image is too long or refused,
+-- the call does not fit, or the run from the memory of the image has its report
 pub data AnswersRun (blocks : List DataBlock) (Fits : Type 0) (run : Areas → End) (image : List ℕ)
     : Reply → Type 0 where
   image_too_long : IMAGE_LIMIT < length image → AnswersRun blocks Fits run image (TooLong, too_long_line)
@@ -138,68 +141,68 @@ pub data AnswersRun (blocks : List DataBlock) (Fits : Type 0) (run : Areas → E
   ran : {memory : Contents} → length image ≤ IMAGE_LIMIT → image_of image blocks ≡ Ok memory → Fits
       → AnswersRun blocks Fits run image (run_reply memory.areas (run memory.areas))
 
--- what `run-stl` answers to a program
+-- the answer of `run-stl` to a program
 abbrev pub AnswersRunStl : ℕ → Call → List ℕ → Program → Reply → Type 0
 AnswersRunStl steps call image program reply =
     AnswersRun program.dbs (Fits program call) (λ memory. stl_run program call memory steps) image reply
 
--- what `run-st` answers to a tree
+-- the answer of `run-st` to a tree
 abbrev pub AnswersRunSt : ℕ → Call → List ℕ → StProgram → Reply → Type 0
 AnswersRunSt units call image tree reply =
     AnswersRun tree.dbs (FitsSt tree call) (λ memory. st_run tree call memory units) image reply
 
 -- Commands
 
--- what is answered to what a source is read as: to it alone, or to it and the bytes of an image
+-- how a command works on a program or a tree: on it alone, or on it and the bytes of an image
 pub data Work (X : Type 0) : Type 1 where
   alone : (X → Reply → Type 0) → Work X
   on_image : (List ℕ → X → Reply → Type 0) → Work X
 
--- the language of a source, STL or Structured Text, and what is answered to what it is read as
+-- a line of the table of commands: the language of the source, and the work on what it is read as
 pub data Row : Type 1 where
   stl : Work Program → Row
   st : Work StProgram → Row
 
--- THE COMMANDS: what each reads, and what it answers to what it read
+-- THE TABLE OF COMMANDS: what each reads, and what it answers to that
 abbrev pub row : Command → Row
 row Translate = stl (alone AnswersTranslate)
 row Check = stl (alone AnswersCheck)
 row (RunStl steps call) = stl (on_image (AnswersRunStl steps call))
 row (RunSt units call) = st (on_image (AnswersRunSt units call))
 
--- what is answered to what was read
+-- the answer of a command's work to the bytes of an image and to what was read
 abbrev pub AnswersWork : {X : Type 0} → Work X → List ℕ → X → Reply → Type 0
 AnswersWork (alone To) image x reply = To x reply
 AnswersWork (on_image To) image x reply = To image x reply
 
--- what is answered to a source, in the language of the row
+-- the answer by a line of the table of commands to the bytes of a source and of an image
 abbrev pub AnswersRow : Row → List ℕ → List ℕ → Reply → Type 0
 AnswersRow (stl work) source image reply = AnswersStl (AnswersWork work image) source reply
 AnswersRow (st work) source image reply = AnswersSt (AnswersWork work image) source reply
 
--- the status and the text to write are an answer to a command, the bytes of the source and those of the
--- image
+-- the status and the text are an answer to a command, the bytes of the source and those of the image
 abbrev pub Answers : Option Command → List ℕ → List ℕ → Reply → Type 0
 Answers None source image reply = reply ≡ (Usage, usage_line)
 Answers (Some command) source image reply = AnswersRow (row command) source image reply
 
--- a source of a language is within the limit and read
+-- a source of a language is within the limit and can be read
 pub record IsRead {X : Type 0} (Is : List ℕ → X → Type 0) (source : List ℕ) : Type 0 where
   pub within : length source ≤ INPUT_LIMIT
   pub it : X
   pub is : Is source it
 
--- an image is needed
+-- the work of a command needs an image
 abbrev pub IsOnImage : {X : Type 0} → Work X → Type 0
 IsOnImage (alone To) = ⊥
 IsOnImage (on_image To) = Unit {0}
 
--- the image is wanted in a row: one is needed, and the source is within the limit and accepted or read
+-- the image is read by a line of the table of commands: its work needs one, and the source is within the limit and
+-- accepted or read
 abbrev pub WantsRow : Row → List ℕ → Type 0
 WantsRow (stl work) source = IsOnImage work × IsRead IsAcceptedAs source
 WantsRow (st work) source = IsOnImage work × IsRead IsTextOf source
 
--- the image is wanted: the command has one, and its source is within the limit and accepted or read
+-- the image is read: the command needs one, and its source is within the limit and accepted or read
 abbrev pub Wants : Option Command → List ℕ → Type 0
 Wants None source = ⊥
 Wants (Some command) source = WantsRow (row command) source

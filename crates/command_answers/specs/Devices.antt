@@ -1,4 +1,5 @@
--- What the inputs and the output of a call tell and count, before and after it.
+-- Inputs and output of a call. What they tell and count before the call and after it.
+-- Held against: this project's own streams.
 use Rattle.std.specs.Prelude.{◌≡◌, ℕ, ◌≤◌, List, Option, None, Some}
 use Rattle.s7_io.specs.Faults.{Rose}
 use Rattle.s7_io.specs.declared.sink.Sink as sink
@@ -24,7 +25,7 @@ pub record Devices : Type 0 where
   pub image : Input
   pub out : Output
 
--- an input by its object before and after the call
+-- an input as its object is before and after the call
 abbrev pub input : {S : Type 0} → source.Ghosts S → S → S → Input
 input s before after =
     record {
@@ -34,7 +35,7 @@ input s before after =
       faults_after = s.faults after;
     }
 
--- an output by its object before and after the call
+-- an output as its object is before and after the call
 abbrev pub output : {S : Type 0} → sink.Ghosts S → S → S → Output
 output s before after =
     record {
@@ -44,7 +45,7 @@ output s before after =
       faults_after = s.faults after;
     }
 
--- the devices by their objects, first those before the call, then those after it
+-- the devices as their objects are, first before the call, then after it
 abbrev pub devices : {P M K : Type 0} → source.Ghosts P → source.Ghosts M → sink.Ghosts K
     → P → M → K → P → M → K → Devices
 devices p m k program image out program_after image_after out_after =

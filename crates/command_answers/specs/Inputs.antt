@@ -1,4 +1,6 @@
--- How far the program reads its inputs.
+-- How far inputs are read. It depends on the command, the exit status and the limits; the image is read only where it
+-- is wanted.
+-- Held against: this project's own commands.
 use Rattle.std.specs.Prelude.{◌≡◌, ◌≢◌, ℕ, ◌+◌, ◌⊎◌, List, Option, Some, None}
 use Rattle.s7_io.specs.Source.{GaveAll, GaveExactly, GaveAtMost}
 use Rattle.command_answers.specs.Answer.{Wants}
@@ -10,20 +12,20 @@ use Rattle.command_answers.specs.declared.status.Status.TheVariants.{ReadFault, 
 
 -- One input
 
--- it was not read
+-- an input was not read
 pub record IsUntouched (input : Input) : Type 0 where
   pub left : input.left_after ≡ input.left
   pub faults : input.faults_after ≡ input.faults
 
--- it was read to its end, and these are its bytes
+-- an input was read to its end, and these are its bytes
 abbrev pub IsReadWhole : Input → List ℕ → Type 0
 IsReadWhole input bytes = GaveAll input.left input.left_after bytes
 
--- it was read to the byte past its limit
+-- an input was read to the byte past its limit
 abbrev pub IsReadPast : Input → ℕ → Type 0
 IsReadPast input limit = GaveExactly input.left input.left_after (limit + 1)
 
--- it was read at most to its limit
+-- an input was read at most to its limit
 abbrev pub IsReadWithin : Input → ℕ → Type 0
 IsReadWithin input limit = GaveAtMost input.left input.left_after limit
 
@@ -35,7 +37,7 @@ Stopped input ReadFault = ReadFailed input
 Stopped input NoMemory = Unit {0}
 Stopped input status = ⊥
 
--- an input is too long, or that was being written when writing failed
+-- the status where an input is too long; or writing failed, which may have been of that answer
 abbrev pub SaysTooLong : Status → Type 0
 SaysTooLong status = (status ≡ TooLong) ⊎ (status ≡ WriteFault)
 
@@ -48,8 +50,8 @@ SaysRead status = Unit {0}
 
 -- Both inputs
 
--- how far they were read, where `Wanted` says of which sources the image is wanted: the source first, and
--- the image only where it is wanted
+-- how far the inputs were read, where `Wanted` says of which sources the image is read: the source first, and the
+-- image only where it is read
 pub data ReadsFor (Wanted : List ℕ → Type 0) (program image : Input) (status : Status) : Type 0 where
   source_failed : Stopped program status → IsReadWithin program INPUT_LIMIT → IsUntouched image
       → ReadsFor Wanted program image status
@@ -64,7 +66,7 @@ pub data ReadsFor (Wanted : List ℕ → Type 0) (program image : Input) (status
   both : (source text : List ℕ) → SaysRead status → IsReadWhole program source
       → Wanted source → IsReadWhole image text → ReadsFor Wanted program image status
 
--- how far they were read; without a command neither is
+-- how far the inputs were read; without a command neither is
 abbrev pub ReadsInputs : Option Command → Input → Input → Status → Type 0
 ReadsInputs None program image status = IsUntouched program × IsUntouched image × (status ≢ ReadFault)
 ReadsInputs (Some command) program image status = ReadsFor (Wants (Some command)) program image status

@@ -1,4 +1,6 @@
--- What the call of the program promises of each status.
+-- What each exit status promises. What the sink took, that a translation means what the source means, and that a
+-- fault is named only where one happened.
+-- Held against: this project's own claim.
 use Rattle.std.specs.Prelude.{◌≡◌, ℕ, ◌⊎◌, List, Option, None, Some}
 use Rattle.s7_io.specs.Sink.{Took, TookFewer}
 use Rattle.stl_tree.specs.declared.program.Program.{Program}
@@ -11,7 +13,7 @@ use Rattle.command_answers.specs.declared.status.Status.TheVariants.{Done, ReadF
 
 -- What is written
 
--- what the sink took, by the status: the text of an answer; a proper front of it where writing failed;
+-- the bytes that the sink took, by the status: the text of an answer; a proper prefix of it where writing failed;
 -- nothing where reading failed or memory ran out
 abbrev pub Sends : Option Command → List ℕ → List ℕ → Output → Status → Type 0
 Sends command source image out ReadFault = out.taken_after ≡ out.taken
@@ -22,7 +24,7 @@ Sends command source image out status =
     (reply : Reply) × Answers command source image reply × (reply.0 ≡ status)
     × Took out.taken out.taken_after reply.1
 
--- what the sink took is an answer to the command, the bytes of the source and those of the image
+-- the bytes that the sink took are an answer to the command, the bytes of the source and those of the image
 pub record Writes (command : Option Command) (status : Status) (devices : Devices) : Type 0 where
   pub source : List ℕ
   pub of_source : AreOf devices.program.left source
@@ -30,7 +32,7 @@ pub record Writes (command : Option Command) (status : Status) (devices : Device
   pub of_image : AreOf devices.image.left image
   pub sends : Sends command source image devices.out status
 
--- What follows from it
+-- What follows from this
 
 -- the sink took a text that means what the source means
 pub record IsTranslated (devices : Devices) : Type 0 where
@@ -51,8 +53,8 @@ abbrev pub IsAnswered : Option Command → List ℕ → List ℕ → Status → 
 IsAnswered command source image status =
     (reply : Reply) × Answers command source image reply × (status ≡ reply.0)
 
--- told inputs get an answer, where no read and no write fails and memory is found; an image that is not
--- wanted may be anything
+-- a call whose devices tell their bytes gives an answer, where no read and no write fails and memory is found; an
+-- image that is not read may be anything
 abbrev pub Completes : Option Command → Status → Devices → Type 0
 Completes command status devices =
     (source image : List ℕ) → devices.program.left ≡ Some source
@@ -63,7 +65,7 @@ Completes command status devices =
 
 -- Causes
 
--- a read failed: of the source of a command, or of an image that is wanted
+-- a read failed: of the source of a command, or of an image that the command reads
 abbrev pub FailedToRead : Option Command → Input → Input → Type 0
 FailedToRead None program image = ⊥
 FailedToRead (Some command) program image =

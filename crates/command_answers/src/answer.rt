@@ -3,7 +3,7 @@
 //! `writes` is the theorem: for `translate` it says that the written text means what the source means.
 //! What the other clauses say of the text, `translated` and `complete`, follows from it.
 ghost use Rattle.std.specs.Prelude.{◌≡◌, ◌⊎◌, ◌≤◌};
-ghost use Rattle.command_words.specs.Command.{asked};
+ghost use Rattle.command_words.specs.Command.{command_of_words};
 ghost use Rattle.command_answers.specs.Devices.{NoCountFell, WriteFailed, devices, output};
 ghost use Rattle.command_answers.specs.Inputs.{Reads};
 ghost use Rattle.command_answers.specs.Promises.{Completes, HasCause, Translated, Writes};
@@ -39,23 +39,23 @@ pub fn stl2st<P: Source, M: Source, K: Sink>(
 ) -> Status
     // THE THEOREM. By the status, what the sink took is an answer to the arguments, the source and the
     // image; for `translate` it is a text that means what the source means.
-    ensures writes { Writes (asked words.now) result
+    ensures writes { Writes (command_of_words words.now) result
         (devices P.Source M.Source K.Sink program.old image.old out.old program.new image.new out.new) }
 
     // Where `translate` is done, the written text means what the source means.
-    ensures translated { Translated (asked words.now) result
+    ensures translated { Translated (command_of_words words.now) result
         (devices P.Source M.Source K.Sink program.old image.old out.old program.new image.new out.new) }
 
     // Told inputs get an answer, where no read and no write fails and memory is found.
-    ensures complete { Completes (asked words.now) result
+    ensures complete { Completes (command_of_words words.now) result
         (devices P.Source M.Source K.Sink program.old image.old out.old program.new image.new out.new) }
 
     // The inputs are read as far as they are needed.
-    ensures reads { Reads (asked words.now) result
+    ensures reads { Reads (command_of_words words.now) result
         (devices P.Source M.Source K.Sink program.old image.old out.old program.new image.new out.new) }
 
     // Each fault that is answered is one of a device.
-    ensures cause { HasCause (asked words.now) result
+    ensures cause { HasCause (command_of_words words.now) result
         (devices P.Source M.Source K.Sink program.old image.old out.old program.new image.new out.new) }
 
     // No count of faults falls.

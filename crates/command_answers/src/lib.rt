@@ -1,10 +1,10 @@
 //! What the program answers: the call `stl2st`, with the promises of the program as its clauses.
 //!
-//! `answer` has the call; the program makes it once, and nothing else of what it does has a promise. Below
-//! it `reply` makes the answer of a command, which `command_words` reads from the arguments. `stl_checks`
-//! judges a source text, `stl_translate` turns its program into a tree, which `st_printer` writes.
-//! `st_parser` and `st_runner` read and run Structured Text, `stl_machine` runs STL, and `image_text` has
-//! the images and reports of runs.
+//! `answer` has the call; the program makes it once, and nothing else that it does has a promise. `reply`
+//! makes the answer of a command, which `command_words` reads from the arguments. `stl_checks` judges a
+//! source text, `stl_translate` turns its program into a tree, which `st_printer` writes. `st_parser` and
+//! `st_runner` read and run Structured Text, `stl_machine` runs STL, and `image_text` has the images and
+//! reports of runs.
 #![tactic(auto)]
 
 pub use answer::stl2st;

@@ -1,6 +1,6 @@
-//! What a command answers: a status and the text that goes with it.
+//! What a command answers: a status and a text.
 //!
-//! `reply_to` sends each command on its way. `source_reply` and `text_reply` read and judge a source of
+//! `reply_to` chooses what each command does. `source_reply` and `text_reply` read and judge a source of
 //! their language, `program_reply` does a job with a program, and runs read their image then.
 ghost use Rattle.std.specs.Prelude.{◌≡◌, ◌≢◌, ◌≤◌, Some, Ok, None, IfOk, IfErr, MatchOption, length};
 ghost use Rattle.memory_areas.specs.Areas.{AreBlocks, IsMemoryOf};
@@ -9,14 +9,14 @@ ghost use Rattle.st_tree.specs.StRun.{FitsSt, st_run};
 ghost use Rattle.stl_tree.specs.Accepted.{IsAccepted};
 ghost use Rattle.stl_tree.specs.StlRun.{Fits, stl_run};
 ghost use Rattle.command_answers.specs.Answer.{Answers, AnswersRow, AnswersRunSt, AnswersRunStl, WantsRow, stl, st, image_line, image_reply, refusal_line, run_status};
-ghost use Rattle.command_words.specs.Command.{asked};
+ghost use Rattle.command_words.specs.Command.{command_of_words};
 ghost use Rattle.command_answers.specs.Devices.{input};
 ghost use Rattle.command_answers.specs.Inputs.{IsReadPast, IsReadWhole, IsReadWithin, ReadsFor, ReadsInputs, SaysRead, Stopped};
 ghost use Rattle.command_answers.specs.inner.Replies.{Answered, AnsweredCall, AnsweredTo, AnswersJob, AnswersTextJob, IsWritten, ReadsImage, ReadsWork, bytes_of_text, ending, reply_of, stop_status, task_of, text_work_of, work_of};
 
 use crate::limits::{IMAGE_LIMIT, INPUT_LIMIT};
 use crate::status::Status;
-use crate::text::{put, put_number};
+use crate::text::{push_text, put_number};
 use command_words::{Command, WordsRefusal, read_words};
 use image_text::{ImageRefusal, image_text, read_image};
 use memory_areas::{Call, Memory};
@@ -32,7 +32,7 @@ use stl_machine::{Machine, MachineRefusal};
 use stl_translate::translate;
 use stl_tree::Program;
 
-/// The line for arguments that are no command.
+/// The answer to arguments that are no command.
 pub const USAGE_LINE: &str =
     "usage: stl2st translate | check | run-stl STEPS CALL IMAGE | run-st UNITS CALL IMAGE | demo N\n";
 
@@ -64,7 +64,7 @@ impl Text {
     }
 }
 
-/// A status and the text that goes with it.
+/// The answer of a command: a status and a text.
 #[derive(Debug, Drop)]
 pub struct Reply {
     pub status: Status,
@@ -85,7 +85,7 @@ impl From<NoMemory> for Stop {
     ghost use Rattle.std.specs.Prelude.{◌≡◌};
     ghost use Rattle.command_answers.specs.declared.reply.Stop.TheVariants as stop;
 
-    ghost from_gives = { λ _ made. made ≡ stop.NoMemory };
+    ghost from_gives = { λ _ reply_of_text. reply_of_text ≡ stop.NoMemory };
 
     fn from(_error: NoMemory) -> Stop {
         Stop::NoMemory
@@ -95,30 +95,30 @@ impl From<NoMemory> for Stop {
 /// What is done with the program of an STL source.
 #[derive(Debug, Drop)]
 pub enum Job {
-    /// It is written as Structured Text.
+    /// The program is written as Structured Text.
     Translate,
 
-    /// It is only said to be accepted.
+    /// The answer is only that the program is accepted.
     Check,
 
-    /// It runs for so many steps at most, from a call on.
+    /// The program runs from a call on, for at most this many steps.
     Run(u64, Call),
 }
 
 /// What is done with the tree of a Structured Text.
 #[derive(Debug, Drop)]
 pub enum TextJob {
-    /// It runs for so many units at most, from a call on.
+    /// The tree runs from a call on, for at most this many units.
     Run(u64, Call),
 }
 
 /// What a command asks for, by the language of its source.
 #[derive(Debug, Drop)]
 pub enum Task {
-    /// With the program of an STL source.
+    /// A job with the program of an STL source.
     Stl(Job),
 
-    /// With the tree of a Structured Text.
+    /// A job with the tree of a Structured Text.
     St(TextJob),
 }
 
@@ -133,7 +133,7 @@ fn task_of(command: Command) -> Task
     }
 }
 
-fn fixed(status: Status, line: &'static str) -> Reply
+fn reply_of_line(status: Status, line: &'static str) -> Reply
     ensures { reply_of result ≡ (status, line.now) }
 {
     Reply {
@@ -142,7 +142,7 @@ fn fixed(status: Status, line: &'static str) -> Reply
     }
 }
 
-fn made(status: Status, text: Vec<u8>) -> Reply
+fn reply_of_text(status: Status, text: Vec<u8>) -> Reply
     ensures { reply_of result ≡ (status, text.items) }
 {
     Reply {
@@ -157,11 +157,11 @@ fn refusal_line(alloc: Global, line: Line, reason: Reason) -> Result<Vec<u8>, No
 {
     let name = format!(in alloc; "{reason}")?;
     let mut text = Vec::new(alloc);
-    put(&mut text, "line ")?;
+    push_text(&mut text, "line ")?;
     put_number(&mut text, line.0)?;
-    put(&mut text, ": ")?;
-    put(&mut text, name.as_str())?;
-    put(&mut text, "\n")?;
+    push_text(&mut text, ": ")?;
+    push_text(&mut text, name.as_str())?;
+    push_text(&mut text, "\n")?;
     Ok(text)
 }
 
@@ -170,11 +170,11 @@ fn image_line(alloc: Global, line: Line, name: &str) -> Result<Vec<u8>, NoMemory
     ensures { IfOk result (λ text. text.items ≡ image_line line name.now) }
 {
     let mut text = Vec::new(alloc);
-    put(&mut text, "image line ")?;
+    push_text(&mut text, "image line ")?;
     put_number(&mut text, line.0)?;
-    put(&mut text, ": ")?;
-    put(&mut text, name)?;
-    put(&mut text, "\n")?;
+    push_text(&mut text, ": ")?;
+    push_text(&mut text, name)?;
+    push_text(&mut text, "\n")?;
     Ok(text)
 }
 
@@ -188,7 +188,7 @@ fn image_reply(alloc: Global, refusal: ImageRefusal) -> Result<Reply, NoMemory>
         ImageRefusal::OutsideArea(line) => image_line(alloc, line, "OutsideArea")?,
         ImageRefusal::NoMemory => return Err(NoMemory),
     };
-    Ok(made(Status::BadImage, text))
+    Ok(reply_of_text(Status::BadImage, text))
 }
 
 fn run_status(outcome: Outcome) -> Status
@@ -237,12 +237,12 @@ fn call_reply(
 {
     let mut machine = match Machine::new(alloc, program, memory, call) {
         Ok(machine) => machine,
-        Err(MachineRefusal::BadCall) => return Ok(fixed(Status::BadCall, BAD_CALL_LINE)),
+        Err(MachineRefusal::BadCall) => return Ok(reply_of_line(Status::BadCall, BAD_CALL_LINE)),
         Err(MachineRefusal::NoMemory) => return Err(NoMemory),
     };
     let outcome = machine.run(steps);
     let report = image_text(alloc, machine.memory(), outcome)?;
-    Ok(made(run_status(outcome), report))
+    Ok(reply_of_text(run_status(outcome), report))
 }
 
 /// Reads an image, and runs a call from it.
@@ -261,7 +261,7 @@ fn run_reply<M: Source>(
 {
     let text = match read_input(alloc, image, IMAGE_LIMIT) {
         Ok(Some(text)) => text,
-        Ok(None) => return Ok(fixed(Status::TooLong, TOO_LONG_LINE)),
+        Ok(None) => return Ok(reply_of_line(Status::TooLong, TOO_LONG_LINE)),
         Err(stop) => return Err(stop),
     };
     match read_image(alloc, text.as_slice(), program.dbs.as_slice()) {
@@ -285,9 +285,9 @@ fn program_reply<M: Source>(
     match job {
         Job::Translate => {
             let tree = translate(alloc, program)?;
-            Ok(made(Status::Done, print(alloc, &tree)?))
+            Ok(reply_of_text(Status::Done, print(alloc, &tree)?))
         }
-        Job::Check => Ok(fixed(Status::Done, ACCEPTED_LINE)),
+        Job::Check => Ok(reply_of_line(Status::Done, ACCEPTED_LINE)),
         Job::Run(steps, call) => run_reply(alloc, program, call, *steps, image),
     }
 }
@@ -308,12 +308,12 @@ fn source_reply<P: Source, M: Source>(
 {
     let source = match read_input(alloc, program, INPUT_LIMIT) {
         Ok(Some(source)) => source,
-        Ok(None) => return Ok(fixed(Status::TooLong, TOO_LONG_LINE)),
+        Ok(None) => return Ok(reply_of_line(Status::TooLong, TOO_LONG_LINE)),
         Err(stop) => return Err(stop),
     };
     match verdict(alloc, source.as_slice()) {
         Ok(program) => program_reply(alloc, job, &program, image),
-        Err(Rejection::Refused(line, reason)) => Ok(made(
+        Err(Rejection::Refused(line, reason)) => Ok(reply_of_text(
             Status::Refused,
             refusal_line(alloc, line, reason)?,
         )),
@@ -337,13 +337,13 @@ fn text_call_reply(
 {
     let mut runner = match Runner::new(alloc, tree, memory, call) {
         Ok(runner) => runner,
-        Err(RunnerRefusal::BadCall) => return Ok(fixed(Status::BadCall, BAD_CALL_LINE)),
+        Err(RunnerRefusal::BadCall) => return Ok(reply_of_line(Status::BadCall, BAD_CALL_LINE)),
         Err(RunnerRefusal::NoMemory) => return Err(NoMemory),
     };
     let outcome = runner.run(units);
     let status = run_status(outcome);
     let report = image_text(alloc, runner.memory(), outcome)?;
-    Ok(made(status, report))
+    Ok(reply_of_text(status, report))
 }
 
 /// Reads an image, and runs a call of a Structured Text from it.
@@ -362,7 +362,7 @@ fn tree_reply<M: Source>(
 {
     let text = match read_input(alloc, image, IMAGE_LIMIT) {
         Ok(Some(text)) => text,
-        Ok(None) => return Ok(fixed(Status::TooLong, TOO_LONG_LINE)),
+        Ok(None) => return Ok(reply_of_line(Status::TooLong, TOO_LONG_LINE)),
         Err(stop) => return Err(stop),
     };
     match read_image(alloc, text.as_slice(), tree.dbs.as_slice()) {
@@ -404,14 +404,14 @@ fn text_reply<P: Source, M: Source>(
 {
     let source = match read_input(alloc, text, INPUT_LIMIT) {
         Ok(Some(source)) => source,
-        Ok(None) => return Ok(fixed(Status::TooLong, TOO_LONG_LINE)),
+        Ok(None) => return Ok(reply_of_line(Status::TooLong, TOO_LONG_LINE)),
         Err(stop) => return Err(stop),
     };
     match parse(alloc, source.as_slice()) {
         Ok(tree) => read_reply(alloc, job, &tree, image),
         Err(Rejection::Refused(line, reason)) => {
             let written = refusal_line(alloc, line, reason)?;
-            Ok(made(Status::Refused, written))
+            Ok(reply_of_text(Status::Refused, written))
         }
         Err(Rejection::NoMemory) => Err(Stop::NoMemory),
     }
@@ -424,9 +424,9 @@ pub fn reply_to<P: Source, M: Source>(
     program: &mut P,
     image: &mut M,
 ) -> Result<Reply, Stop>
-    ensures answer { IfOk result (Answered (Answers (asked words.now))
+    ensures answer { IfOk result (Answered (Answers (command_of_words words.now))
         (input P.Source program.old program.new) (input M.Source image.old image.new)) }
-    ensures reads { ReadsInputs (asked words.now)
+    ensures reads { ReadsInputs (command_of_words words.now)
         (input P.Source program.old program.new) (input M.Source image.old image.new) (ending result) }
     ensures program_later { P.faults program.old ≤ P.faults program.new }
     ensures image_later { M.faults image.old ≤ M.faults image.new }
@@ -436,7 +436,7 @@ pub fn reply_to<P: Source, M: Source>(
             Task::Stl(job) => source_reply(alloc, &job, program, image),
             Task::St(job) => text_reply(alloc, &job, program, image),
         },
-        Err(WordsRefusal::Usage) => Ok(fixed(Status::Usage, USAGE_LINE)),
+        Err(WordsRefusal::Usage) => Ok(reply_of_line(Status::Usage, USAGE_LINE)),
         Err(WordsRefusal::NoMemory) => Err(Stop::NoMemory),
     }
 }

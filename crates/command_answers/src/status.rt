@@ -2,10 +2,10 @@
 ghost use Rattle.std.specs.Prelude.{◌≡◌};
 ghost use Rattle.command_answers.specs.Status.{status_number};
 
-/// What a call of the program came to; the number is the exit status of its process.
+/// How a call of the program ended; the number is the exit status of its process.
 #[derive(Clone, Copy, Debug, PartialEq, Eq)]
 pub enum Status {
-    /// What was asked for is written.
+    /// The answer is written.
     Done = 0,
 
     /// The text breaks a rule, which is written with its line.
@@ -17,7 +17,7 @@ pub enum Status {
     /// The memory image breaks a rule.
     BadImage = 3,
 
-    /// The call names nothing that can be run.
+    /// The call names no block that can be run.
     BadCall = 4,
 
     /// The run ended with a fault.
@@ -40,7 +40,7 @@ pub enum Status {
 }
 
 impl Status {
-    /// The exit status.
+    /// The exit status of the process, 0 to 10.
     pub fn number(self) -> u8
         ensures { result ≡ status_number self }
     {

@@ -1,2 +1,2 @@
 pub mod CallPieces
-mod CallRows
+mod CallCases

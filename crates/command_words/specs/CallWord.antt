@@ -1,5 +1,6 @@
--- What the argument CALL of a run means: the block that is called, the instance of a function block and
--- the actuals of a function, as in `OB1`, `FC10(MW4,M0.0)` and `FB1/DB5`. Letters count in any case.
+-- What the argument CALL means. It is the block that is called, the instance of a function block and the actuals of a
+-- function, as in `OB1`, `FC10(MW4,M0.0)` and `FB1/DB5`. Letters count in any case.
+-- Held against: this project's own commands.
 use Rattle.std.specs.Prelude.{ℕ, ◌-◌, Bool, false, ◌==◌, ◌&&◌, nat_le, if◌then◌else◌, List, [], ◌∷◌, length, take, drop, codes, Option, Some, None, option_map, option_and_then}
 use Rattle.std.specs.Char.{to_ascii_uppercase}
 use Rattle.std.specs.List.{prefix_len}
@@ -18,7 +19,7 @@ use Rattle.memory_areas.specs.declared.call.Call.{Call}
 
 -- Parts of a word
 
--- a decimal number of one digit to so many, and of a value of `most` at most
+-- a decimal number of one digit to a greatest count, and of a value of `most` at most
 abbrev pub number_in : ℕ → ℕ → List ℕ → Option ℕ
 number_in places most digits = if nat_le (length digits) places then number_up_to most digits else None
 
@@ -31,7 +32,7 @@ abbrev pub begins_with_letter : ℕ → List ℕ → Bool
 begins_with_letter letter [] = false
 begins_with_letter letter (first ∷ rest) = to_ascii_uppercase first == letter
 
--- what stands after letters, where a text begins with them in any case
+-- the rest of a text after letters with which it begins, in any case
 abbrev pub behind : List ℕ → List ℕ → Option (List ℕ)
 behind [] text = Some text
 behind (letter ∷ letters) text = if begins_with_letter letter text then behind letters (drop 1 text) else None
@@ -40,15 +41,15 @@ behind (letter ∷ letters) text = if begins_with_letter letter text then behind
 abbrev pub number_behind : List ℕ → List ℕ → Option ℕ
 number_behind letters text = option_and_then short_number (behind letters text)
 
--- how many letters and digits stand at the front
+-- how many letters and digits a text begins with
 abbrev pub front_size : List ℕ → ℕ
 front_size text = prefix_len is_word_byte text
 
--- the letters and digits at the front
+-- the letters and digits that a text begins with
 abbrev pub front : List ℕ → List ℕ
 front text = take (front_size text) text
 
--- what stands after these
+-- the rest of a text after the letters and digits that it begins with
 abbrev pub back : List ℕ → List ℕ
 back text = drop (front_size text) text
 
@@ -114,7 +115,7 @@ block_actual text =
 abbrev pub actual_of : List ℕ → Option (Place × Width)
 actual_of text = option_or (area_actual text) (block_actual text)
 
--- a byte more at the front of the first piece
+-- the first of some pieces with one more byte before it; the others stay
 abbrev pub with_byte : ℕ → List (List ℕ) → List (List ℕ)
 with_byte b [] = (b ∷ []) ∷ []
 with_byte b (piece ∷ more) = (b ∷ piece) ∷ more
@@ -145,7 +146,7 @@ block_meant word =
     option_or (option_map Ob (number_behind (codes "OB") word))
     (option_or (option_map Fc (number_behind (codes "FC") word)) (option_map Fb (number_behind (codes "FB") word)))
 
--- the call of a block by what stands after its name: nothing, actuals or `/DB5`
+-- the call of a block by what follows its name: nothing, actuals or `/DB5`
 abbrev pub call_with : BlockName → List ℕ → Option Call
 call_with (Ob number) [] = Some (record { block = Ob number; instance = 0; actuals = [] })
 call_with (Ob number) (first ∷ rest) = None

@@ -1,4 +1,5 @@
--- What the arguments of the program mean.
+-- What the program's arguments mean. They are a command with its bound, its call and the name of its image, or none.
+-- Held against: this project's own commands.
 use Rattle.std.specs.Prelude.{◌≡◌, ℕ, ◌-◌, ◌^◌, List, [], ◌∷◌, map, Option, Some, None, String, string_bytes, option_map, option_and_then, Result, Ok, Err, codes, if◌then◌else◌}
 use Rattle.std.specs.Str.{bytes_eq}
 use Rattle.memory_areas.specs.declared.call.Call.{Call}
@@ -12,7 +13,7 @@ use Rattle.command_words.specs.declared.command.WordsRefusal.TheVariants.{Usage,
 abbrev pub steps_meant : List ℕ → Option ℕ
 steps_meant word = number_in 20 (2 ^ 64 - 1) word
 
--- a run's bound and call, by these and its image
+-- the bound and the call of a run, by the words of both and of its image
 unfoldable pub run_with : List ℕ → List ℕ → List ℕ → Option (ℕ × Call)
 run_with steps call image =
     if bytes_eq image [] then None
@@ -43,8 +44,8 @@ command_meant (word ∷ a ∷ rest) =
     else None
 
 -- the command that the arguments of the program ask for
-abbrev pub asked : {A : Type 0} → List (String A) → Option Command
-asked {A = A} words = command_meant (map (λ (word : String A). string_bytes word) words)
+abbrev pub command_of_words : {A : Type 0} → List (String A) → Option Command
+command_of_words {A = A} words = command_meant (map (λ (word : String A). string_bytes word) words)
 
 -- the answer is the command meant, or Usage exactly where there is none; or memory ran out
 abbrev pub Means : Option Command → Result Command WordsRefusal → Type 0

@@ -9,7 +9,7 @@ use memory_areas::{Area, BlockName, Call, Place};
 use s7_base::{List, NoMemory, Width, is_word_byte, rest_after};
 use std::alloc::Global;
 
-/// A decimal number of one digit to `places`, and of at most `most`.
+/// A decimal number of one to `places` digits, at most `most`.
 pub fn number_in(places: usize, most: u64, digits: &[u8]) -> Option<u64>
     ensures value { result ≡ number_in places most digits.now }
     ensures within { IfSome result (λ number. number ≤ most) }
@@ -39,7 +39,7 @@ fn begins_with_letter(letter: u8, text: &[u8]) -> bool
     }
 }
 
-/// What stands after letters, which are given as capitals.
+/// The rest of a text that begins with these letters, given as capitals, in any case.
 fn behind<'t>(letters: &str, text: &'t [u8]) -> Option<&'t [u8]>
     ensures { option_map (λ rest. rest.now) result ≡ behind letters.now text.now }
 {
@@ -170,7 +170,7 @@ fn actual_of(text: &[u8]) -> Option<(Place, Width)>
     area_actual(text).or(block_actual(text))
 }
 
-/// How many bytes stand before the first comma.
+/// How many bytes come before the first comma.
 fn piece_size(text: &[u8]) -> usize
     ensures size { result ≡ prefix_len (λ b. not (b == 44)) text.now }
     ensures within { result ≤ length text.now }
@@ -178,7 +178,7 @@ fn piece_size(text: &[u8]) -> usize
     text.iter().take_while(|b| **b != b',').count()
 }
 
-/// The actuals of a text that is cut at its commas.
+/// The actuals of a text, which are separated by commas.
 fn actuals_in(alloc: Global, text: &[u8]) -> Result<Option<List<(Place, Width)>>, NoMemory>
     ensures { IfOk result (λ actuals. actuals ≡ actuals_in (pieces text.now)) }
 {
@@ -225,7 +225,7 @@ fn block_meant(word: &[u8]) -> Option<BlockName>
     }
 }
 
-/// The call of a block, by what stands after its name.
+/// The call of a block, by what follows its name.
 fn call_with(alloc: Global, block: BlockName, text: &[u8]) -> Result<Option<Call>, NoMemory>
     ensures { IfOk result (λ call. call ≡ call_with block text.now) }
 {

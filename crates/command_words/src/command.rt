@@ -17,10 +17,10 @@ pub enum Command {
     /// Reads an STL source and says whether it is accepted.
     Check,
 
-    /// Runs an STL source for so many steps at most, from a call on.
+    /// Runs an STL source for this many steps at most, from a call on.
     RunStl(u64, Call),
 
-    /// Runs a Structured Text for so many units at most, from a call on.
+    /// Runs a Structured Text for this many units at most, from a call on.
     RunSt(u64, Call),
 }
 

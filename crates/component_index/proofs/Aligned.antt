@@ -12,7 +12,7 @@ use Rattle.stl_rules.specs.Extents.{end_of, extent_of, place_behind}
 use Rattle.stl_rules.specs.Paths.{Placed, element_at, elements_before, named_behind}
 use Rattle.stl_rules.proofs.Ends.{IsEven, bit, byte, whole, word}
 use Rattle.symbol_layout.proofs.Kept.{is_aligned}
-use Rattle.symbol_layout.specs.Kept.{IsAlignment, capped}
+use Rattle.symbol_layout.specs.Kept.{IsAlignment, capped_bits}
 
 -- Multiples
 
@@ -45,14 +45,14 @@ whole_times k a b (word e) = times k
     times (suc n) = let h = times n in let one : suc n * b ≡ b + n * b = omega arith in omega (arith, h, one, e)
 
 -- a multiple of an alignment is one as it is kept
-kept_multiple : (place a : ℕ) → (place < 2 ^ 60) ⊎ (2 ^ 60 ≤ place) → IsAlignment a → place % a ≡ 0 → capped place % a ≡ 0
+kept_multiple : (place a : ℕ) → (place < 2 ^ 60) ⊎ (2 ^ 60 ≤ place) → IsAlignment a → place % a ≡ 0 → capped_bits place % a ≡ 0
 kept_multiple place a (inl h) is e = ap (λ n. n % a) (min-eq_left (le_of_lt h)) ∙ e
 kept_multiple place a (inr h) is e = ap (λ n. n % a) (min-eq_right h) ∙ is.2
 
 abbrev pub IsWhole : ℕ → DeclType → Type 0
 IsWhole place ty = place % (extent_of ty).alignment ≡ 0
 
-pub kept_whole : (place : ℕ) (ty : DeclType) → IsWhole place ty → IsWhole (capped place) ty
+pub kept_whole : (place : ℕ) (ty : DeclType) → IsWhole place ty → IsWhole (capped_bits place) ty
 kept_whole place ty e = kept_multiple place (extent_of ty).alignment (cases_lt place (2 ^ 60)) (is_aligned ty) e
 
 -- Elements

@@ -9,8 +9,8 @@ use Rattle.stl_tree.specs.declared.raw.DeclType.{DeclType}
 use Rattle.symbol_layout.specs.Structs.{AreBits, struct_in}
 use Rattle.component_index.specs.declared.scope.Entry.{Entry}
 use Rattle.component_index.specs.declared.scope.Inner.{Inner}
-use Rattle.component_index.specs.declared.scope.Scope.{Scope}
-use Rattle.component_index.specs.inner.Scopes.{AreScopes, Entries, Grows, Held, IsInner, IsOf, IsScope, IsStruct, IsTable, LeadsTo, entry_of, held, table_of}
+use Rattle.component_index.specs.declared.scope.StructScope.{StructScope}
+use Rattle.component_index.specs.inner.Scopes.{AreScopes, Entries, Grows, Held, IsInner, IsOf, IsScope, IsStruct, IsTable, LeadsTo, entry_of, declarations_in, table_of}
 
 -- Lists
 
@@ -51,29 +51,29 @@ table_stays a b s real entries h name = leads_stay a b s (real name) (entry_of (
 
 -- One scope more
 
-pub pushed_grows : (scopes : List Scope) (s : Scope) → Grows scopes (scopes ++ s ∷ [])
+pub pushed_grows : (scopes : List StructScope) (s : StructScope) → Grows scopes (scopes ++ s ∷ [])
 pushed_grows scopes s n decls h = by_scope (slice_get scopes n) refl h
   where
-    by_scope : (o : Option Scope) → slice_get scopes n ≡ o → option_map (λ (x : Scope). x.decls.now) o ≡ Some decls
-        → option_map (λ (x : Scope). x.decls.now) (slice_get (scopes ++ s ∷ []) n) ≡ Some decls
+    by_scope : (o : Option StructScope) → slice_get scopes n ≡ o → option_map (λ (x : StructScope). x.decls.now) o ≡ Some decls
+        → option_map (λ (x : StructScope). x.decls.now) (slice_get (scopes ++ s ∷ []) n) ≡ Some decls
     by_scope None e f = absurd cc
-    by_scope (Some x) e f = ap (option_map (λ (x : Scope). x.decls.now)) (was_there scopes s x n e) ∙ f
+    by_scope (Some x) e f = ap (option_map (λ (x : StructScope). x.decls.now)) (was_there scopes s x n e) ∙ f
 
-pub pushed_held : (scopes : List Scope) (s : Scope) → held (scopes ++ s ∷ []) (length scopes) ≡ Some s.decls.now
-pushed_held scopes s = ap (option_map (λ (x : Scope). x.decls.now)) (is_last scopes s)
+pub pushed_held : (scopes : List StructScope) (s : StructScope) → declarations_in (scopes ++ s ∷ []) (length scopes) ≡ Some s.decls.now
+pushed_held scopes s = ap (option_map (λ (x : StructScope). x.decls.now)) (is_last scopes s)
 
-scope_stays : (a b : Held) → Stays a b → (s : Scope) → IsScope a s → IsScope b s
+scope_stays : (a b : Held) → Stays a b → (s : StructScope) → IsScope a s → IsScope b s
 scope_stays a b t s h = table_stays a b t (named_behind 0 s.decls.now) (table_of s.names) h
 
-pub pushed_scopes : (scopes : List Scope) (s : Scope) → AreScopes scopes → IsScope (held scopes) s → AreScopes (scopes ++ s ∷ [])
+pub pushed_scopes : (scopes : List StructScope) (s : StructScope) → AreScopes scopes → IsScope (declarations_in scopes) s → AreScopes (scopes ++ s ∷ [])
 pushed_scopes scopes s all one n x h = by_place (either_there scopes s x n h)
   where
-    more : (y : Scope) → IsScope (held scopes) y → IsScope (held (scopes ++ s ∷ [])) y
-    more y is = scope_stays (held scopes) (held (scopes ++ s ∷ [])) (pushed_grows scopes s) y is
+    more : (y : StructScope) → IsScope (declarations_in scopes) y → IsScope (declarations_in (scopes ++ s ∷ [])) y
+    more y is = scope_stays (declarations_in scopes) (declarations_in (scopes ++ s ∷ [])) (pushed_grows scopes s) y is
 
-    by_place : (slice_get scopes n ≡ Some x) ⊎ (s ≡ x) → IsScope (held (scopes ++ s ∷ [])) x
+    by_place : (slice_get scopes n ≡ Some x) ⊎ (s ≡ x) → IsScope (declarations_in (scopes ++ s ∷ [])) x
     by_place (inl e) = more x (all n x e)
-    by_place (inr e) = subst (IsScope (held (scopes ++ s ∷ []))) e (more s one)
+    by_place (inr e) = subst (IsScope (declarations_in (scopes ++ s ∷ []))) e (more s one)
 
 -- What stands inside a type
 

@@ -6,8 +6,8 @@ use Rattle.std.specs.Map.{lookup}
 use Rattle.std.specs.Option.{option_or}
 use Rattle.std.proofs.lemmas.List.{map-append, take_more}
 use Rattle.indexmap.specs.IndexMap.{insert_entry}
-use Rattle.first_places.proofs.Firsts.{name_sound, same_words}
-use Rattle.first_places.proofs.Tables.{appended, none}
+use Rattle.name_tables.proofs.Firsts.{name_sound, same_words}
+use Rattle.name_tables.proofs.PlaceTables.{appended, none}
 use Rattle.s7_base.specs.Tokens.{is_same_word}
 use Rattle.stl_rules.proofs.Ends.{whole}
 use Rattle.stl_rules.specs.DeclarationRules.{key_of}
@@ -17,7 +17,7 @@ use Rattle.stl_tree.specs.declared.raw.Declaration.{Declaration}
 use Rattle.symbol_layout.proofs.Capped.{capped_end, capped_place, end_of_kept}
 use Rattle.symbol_layout.proofs.Kept.{is_aligned, kept_named}
 use Rattle.symbol_layout.proofs.Sections.{section_end, section_kept}
-use Rattle.symbol_layout.specs.Kept.{borrowed, capped, capped_placed}
+use Rattle.symbol_layout.specs.Kept.{sections_now, capped_bits, capped_placed}
 use Rattle.component_index.specs.declared.scope.Entry.{Entry}
 use Rattle.component_index.specs.inner.Scopes.{Added, Adds, Entries, Held, IsInner, IsTable, LeadsTo, entry_of, with_entry}
 use Rattle.component_index.proofs.Aligned.{at_multiple}
@@ -48,9 +48,9 @@ module _ {K : Type 0} (items : K → List ℕ) where
   looks key [] = refl
   looks key (e ∷ es) = ap (cond (pointwise nat_eq key (items e.0)) (Some e.1)) (looks key es)
 
-  pub put : (k : K) (e : Entry) (es new : List (K × Entry)) → is_some (entry_of (items k) (view es)) ≡ false
+  pub add_entry : (k : K) (e : Entry) (es new : List (K × Entry)) → is_some (entry_of (items k) (view es)) ≡ false
       → new ≡ insert_entry (λ x y. pointwise nat_eq (items x) (items y)) es k e → view new ≡ with_entry (items k) e (view es)
-  put k e es new h made =
+  add_entry k e es new h made =
       let absent : lookup (λ x. pointwise nat_eq (items k) (items x)) es ≡ None
       = looks (items k) es ∙ none (entry_of (items k) (view es)) h in
       ap view (made ∙ appended (λ x y. pointwise nat_eq (items x) (items y)) k e es absent)
@@ -142,42 +142,44 @@ added_more all (Some y) None None x e same h one = let none = h.0 in absurd cc
 added_more all (Some y) None (Some z) x e same h one = h
 
 module _ (decls : List Declaration) (i : ℕ) (d : Declaration) (before : i < length decls) (item : d ≡ get_or decls i d) (start end : ℕ)
-    (is : end ≡ capped (end_of_all start (take i decls))) where
+    (is : end ≡ capped_bits (end_of_all start (take i decls))) where
   abbrev real : ℕ
   real = end_of_all start (take i decls)
 
   more : take i decls ++ d ∷ [] ≡ take (i + 1) decls
   more = ap (λ (y : Declaration). take i decls ++ y ∷ []) item ∙ sym (take_more decls i d before)
 
-  pub end_turn : (next : ℕ) → next ≡ capped (end_behind end (extent_of d.ty)) → next ≡ capped (end_of_all start (take (i + 1) decls))
+  pub end_turn : (next : ℕ) → next ≡ capped_bits (end_behind end (extent_of d.ty)) → next ≡ capped_bits (end_of_all start (take (i + 1) decls))
   end_turn next e =
-      e ∙ ap (λ n. capped (end_behind n (extent_of d.ty))) is
-      ∙ sym (end_of_kept (capped real) (extent_of d.ty))
+      e ∙ ap (λ n. capped_bits (end_behind n (extent_of d.ty))) is
+      ∙ sym (end_of_kept (capped_bits real) (extent_of d.ty))
       ∙ capped_end real (extent_of d.ty) (is_aligned d.ty)
-      ∙ ap capped (sym (end_more start (take i decls) d))
-      ∙ ap (λ ds. capped (end_of_all start ds)) more
+      ∙ ap capped_bits (sym (end_more start (take i decls) d))
+      ∙ ap (λ ds. capped_bits (end_of_all start ds)) more
 
   pub entry_turn : (a b : Held) → Stays a b → (old mid new : Entries) (e : Entry) → Adds a (named_behind start (take i decls)) old mid
       → e.place ≡ place_behind end (extent_of d.ty) → e.ty.now ≡ d.ty → IsInner b e.inner d.ty → new ≡ with_entry (key_of d.name) e mid
       → Adds b (named_behind start (take (i + 1) decls)) old new
-  entry_turn a b stays old mid new e h place ty inner put name =
+  entry_turn a b stays old mid new e h place ty inner add_entry name =
       let x : Placed = (place_behind real (extent_of d.ty), d.ty) in
       let key = key_of name in
-      let kept : e.place ≡ capped (place_behind real (extent_of d.ty))
+      let kept : e.place ≡ capped_bits (place_behind real (extent_of d.ty))
       = place ∙ ap (λ n. place_behind n (extent_of d.ty)) is ∙ sym (capped_place real (extent_of d.ty).alignment (is_aligned d.ty)) in
       let one : LeadsTo b (Some x) (Some e) = (
-        ap (λ n. Some (n, e.ty.now)) kept ∙ ap (λ t. Some (capped (place_behind real (extent_of d.ty)), t)) ty,
+        ap (λ n. Some (n, e.ty.now)) kept ∙ ap (λ t. Some (capped_bits (place_behind real (extent_of d.ty)), t)) ty,
         is_at b e (place_behind real (extent_of d.ty)) d.ty kept ty
             (at_multiple real (extent_of d.ty).alignment (extent_of d.ty).bits (whole d.ty)) inner,
       ) in
       let found : option_or (entry_of key mid) (cond (is_same_word d.name name) (Some e) None) ≡ entry_of key new
       = ap (λ t. option_or (entry_of key mid) (cond t (Some e) None)) (same_words d.name name) ∙ sym (entry_more mid (key_of d.name) e key)
-      ∙ ap (entry_of key) (sym put) in
+      ∙ ap (entry_of key) (sym add_entry) in
       let meant : option_or (named_behind start (take i decls) name) (cond (is_same_word d.name name) (Some x) None)
       ≡ named_behind start (take (i + 1) decls) name
       = sym (named_more start (take i decls) d name) ∙ ap (λ ds. named_behind start ds name) more in
       subst (λ (r : Option Placed). Added b r (entry_of key old) (entry_of key new)) meant
-      (subst (λ (f : Option Entry). Added b (option_or (named_behind start (take i decls) name) (cond (is_same_word d.name name) (Some x) None)) (entry_of key old) f) found
+      (subst
+      (λ (f : Option Entry). Added b (option_or (named_behind start (take i decls) name) (cond (is_same_word d.name name) (Some x) None)) (entry_of key old) f)
+      found
       (added_more b (named_behind start (take i decls) name) (entry_of key old) (entry_of key mid) x e (is_same_word d.name name)
       (added_stays a b stays (named_behind start (take i decls) name) (entry_of key old) (entry_of key mid) (h name)) one))
 
@@ -191,28 +193,28 @@ joined all (Some y) second kept None new h a e = let none = h.0 in absurd cc
 joined all (Some y) second kept (Some x) new h a e = subst (LeadsTo all (Some y)) (sym a) h
 
 module _ (sections : List (Bor (List Declaration))) (i : ℕ) (s : Bor (List Declaration)) (before : i < length sections)
-    (item : s ≡ get_or sections i s) (end start : ℕ) (is : end ≡ capped (end_of_sections 0 (borrowed (take i sections))))
+    (item : s ≡ get_or sections i s) (end start : ℕ) (is : end ≡ capped_bits (end_of_sections 0 (sections_now (take i sections))))
     (at : start ≡ section_behind end) where
   abbrev done : List (List Declaration)
-  done = borrowed (take i sections)
+  done = sections_now (take i sections)
 
-  all_done : done ++ s.now ∷ [] ≡ borrowed (take (i + 1) sections)
+  all_done : done ++ s.now ∷ [] ≡ sections_now (take (i + 1) sections)
   all_done =
       sym (map-append (λ (x : Bor (List Declaration)). x.now) (take i sections) (s ∷ []))
-      ∙ ap borrowed (ap (λ (y : Bor (List Declaration)). take i sections ++ y ∷ []) item ∙ sym (take_more sections i s before))
+      ∙ ap sections_now (ap (λ (y : Bor (List Declaration)). take i sections ++ y ∷ []) item ∙ sym (take_more sections i s before))
 
-  begins : start ≡ section_behind (capped (end_of_sections 0 done))
+  begins : start ≡ section_behind (capped_bits (end_of_sections 0 done))
   begins = at ∙ ap section_behind is
 
-  pub section_turn : (next : ℕ) → next ≡ capped (end_of_all start s.now) → next ≡ capped (end_of_sections 0 (borrowed (take (i + 1) sections)))
+  pub section_turn : (next : ℕ) → next ≡ capped_bits (end_of_all start s.now) → next ≡ capped_bits (end_of_sections 0 (sections_now (take (i + 1) sections)))
   section_turn next e =
-      e ∙ ap (λ n. capped (end_of_all n s.now)) begins
+      e ∙ ap (λ n. capped_bits (end_of_all n s.now)) begins
       ∙ section_end (end_of_sections 0 done) s.now
-      ∙ ap capped (sym (sections_more 0 done s.now))
-      ∙ ap (λ ss. capped (end_of_sections 0 ss)) all_done
+      ∙ ap capped_bits (sym (sections_more 0 done s.now))
+      ∙ ap (λ ss. capped_bits (end_of_sections 0 ss)) all_done
 
   pub table_turn : (a b : Held) → Stays a b → (old new : Entries) → IsTable a (named_in 0 done) old → Adds b (named_behind start s.now) old new
-      → IsTable b (named_in 0 (borrowed (take (i + 1) sections))) new
+      → IsTable b (named_in 0 (sections_now (take (i + 1) sections))) new
   table_turn a b stays old new h added name =
       let place : ℕ = section_behind (end_of_sections 0 done) in
       let same : capped_placed (named_behind start s.now name) ≡ capped_placed (named_behind place s.now name)

@@ -1,14 +1,14 @@
 //! The index of the components of declarations.
 ghost use Rattle.std.specs.Prelude.{◌≡◌, IfOk, option_map};
 ghost use Rattle.stl_rules.specs.Paths.{component_at, component_in};
-ghost use Rattle.component_index.specs.inner.Scopes.{component_behind, placed};
-ghost use Rattle.symbol_layout.specs.Kept.{borrowed};
+ghost use Rattle.component_index.specs.inner.Scopes.{component_behind, placed_of_entry};
+ghost use Rattle.symbol_layout.specs.Kept.{sections_now};
 
 use crate::building::put_sections;
-use crate::scope::{Entry, Scope};
+use crate::scope::{Entry, StructScope};
 use crate::table::Table;
-use crate::walking::walked;
-use first_places::key_of;
+use crate::walking::after_path;
+use name_tables::key_of;
 use s7_base::{NoMemory, rest_after};
 use std::alloc::Global;
 use std::marker::Model;
@@ -21,8 +21,8 @@ use symbol_layout::{Placed, component_at};
 pub struct Components<'d> {
     sections: Vec<&'d [Declaration]>,
 
-    /// The scopes of all that is a STRUCT inside.
-    scopes: Vec<Scope<'d>>,
+    /// The scopes of every STRUCT inside the sections.
+    scopes: Vec<StructScope<'d>>,
 
     /// The names of all sections, which are one scope.
     names: Table<'d>,
@@ -35,21 +35,21 @@ impl<'d> Model for Components<'d> {
     ghost use Rattle.stl_tree.specs.contracts.raw.DeclType as declared;
     ghost use Rattle.stl_tree.specs.contracts.raw.Declaration as declaration;
     ghost use Rattle.stl_rules.specs.Paths.{named_in};
-    ghost use Rattle.symbol_layout.specs.Kept.{borrowed};
-    ghost use Rattle.component_index.specs.inner.Scopes.{AreScopes, IsTable, held, table_of};
+    ghost use Rattle.symbol_layout.specs.Kept.{sections_now};
+    ghost use Rattle.component_index.specs.inner.Scopes.{AreScopes, IsTable, declarations_in, table_of};
 
     ghost Value = { List (List Declaration) };
 
     ghost coded = { Prim.hlevel (codes, declared.the_row.coded, declaration.the_row.coded) };
 
-    ghost view = { λ c. borrowed c.sections.items };
+    ghost view = { λ c. sections_now c.sections.items };
 
-    ghost invariant = { λ c. AreScopes c.scopes.items × IsTable (held c.scopes.items) (named_in 0 (borrowed c.sections.items)) (table_of c.names) };
+    ghost invariant = { λ c. AreScopes c.scopes.items × IsTable (declarations_in c.scopes.items) (named_in 0 (sections_now c.sections.items)) (table_of c.names) };
 }
 
-/// The component of what is found.
+/// The component of an entry.
 fn component_of(found: Option<Entry<'_>>) -> Option<Component>
-    ensures { result ≡ option_map component_at (option_map placed found.entry) }
+    ensures { result ≡ option_map component_at (option_map placed_of_entry found.entry) }
 {
     let entry = found?;
     Some(component_at(Placed {
@@ -61,7 +61,7 @@ fn component_of(found: Option<Entry<'_>>) -> Option<Component>
 impl<'d> Components<'d> {
     /// The index of sections.
     pub fn new(alloc: Global, sections: &[&'d [Declaration]]) -> Result<Components<'d>, NoMemory>
-        ensures { IfOk result (λ all. all ≡ borrowed sections.now) }
+        ensures { IfOk result (λ all. all ≡ sections_now sections.now) }
     {
         let mut scopes = Vec::new(alloc);
         let names = put_sections(alloc, &mut scopes, sections)?;
@@ -74,14 +74,14 @@ impl<'d> Components<'d> {
         })
     }
 
-    /// The sections.
+    /// The sections that were indexed.
     pub fn sections(&self) -> &[&'d [Declaration]]
-        ensures { borrowed result.now ≡ self.now }
+        ensures { sections_now result.now ≡ self.now }
     {
         self.sections.as_slice()
     }
 
-    /// The component that a name and a path behind it name.
+    /// The component that a name and the path after it name.
     fn component_behind(
         &self,
         alloc: Global,
@@ -94,12 +94,12 @@ impl<'d> Components<'d> {
         let Some(start) = self.names.find(key.as_slice()) else {
             return Ok(None);
         };
-        let at = walked(alloc, self.scopes.as_slice(), start, path)?;
+        let at = after_path(alloc, self.scopes.as_slice(), start, path)?;
         Ok(component_of(at))
     }
 
     /// The component that a path names; `None` exactly where it names nothing that is declared. A place past
-    /// the byte 4,294,967,295 is kept as the last bit of that.
+    /// the byte 4,294,967,295 is kept as the last bit of that byte.
     pub fn component(&self, alloc: Global, path: &[PathStep]) -> Result<Option<Component>, NoMemory>
         ensures { IfOk result (λ at. at ≡ component_in self.now path.now) }
     {

@@ -1,8 +1,8 @@
-//! Where the components of declarations lie, found by maps: an index that is made once, by which a path costs
-//! its own length.
+//! Where the components of declarations lie, found by maps: an index that is made once, after which a path
+//! costs its own length.
 //!
-//! Stands on `stl_rules`, which says what a path names, on `symbol_layout` for lengths and on `first_places` for
-//! the keys of names.
+//! Uses `stl_rules`, which says what a path names, `symbol_layout` for lengths and `name_tables` for the
+//! keys of names.
 #![tactic(auto)]
 
 mod building;

@@ -2,8 +2,8 @@
 use crate::table::Table;
 use stl_tree::{DeclType, Declaration};
 
-/// The scope of the STRUCT inside a type, by its number, and the bits of that STRUCT. Where no STRUCT is
-/// inside, both are any.
+/// The number of the scope of the STRUCT inside a type, and the length of that STRUCT in bits. Where no
+/// STRUCT is inside, both have any value.
 #[derive(Clone, Copy)]
 pub struct Inner {
     pub scope: usize,
@@ -20,7 +20,7 @@ pub struct Entry<'d> {
 
 /// The components of a STRUCT, and their names from place 0 on.
 #[derive(Drop)]
-pub struct Scope<'d> {
+pub struct StructScope<'d> {
     pub decls: &'d [Declaration],
     pub names: Table<'d>,
 }

@@ -4,20 +4,20 @@ ghost use Rattle.stl_rules.specs.DeclarationRules.{key_of};
 ghost use Rattle.component_index.specs.inner.Scopes.{entry_of, table_of, with_entry};
 
 use crate::scope::Entry;
-use first_places::key_of;
 use indexmap::IndexMap;
+use name_tables::key_of;
 use s7_base::NoMemory;
 use std::alloc::Global;
 
 /// The entries of the first declarations of names.
 #[derive(Drop)]
 pub struct Table<'d> {
-    /// By the names in capitals.
+    /// The entries by the names in capitals.
     names: IndexMap<Vec<u8>, Entry<'d>>,
 }
 
 impl<'d> Table<'d> {
-    /// No names.
+    /// The empty table.
     pub fn new(alloc: Global) -> Table<'d>
         ensures { table_of result ≡ [] }
     {
@@ -26,7 +26,7 @@ impl<'d> Table<'d> {
         }
     }
 
-    /// Room for so many more names.
+    /// Takes memory for this many more names.
     pub fn reserve(&mut self, count: usize) -> Result<(), NoMemory>
         ensures { OnOk result (table_of self.new ≡ table_of self.old) }
     {
@@ -41,7 +41,12 @@ impl<'d> Table<'d> {
     }
 
     /// Puts the entry of a name that has none.
-    pub fn put(&mut self, alloc: Global, name: &[u8], entry: Entry<'d>) -> Result<(), NoMemory>
+    pub fn add_entry(
+        &mut self,
+        alloc: Global,
+        name: &[u8],
+        entry: Entry<'d>,
+    ) -> Result<(), NoMemory>
         ensures { OnOk result (table_of self.new ≡ with_entry (key_of name.now) entry.entry (table_of self.old)) }
     {
         let key = key_of(alloc, name)?;

@@ -6,7 +6,7 @@ use Rattle.stl_tree.specs.declared.raw.ElemType.{ElemType}
 use Rattle.stl_rules.specs.DeclarationRules.{elementary}
 use Rattle.stl_rules.specs.Extents.{end_of_sections, extent_of, extent_of_width, width_of}
 use Rattle.stl_rules.specs.Layouts.{initial_of}
-use Rattle.stl_rules.specs.Paths.{Placed, component_at, found}
+use Rattle.stl_rules.specs.Paths.{Placed, component_at, named_by_path}
 use Rattle.stl_rules.specs.Raw.{most_in_block}
 use Rattle.stl_rules.proofs.Components.{LiesIn, found_in_sections}
 use Rattle.stl_rules.proofs.Ends.{of_elementary}
@@ -17,7 +17,7 @@ small : most_in_block < 2 ^ 32
 small = omega arith
 
 pub all_inside : (sections : List (List Declaration)) → AreKept sections → AreInside (length (initial_of sections)) sections
-all_inside sections kept path = by (found sections path) (found_in_sections sections path)
+all_inside sections kept path = by (named_by_path sections path) (found_in_sections sections path)
   where
     s : AreSized most_in_block small sections
     s = are_sized most_in_block small sections kept

@@ -1,5 +1,5 @@
 pub mod Bits
-mod ContentRows
+mod ContentCases
 pub mod Filling
 pub mod Insides
 pub mod Ordering

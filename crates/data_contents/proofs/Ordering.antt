@@ -7,7 +7,7 @@ use Rattle.std.specs.Ordering.{is_lt, nat_cmp}
 use Rattle.std.specs.declared.cmp.Ordering.TheVariants.{Less, Equal, Greater}
 use Rattle.std.proofs.lemmas.Bool.{cases_order, ltb-false, ltb-true}
 use Rattle.memory_areas.specs.declared.data_block.DataBlock.{DataBlock}
-use Rattle.memory_areas.specs.Areas.{inserted}
+use Rattle.memory_areas.specs.Areas.{insert_data_block}
 use Rattle.stl_rules.specs.DataBlocks.{in_order}
 use Rattle.data_contents.specs.Order.{AreInOrder, Rises, of_number}
 
@@ -67,12 +67,12 @@ rises least (y ∷ ys) h up = (
 all_rise : (ys : List DataBlock) → IsNonDecreasingBy (λ (b : DataBlock). b.number) ys → Rises 0 ys
 all_rise ys up = rises 0 ys (λ d some. omega arith) up
 
-inserted_rise : (b : DataBlock) (rest : List DataBlock) (least : ℕ) → least ≤ b.number → Rises least rest → Rises least (inserted b rest)
+inserted_rise : (b : DataBlock) (rest : List DataBlock) (least : ℕ) → least ≤ b.number → Rises least rest → Rises least (insert_data_block b rest)
 inserted_rise b [] least h r = (h, tt)
 inserted_rise b (c ∷ rest) least h r = by (nat_lt c.number b.number) refl (λ l. inserted_rise b rest c.number l r.1)
   where
-    by : (t : Bool) → nat_lt c.number b.number ≡ t → (c.number ≤ b.number → Rises c.number (inserted b rest))
-        → Rises least (if t then c ∷ inserted b rest else b ∷ c ∷ rest)
+    by : (t : Bool) → nat_lt c.number b.number ≡ t → (c.number ≤ b.number → Rises c.number (insert_data_block b rest))
+        → Rises least (if t then c ∷ insert_data_block b rest else b ∷ c ∷ rest)
     by true e more = let l = ltb-true c.number b.number e in (r.0, more (omega (arith, l)))
     by false e more = (h, (ltb-false c.number b.number e, r.1))
 
@@ -83,7 +83,7 @@ in_order_rises (b ∷ rest) = inserted_rise b (in_order rest) 0 (omega arith) (i
 -- Blocks of one number
 
 -- a block is put past those alone that are not tied with it
-inserted_like : (a b : DataBlock) (rest : List DataBlock) → like a (inserted b rest) ≡ like a (b ∷ rest)
+inserted_like : (a b : DataBlock) (rest : List DataBlock) → like a (insert_data_block b rest) ≡ like a (b ∷ rest)
 inserted_like a b [] = refl
 inserted_like a b (c ∷ rest) = by (nat_lt c.number b.number) refl (inserted_like a b rest)
   where
@@ -95,8 +95,8 @@ inserted_like a b (c ∷ rest) = by (nat_lt c.number b.number) refl (inserted_li
     both false true f g l = refl
     both false false f g l = refl
 
-    by : (t : Bool) → nat_lt c.number b.number ≡ t → like a (inserted b rest) ≡ like a (b ∷ rest)
-        → like a (if t then c ∷ inserted b rest else b ∷ c ∷ rest) ≡ like a (b ∷ c ∷ rest)
+    by : (t : Bool) → nat_lt c.number b.number ≡ t → like a (insert_data_block b rest) ≡ like a (b ∷ rest)
+        → like a (if t then c ∷ insert_data_block b rest else b ∷ c ∷ rest) ≡ like a (b ∷ c ∷ rest)
     by true e more =
         ap (λ l. cond (tied a c) (c ∷ l) l) more
         ∙ both (tied a b) (tied a c) refl refl (ltb-true c.number b.number e)
@@ -107,7 +107,7 @@ in_order_like a [] = refl
 in_order_like a (b ∷ rest) =
     inserted_like a b (in_order rest) ∙ ap (λ l. cond (tied a b) (b ∷ l) l) (in_order_like a rest)
 
-inserted_kept : (n : ℕ) (b : DataBlock) (rest : List DataBlock) → of_number n (inserted b rest) ≡ of_number n (b ∷ rest)
+inserted_kept : (n : ℕ) (b : DataBlock) (rest : List DataBlock) → of_number n (insert_data_block b rest) ≡ of_number n (b ∷ rest)
 inserted_kept n b [] = refl
 inserted_kept n b (c ∷ rest) = by (nat_lt c.number b.number) refl (inserted_kept n b rest)
   where
@@ -119,8 +119,8 @@ inserted_kept n b (c ∷ rest) = by (nat_lt c.number b.number) refl (inserted_ke
     both false true f g l = refl
     both false false f g l = refl
 
-    by : (t : Bool) → nat_lt c.number b.number ≡ t → of_number n (inserted b rest) ≡ of_number n (b ∷ rest)
-        → of_number n (if t then c ∷ inserted b rest else b ∷ c ∷ rest) ≡ of_number n (b ∷ c ∷ rest)
+    by : (t : Bool) → nat_lt c.number b.number ≡ t → of_number n (insert_data_block b rest) ≡ of_number n (b ∷ rest)
+        → of_number n (if t then c ∷ insert_data_block b rest else b ∷ c ∷ rest) ≡ of_number n (b ∷ c ∷ rest)
     by true e more =
         ap (λ l. cond (c.number == n) (c ∷ l) l) more
         ∙ both (b.number == n) (c.number == n) refl refl (ltb-true c.number b.number e)
@@ -161,7 +161,8 @@ only_one least (x ∷ xs) (y ∷ ys) r s h =
     (λ l. absurd (lacks y ys (x ∷ xs) (none_like y x.number (x ∷ xs) l (omega arith, r.1)) (sym (h y)))))
     (cases_order x.number y.number)
   where
-    tail : (z : DataBlock) → y ≡ z → (a : DataBlock) (t : Bool) → cond t (z ∷ like a xs) (like a xs) ≡ cond t (z ∷ like a ys) (like a ys) → like a xs ≡ like a ys
+    tail : (z : DataBlock) → y ≡ z → (a : DataBlock) (t : Bool)
+        → cond t (z ∷ like a xs) (like a xs) ≡ cond t (z ∷ like a ys) (like a ys) → like a xs ≡ like a ys
     tail z e a true g = cc
     tail z e a false g = g
 

@@ -3,7 +3,7 @@ use Rattle.std.specs.Prelude.{◌≡◌, Bool, true, false, List, Option, Some, 
 use Rattle.data_contents.specs.declared.content.Content.{Content}
 use Rattle.data_contents.specs.declared.content.Content.TheVariants as holds
 use Rattle.s7_base.specs.Broken.{first_of_all}
-use Rattle.s7_base.specs.declared.broken.Break.{Break}
+use Rattle.s7_base.specs.declared.rule_break.Break.{Break}
 use Rattle.stl_rules.specs.DataBlocks.{bytes_with}
 use Rattle.stl_rules.specs.Raw.{are_refused, most_in_block}
 use Rattle.stl_rules.specs.Stages.{valued_breaks}
@@ -14,8 +14,9 @@ use Rattle.stl_tree.specs.declared.raw.RawInitial.{RawInitial}
 abbrev pub first_in : List (List Declaration) → List RawInitial → Option Break
 first_in sections values = first_of_all (valued_breaks sections values)
 
--- a data block whose first broken rule is this one, and whose declarations break one or do not
-pub record Breaks (sections : List (List Declaration)) (values : List RawInitial) (refused : Bool) (first : Option Break) : Type 0 where
+-- the first broken rule of a data block is this one, and its declarations break one or do not
+pub record Breaks (sections : List (List Declaration)) (values : List RawInitial)
+    (refused : Bool) (first : Option Break) : Type 0 where
   pub refused_is : are_refused most_in_block sections ≡ refused
   pub first_is : first_in sections values ≡ first
 

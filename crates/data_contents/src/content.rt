@@ -1,4 +1,4 @@
-//! What a data block holds.
+//! The content of a data block.
 ghost use Rattle.std.specs.Prelude.{◌≡◌, IfOk};
 ghost use Rattle.data_contents.specs.Contents.{Holds};
 ghost use Rattle.data_contents.specs.inner.Inside.{AreKept};
@@ -12,10 +12,10 @@ use std::alloc::Global;
 use stl_tree::RawInitial;
 use symbol_layout::{MOST_IN_BLOCK, layout_of};
 
-/// What declarations and initial values of a data block come to.
+/// The result of the declarations and initial values of a data block.
 #[derive(Debug, Drop)]
 pub enum Content {
-    /// Its bytes: no rule is broken.
+    /// The bytes of the data block: no rule is broken.
     Bytes(List<u8>),
 
     /// The first broken rule where the declarations break one; no path into them is judged then.
@@ -25,7 +25,7 @@ pub enum Content {
     BadValues(Break),
 }
 
-/// A data block has two bytes at least.
+/// The bytes, or two zeros where there are fewer than two: a data block has two bytes at least.
 fn or_two(bytes: Vec<u8>) -> Result<List<u8>, NoMemory>
     ensures { IfOk result (λ all. all ≡ or_two bytes.items) }
 {
@@ -36,8 +36,8 @@ fn or_two(bytes: Vec<u8>) -> Result<List<u8>, NoMemory>
     Ok(List::from_vec(all))
 }
 
-/// What a data block holds whose declarations keep the rules, from their initial bytes.
-fn filled(
+/// The content of a data block whose declarations keep the rules, from their initial bytes.
+fn content_with_values(
     alloc: Global,
     components: &Components<'_>,
     values: &[RawInitial],
@@ -67,7 +67,7 @@ pub fn content_of(
     ensures { IfOk result (Holds components.now values.now) }
 {
     match layout_of(alloc, components.sections(), MOST_IN_BLOCK) {
-        Ok(layout) => filled(alloc, components, values, layout.initial),
+        Ok(layout) => content_with_values(alloc, components, values, layout.initial),
         Err(Rejection::Refused(line, rule)) => Ok(Content::BadDeclarations(Break { line, rule })),
         Err(Rejection::NoMemory) => Err(NoMemory),
     }

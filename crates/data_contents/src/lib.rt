@@ -1,8 +1,8 @@
-//! What a data block of a source holds: its bytes, or the first rule that it breaks, and data blocks in the order of
-//! their numbers.
+//! What a data block of a source holds: its bytes, or the first rule that it breaks, and data blocks in the
+//! order of their numbers.
 //!
-//! Stands on `symbol_layout` for the layout of the declarations, on `component_index` for the components that initial
-//! values name, and on `stl_rules` for what data blocks are.
+//! Uses `symbol_layout` for the layout of the declarations, `component_index` for the components that initial
+//! values name, and `stl_rules` for what data blocks are.
 #![tactic(auto)]
 
 mod content;

@@ -13,7 +13,7 @@ use stl_rules::Component;
 use stl_tree::{Constant, ElemType, RawInitial};
 use symbol_layout::{fits_width, value_in, width_of};
 
-/// A constant is a value of a component of this type.
+/// Whether a constant is a value of a component of this type.
 fn fits_kind(value: Constant, kind: Option<ElemType>) -> bool
     ensures { result ≡ fits_kind value kind }
 {
@@ -50,7 +50,7 @@ fn put_constant(bytes: &mut [u8], at: Component, value: Constant)
     }
 }
 
-/// The same where a path names a component.
+/// Puts a value into the component that a path names, where it names one, cut to its width.
 fn put_at(bytes: &mut [u8], at: Option<Component>, value: Constant)
     requires { IfSome at (IsInside (length bytes.old)) }
     ensures { bytes.new ≡ with_value_at bytes.old value at }
@@ -60,8 +60,8 @@ fn put_at(bytes: &mut [u8], at: Option<Component>, value: Constant)
     }
 }
 
-/// Puts an initial value, and notes the rule that it breaks. A value that breaks one is put all the same, so that
-/// the bytes are the defined ones whatever is noted.
+/// Puts an initial value, and notes the rule that it breaks. A value that breaks one is put too, so that the
+/// bytes are the defined ones whatever is noted.
 fn put_value(
     alloc: Global,
     components: &Components<'_>,

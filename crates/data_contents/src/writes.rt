@@ -1,14 +1,14 @@
 //! Numbers written into bytes, the highest byte first.
 ghost use Rattle.std.specs.Prelude.{◌≡◌, ◌+◌, ◌*◌, ◌/◌, ◌^◌, ◌<◌, ◌≤◌, if◌then◌else◌, length};
 ghost use Rattle.data_contents.specs.inner.Inside.{Lies};
-ghost use Rattle.memory_areas.specs.Areas.{byte_with, bytes_of_dword, bytes_of_word, replaced};
+ghost use Rattle.memory_areas.specs.Areas.{byte_with, bytes_of_dword, bytes_of_word, overwrite};
 ghost use Rattle.stl_rules.specs.DataBlocks.{with_number};
 ghost use Rattle.stl_tree.specs.Accumulators.{part};
 
 use s7_base::{Width, high_word, low_byte, low_word};
 use stl_rules::Component;
 
-/// What a bit is worth in a byte.
+/// The value of a bit in its byte: 1, 2, 4 to 128.
 fn weight_of(bit: u8) -> u32
     requires { bit < 8 }
     ensures same { result ≡ 2 ^ bit }
@@ -17,7 +17,7 @@ fn weight_of(bit: u8) -> u32
     1 << bit
 }
 
-/// What stands in a byte from a bit on.
+/// The bits of a byte from the bit of this weight upwards.
 fn from_bit(byte: u32, weight: u32) -> u32
     requires { 1 ≤ weight }
     ensures same { result ≡ byte / weight * weight }
@@ -26,7 +26,7 @@ fn from_bit(byte: u32, weight: u32) -> u32
     byte - byte % weight
 }
 
-/// What a bit adds to its byte.
+/// The weight of a bit that is set, else 0.
 fn worth_of(weight: u32, value: bool) -> u32
     ensures same { result ≡ (if value then weight else 0) }
     ensures few { result ≤ weight }
@@ -58,15 +58,15 @@ fn bytes_of_dword(word: u32) -> [u8; 4]
     [a, b, c, d]
 }
 
-/// Puts other bytes in the place of those from one on.
+/// Replaces the bytes from an index on by others.
 fn replace(bytes: &mut [u8], at: usize, new: &[u8])
     requires { at + length new.now ≤ length bytes.old }
-    ensures { bytes.new ≡ replaced bytes.old at new.now }
+    ensures { bytes.new ≡ overwrite bytes.old at new.now }
 {
     bytes[at..at + new.len()].copy_from_slice(new);
 }
 
-/// Puts the lowest bits of a number, so many as a width has, at the place of a component.
+/// Puts the lowest bits of a number, as many as a width has, at the place of a component.
 pub fn put_number(bytes: &mut [u8], at: Component, width: Width, number: u32)
     requires { Lies (length bytes.old) at width }
     ensures { bytes.new ≡ with_number bytes.old at width (part width number) }

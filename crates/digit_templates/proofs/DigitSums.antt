@@ -6,7 +6,7 @@ use Rattle.std.proofs.lemmas.Int.{ints}
 use Rattle.bcd_words.specs.Bcd.{digits, sign_digit, worth}
 use Rattle.memory_areas.specs.Access.{and_then}
 use Rattle.st_tree.proofs.Equations.{value_binary, value_literal, value_select, value_unary}
-use Rattle.st_tree.specs.Operators.{binary_value, divided, unary_value}
+use Rattle.st_tree.specs.Operators.{binary_value, division, unary_value}
 use Rattle.st_tree.specs.State.{State}
 use Rattle.st_tree.specs.Value.{value}
 use Rattle.st_tree.specs.Values.{fit, flag, is_set}
@@ -18,7 +18,7 @@ use Rattle.st_tree.specs.declared.expr.StType.{StType}
 use Rattle.st_tree.specs.declared.expr.StType.TheVariants as type
 use Rattle.st_tree.specs.declared.program.Located.{Located}
 use Rattle.st_tree.specs.declared.state.Value.{Value}
-use Rattle.row_templates.specs.Builders.{binary_of, constant_of}
+use Rattle.template_parts.specs.Builders.{binary_of, constant_of}
 use Rattle.digit_templates.specs.ToDigits.{amount_of, by_sign_of, digits_of, with_digit_of}
 
 -- a type has all numbers from 0 to less than this
@@ -32,7 +32,7 @@ pub lint_holds : Holds type.Lint (2 ^ 33)
 lint_holds m h = grind (arith, ints)
 
 divided_fits : (f : ℤ → ℤ → ℤ) (ty : StType) (x y z : ℤ) → int_eq y (pos 0) ≡ false → fit ty (f x y) ≡ z
-    → divided f (record { ty = ty; n = x }) (record { ty = ty; n = y }) ≡ Ok (record { ty = ty; n = z })
+    → division f (record { ty = ty; n = x }) (record { ty = ty; n = y }) ≡ Ok (record { ty = ty; n = z })
 divided_fits f ty x y z e w = rw (e, w) refl
 
 module _ (g : List Located) (s : State) (ty : StType) (room : ℕ) (holds : Holds ty room) where
@@ -104,7 +104,8 @@ module _ (g : List Located) (s : State) (ty : StType) (room : ℕ) (holds : Hold
       six_digits = with_digit (digits_of ty amount 4) _ 100000 1048576 five_digits refl (omega arith) (omega arith) (omega arith) (omega arith)
 
       pub seven_digits : IsNumber (digits_of ty amount 6)
-          (n % 10 + n / 10 % 10 * 16 + n / 100 % 10 * 256 + n / 1000 % 10 * 4096 + n / 10000 % 10 * 65536 + n / 100000 % 10 * 1048576 + n / 1000000 % 10 * 16777216)
+          (n % 10 + n / 10 % 10 * 16 + n / 100 % 10 * 256 + n / 1000 % 10 * 4096
+          + n / 10000 % 10 * 65536 + n / 100000 % 10 * 1048576 + n / 1000000 % 10 * 16777216)
       seven_digits = with_digit (digits_of ty amount 5) _ 1000000 16777216 six_digits refl (omega arith) (omega arith) (omega arith) (omega arith)
 
 -- By the sign of a number
@@ -128,7 +129,8 @@ module _ (g : List Located) (s : State) (ty : StType) (number : Expr) (z : ℤ) 
 
 -- The patterns that the rows name
 
-pub word_pattern : (n : ℕ) (z : ℤ) → n % 10 + n / 10 % 10 * 16 + n / 100 % 10 * 256 + (if int_lt z (pos 0) then 0xF000 else 0) ≡ worth 16 (digits 10 3 n ++ sign_digit z ∷ [])
+pub word_pattern : (n : ℕ) (z : ℤ)
+    → n % 10 + n / 10 % 10 * 16 + n / 100 % 10 * 256 + (if int_lt z (pos 0) then 0xF000 else 0) ≡ worth 16 (digits 10 3 n ++ sign_digit z ∷ [])
 word_pattern n z = by (int_lt z (pos 0))
   where
     by : (b : Bool) → n % 10 + n / 10 % 10 * 16 + n / 100 % 10 * 256 + (if b then 0xF000 else 0) ≡ worth 16 (digits 10 3 n ++ (if b then 0xF else 0) ∷ [])
@@ -141,7 +143,9 @@ pub dword_pattern : (n : ℕ) (z : ℤ)
     ≡ worth 16 (digits 10 7 n ++ sign_digit z ∷ [])
 dword_pattern n z = by (int_lt z (pos 0))
   where
-    by : (b : Bool) → n % 10 + n / 10 % 10 * 16 + n / 100 % 10 * 256 + n / 1000 % 10 * 4096 + n / 10000 % 10 * 65536 + n / 100000 % 10 * 1048576 + n / 1000000 % 10 * 16777216
+    by : (b : Bool)
+        → n % 10 + n / 10 % 10 * 16 + n / 100 % 10 * 256 + n / 1000 % 10 * 4096
+        + n / 10000 % 10 * 65536 + n / 100000 % 10 * 1048576 + n / 1000000 % 10 * 16777216
         + (if b then 0xF0000000 else 0)
         ≡ worth 16 (digits 10 7 n ++ (if b then 0xF else 0) ∷ [])
     by true = omega arith

@@ -1,5 +1,5 @@
 pub mod DigitSums
-pub mod FromDigitRows
-pub mod LawRows
+pub mod FromDigitEffects
+pub mod Serving
 pub mod PlainDigits
-pub mod ToDigitRows
+pub mod ToDigitEffects

@@ -9,7 +9,7 @@ use Rattle.stl_tree.specs.Reads.{reads_of}
 use Rattle.stl_tree.specs.declared.accumulator.UnaryRow.TheVariants as row
 use Rattle.stl_tree.specs.declared.program.Op.TheVariants as op
 use Rattle.st_tree.specs.TypeRules.{type_of_unary, type_on_equals}
-use Rattle.st_tree.specs.WellTyped.{Sight, variable_type}
+use Rattle.st_tree.specs.WellTyped.{UnitScope, variable_type}
 use Rattle.st_tree.specs.declared.expr.BinaryOp.TheVariants as binary
 use Rattle.st_tree.specs.declared.expr.Expr.{Expr}
 use Rattle.st_tree.specs.declared.expr.StType.{StType}
@@ -18,19 +18,19 @@ use Rattle.st_tree.specs.declared.expr.UnaryOp.TheVariants as unary
 use Rattle.st_tree.specs.declared.expr.Var.TheVariants as var
 use Rattle.st_tree.specs.declared.program.Stmt.{Stmt}
 use Rattle.graph_rules.specs.Divisors.{IsSureDivisor}
-use Rattle.row_templates.specs.Builders.{constant_of}
-use Rattle.row_templates.proofs.ReadRegisters.{AllRead, Has, variables_read}
-use Rattle.row_templates.specs.Templates.{AreTyped, IsPlainBody}
-use Rattle.row_templates.proofs.Typing.{IsOf, binary_is, constant_is, convert_is, first_typed, local_is, local_plain, or_is, quotient_is, register_is, remainder_is, select_is, set_plain, unary_is}
+use Rattle.template_parts.specs.Builders.{constant_of}
+use Rattle.template_parts.proofs.ReadRegisters.{AllRead, Has, variables_read}
+use Rattle.template_parts.specs.Templates.{AreTyped, IsPlainBody}
+use Rattle.template_parts.proofs.Typing.{IsOf, binary_is, constant_is, convert_is, first_typed, local_is, local_plain, or_is, quotient_is, register_is, remainder_is, select_is, set_plain, unary_is}
 use Rattle.digit_templates.specs.FromDigits.{btd_of, bti_of, types_of_btd, types_of_bti}
 use Rattle.digit_templates.proofs.DigitSums.{Holds, dint_holds, lint_holds}
-use Rattle.row_templates.specs.Builders.{with_low_of}
-use Rattle.digit_templates.specs.ToDigits.{by_sign_of, digits_of, dtb_of, itb_of, measured_of, signed_of, types_of_dtb, types_of_itb, with_digit_of, written_of}
+use Rattle.template_parts.specs.Builders.{with_low_of}
+use Rattle.digit_templates.specs.ToDigits.{by_sign_of, digits_of, dtb_of, itb_of, measured_of, under_sign_of, types_of_dtb, types_of_itb, with_digit_of, written_of}
 
 -- Types
 
 -- a local of a type
-abbrev IsLocal : Sight → ℕ → StType → Type 0
+abbrev IsLocal : UnitScope → ℕ → StType → Type 0
 IsLocal sight i ty = variable_type sight (var.Local i) ≡ Some ty
 
 equals_itself : (n : ℕ) → int_eq (pos n) (pos n) ≡ true
@@ -39,7 +39,7 @@ equals_itself n = grind (arith, ints)
 above_zero : (n : ℕ) → 1 ≤ n → pos n ≢ pos 0
 above_zero n some e = let none : n ≡ 0 = ap unsigned_abs e in absurd (omega arith)
 
-module _ (sight : Sight) where
+module _ (sight : UnitScope) where
   low_is : {n : ℕ} {e : Expr} → IsOf sight type.Word n e → IsOf sight type.Dword (1 + max (1 + max 1 1) (1 + n)) (with_low_of e)
   low_is h =
       binary_is sight binary.Or tt refl (binary_is sight binary.And tt refl (register_is sight reg.Accu1) (constant_is sight refl))
@@ -68,7 +68,8 @@ module _ (sight : Sight) where
     three_is : {amount : Expr} → IsOf sight ty 1 amount → IsOf sight ty 6 (digits_of ty amount 2)
     three_is a =
         digit_is 100 256 (omega arith) (omega arith) (omega arith) a
-        (digit_is 10 16 (omega arith) (omega arith) (omega arith) a (remainder_is sight (literal_divisor 10 (omega arith)) remainders a (number_is 10 (omega arith))))
+        (digit_is 10 16 (omega arith) (omega arith) (omega arith) a
+        (remainder_is sight (literal_divisor 10 (omega arith)) remainders a (number_is 10 (omega arith))))
 
     seven_is : {amount : Expr} → IsOf sight ty 1 amount → IsOf sight ty 10 (digits_of ty amount 6)
     seven_is a =
@@ -81,7 +82,7 @@ module _ (sight : Sight) where
     sign_is i h k = select_is sight (binary_is sight binary.Lt tt less i (number_is 0 (omega arith))) h k
 
     signed_is : {n : ℕ} {number digits : Expr} (sign : ℕ) → sign < room → IsOf sight ty 1 number → IsOf sight ty n digits
-        → IsOf sight ty (1 + max n 3) (signed_of ty number digits (pos sign))
+        → IsOf sight ty (1 + max n 3) (under_sign_of ty number digits (pos sign))
     signed_is sign h i d = binary_is sight binary.Add tt sums d (sign_is i (number_is 0 (omega arith)) (number_is sign h))
 
     written_plain : {m n : ℕ} {number pattern written : Expr} (used greatest : ℕ) (rest : List Stmt) → greatest < room → m ≤ 32 → n ≤ 31
@@ -98,7 +99,7 @@ module _ (sight : Sight) where
         (set_plain sight _ _ _ (omega arith) (or_is sight (register_is sight reg.Os) (local_is sight third))
         (set_plain sight _ _ _ (omega arith) (select_is sight (local_is sight third) w (register_is sight reg.Accu1)) plain))))))
 
-module _ (sight : Sight) (used : ℕ) (rest : List Stmt) (plain : IsPlainBody sight rest) where
+module _ (sight : UnitScope) (used : ℕ) (rest : List Stmt) (plain : IsPlainBody sight rest) where
   pub bti_plain : AreTyped sight used types_of_bti → IsPlainBody sight (bti_of used ++ rest)
   bti_plain types =
       let first : IsLocal sight used type.Int = first_typed sight used type.Int [] types in
@@ -125,7 +126,8 @@ module _ (sight : Sight) (used : ℕ) (rest : List Stmt) (plain : IsPlainBody si
   dtb_plain types =
       let first : IsLocal sight used type.Lint = first_typed sight used type.Lint (type.Lint ∷ type.Bool ∷ type.Lint ∷ []) types in
       let second : IsLocal sight (used + 1) type.Lint = types 1 type.Lint refl in
-      written_plain sight type.Lint refl refl refl refl refl refl refl (2 ^ 33) lint_holds (omega arith) used 9999999 rest (omega arith) (omega arith) (omega arith)
+      written_plain sight type.Lint refl refl refl refl refl refl refl (2 ^ 33) lint_holds
+      (omega arith) used 9999999 rest (omega arith) (omega arith) (omega arith)
       first second (types 2 type.Bool refl) (types 3 type.Lint refl) (convert_is sight refl (convert_is sight refl (register_is sight reg.Accu1)))
       (signed_is sight type.Lint refl refl refl refl refl refl refl (2 ^ 33) lint_holds (omega arith) 0xF0000000 (omega arith) (local_is sight first)
       (seven_is sight type.Lint refl refl refl refl refl refl refl (2 ^ 33) lint_holds (omega arith) (local_is sight second)))

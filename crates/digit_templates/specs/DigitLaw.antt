@@ -2,7 +2,7 @@
 use Rattle.std.specs.Prelude.{ℕ}
 use Rattle.stl_tree.specs.declared.accumulator.UnaryRow.TheVariants as unary
 use Rattle.stl_tree.specs.declared.program.Op.TheVariants as op
-use Rattle.row_templates.specs.Templates.{Serves}
+use Rattle.template_parts.specs.Templates.{Serves}
 use Rattle.digit_templates.specs.FromDigits.{btd_of, bti_of, types_of_btd, types_of_bti}
 use Rattle.digit_templates.specs.ToDigits.{dtb_of, itb_of, types_of_dtb, types_of_itb}
 

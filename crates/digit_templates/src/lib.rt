@@ -1,7 +1,7 @@
 //! The statements of the conversions from and to numbers in decimal digits: BTI, BTD, ITB and DTB.
 //!
-//! Stands on `row_templates`, of whose parts they are made. The code pushes them and tells the types of the locals that
-//! these take. The crate promises that they do what the instructions do, and what else is asked of a template
+//! Uses `template_parts`, of whose parts they are made. The code appends them and gives the types of their
+//! locals. The crate promises that they do what the instructions do, and what else is asked of a template
 //! (`digits_serve`).
 #![tactic(auto)]
 

@@ -3,15 +3,15 @@
 //! Four locals are taken, from `first` on: the number, its amount, whether it has too many digits, and the pattern of
 //! its digits.
 ghost use Rattle.std.specs.Prelude.{◌≡◌, ◌<◌, ◌+◌, ◌^◌, ◌++◌, pos, IfOk, OnOk};
-ghost use Rattle.digit_templates.specs.ToDigits.{amount_of, below_zero_of, digits_of, dtb_of, itb_of, measured_of, noted_of, placed_digit_of, sign_digit_of, signed_of, taken_of, types_of_dtb, types_of_itb, with_digit_of};
-ghost use Rattle.row_templates.specs.Builders.{local_of};
+ghost use Rattle.digit_templates.specs.ToDigits.{amount_of, below_zero_of, digits_of, dtb_of, itb_of, measured_of, noted_of, placed_digit_of, sign_digit_of, under_sign_of, taken_of, types_of_dtb, types_of_itb, with_digit_of};
+ghost use Rattle.template_parts.specs.Builders.{local_of};
 
-use row_templates::{
-    binary, constant, convert, local, or, read, select, set, set_local, unary, with_low,
-};
 use s7_base::{List, NoMemory, Reg};
 use st_tree::{BinaryOp, Expr, StType, Stmt, UnaryOp};
 use std::alloc::Global;
+use template_parts::{
+    binary, constant, convert, local, or, read, select, set_local, set_register, unary, with_low,
+};
 
 /// The statements of ITB.
 pub fn push_itb(alloc: Global, steps: &mut List<Stmt>, first: u32) -> Result<(), NoMemory>
@@ -23,14 +23,14 @@ pub fn push_itb(alloc: Global, steps: &mut List<Stmt>, first: u32) -> Result<(),
     let number = convert(alloc, StType::Int, ty, word)?;
     push_measured(alloc, steps, ty, first, number, 999)?;
     let digits = three_digits(alloc, ty, first + 1)?;
-    let pattern = signed(alloc, ty, first, digits, 0xF000)?;
+    let pattern = under_sign(alloc, ty, first, digits, 0xF000)?;
     push_noted(alloc, steps, first, pattern)?;
     let word = convert(alloc, ty, StType::Word, local(first + 3))?;
     let written = with_low(alloc, word)?;
     push_taken(alloc, steps, first, written)
 }
 
-/// The types of its locals.
+/// The types of the locals of ITB.
 pub fn types_of_itb() -> &'static [StType]
     ensures { result.now ≡ types_of_itb }
 {
@@ -47,20 +47,20 @@ pub fn push_dtb(alloc: Global, steps: &mut List<Stmt>, first: u32) -> Result<(),
     let number = convert(alloc, StType::Dint, ty, dword)?;
     push_measured(alloc, steps, ty, first, number, 9_999_999)?;
     let digits = seven_digits(alloc, ty, first + 1)?;
-    let pattern = signed(alloc, ty, first, digits, 0xF000_0000)?;
+    let pattern = under_sign(alloc, ty, first, digits, 0xF000_0000)?;
     push_noted(alloc, steps, first, pattern)?;
     let written = convert(alloc, ty, StType::Dword, local(first + 3))?;
     push_taken(alloc, steps, first, written)
 }
 
-/// The types of its locals.
+/// The types of the locals of DTB.
 pub fn types_of_dtb() -> &'static [StType]
     ensures { result.now ≡ types_of_dtb }
 {
     &[StType::Lint, StType::Lint, StType::Bool, StType::Lint]
 }
 
-/// The number, its amount, and whether that is greater than the greatest with all digits.
+/// The first three locals take the number, its amount, and whether that is too great for the digits.
 fn push_measured(
     alloc: Global,
     steps: &mut List<Stmt>,
@@ -84,7 +84,7 @@ fn push_measured(
     steps.push(set_local(first + 2, over))
 }
 
-/// The pattern, and the overflow.
+/// The fourth local takes the pattern, and OV and OS take the overflow.
 fn push_noted(
     alloc: Global,
     steps: &mut List<Stmt>,
@@ -95,12 +95,12 @@ fn push_noted(
     ensures { OnOk result (steps.new ≡ steps.old ++ noted_of first pattern) }
 {
     steps.push(set_local(first + 3, pattern))?;
-    steps.push(set(Reg::Ov, local(first + 2)))?;
+    steps.push(set_register(Reg::Ov, local(first + 2)))?;
     let overflowed = or(alloc, read(Reg::Os), local(first + 2))?;
-    steps.push(set(Reg::Os, overflowed))
+    steps.push(set_register(Reg::Os, overflowed))
 }
 
-/// ACCU1, which takes `written` where there is no overflow.
+/// ACCU1 takes `written` where there is no overflow.
 fn push_taken(
     alloc: Global,
     steps: &mut List<Stmt>,
@@ -111,7 +111,7 @@ fn push_taken(
     ensures { OnOk result (steps.new ≡ steps.old ++ taken_of first written) }
 {
     let accu1 = select(alloc, local(first + 2), written, read(Reg::Accu1))?;
-    steps.push(set(Reg::Accu1, accu1))
+    steps.push(set_register(Reg::Accu1, accu1))
 }
 
 /// Whether the number in a local is below 0.
@@ -189,8 +189,14 @@ fn sign_digit(alloc: Global, ty: StType, number: u32, sign: i64) -> Result<Expr,
 }
 
 /// Digits under the sign digit of the number in a local.
-fn signed(alloc: Global, ty: StType, number: u32, digits: Expr, sign: i64) -> Result<Expr, NoMemory>
-    ensures { IfOk result (λ value. value ≡ signed_of ty (local_of number) digits sign) }
+fn under_sign(
+    alloc: Global,
+    ty: StType,
+    number: u32,
+    digits: Expr,
+    sign: i64,
+) -> Result<Expr, NoMemory>
+    ensures { IfOk result (λ value. value ≡ under_sign_of ty (local_of number) digits sign) }
 {
     let above = sign_digit(alloc, ty, number, sign)?;
     binary(alloc, BinaryOp::Add, digits, above)

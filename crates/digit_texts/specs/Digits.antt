@@ -1,11 +1,13 @@
--- Digits in texts, and the numbers that they write.
+-- Digits in texts and their numbers. Digits are decimal or hexadecimal; a number is kept within 32 bits, or has a
+-- bound.
+-- Held against: this project's own digits.
 use Rattle.std.specs.Prelude.{ℕ, ◌+◌, ◌*◌, ◌-◌, ◌^◌, min, Bool, false, ◌&&◌, nat_le, nat_lt, if◌then◌else◌, List, [], ◌∷◌, Option, Some, None}
 use Rattle.std.specs.List.{list_all, prefix_len}
 use Rattle.s7_base.specs.Tokens.{is_between}
 
 -- Decimal digits
 
--- a decimal digit
+-- a byte is a decimal digit
 abbrev pub is_digit : ℕ → Bool
 is_digit b = is_between 48 57 b
 
@@ -14,26 +16,26 @@ abbrev pub are_digits : List ℕ → Bool
 are_digits [] = false
 are_digits (digit ∷ rest) = list_all is_digit (digit ∷ rest)
 
--- how many digits stand at the front
+-- how many digits a text begins with
 abbrev pub digits_size : List ℕ → ℕ
 digits_size text = prefix_len is_digit text
 
 -- Decimal numbers
 
--- the number that digits write behind those of a number
+-- the number that digits write after those of a number
 abbrev pub written_from : ℕ → List ℕ → ℕ
 written_from before [] = before
 written_from before (digit ∷ rest) = written_from (before * 10 + (digit - 48)) rest
 
--- a number that is kept in 32 bits; one past the greatest is kept as that one
-abbrev pub kept : ℕ → ℕ
-kept n = min n (2 ^ 32 - 1)
+-- a number that is kept in 32 bits; one above 4,294,967,295 is kept as that number
+abbrev pub capped_number : ℕ → ℕ
+capped_number n = min n (2 ^ 32 - 1)
 
--- a number of any size, so kept; leading zeros are allowed
+-- a number of any size, kept in 32 bits; leading zeros are allowed
 abbrev pub kept_number : List ℕ → Option ℕ
-kept_number digits = if are_digits digits then Some (kept (written_from 0 digits)) else None
+kept_number digits = if are_digits digits then Some (capped_number (written_from 0 digits)) else None
 
--- the number that digits write behind those of a number, where it is at most `most`
+-- the number that digits write after those of a number, where it is at most `most`
 abbrev pub bounded_from : ℕ → ℕ → List ℕ → Option ℕ
 bounded_from most before [] = Some before
 bounded_from most before (digit ∷ rest) =

@@ -1,23 +1,23 @@
-//! Digits, decimal and hexadecimal.
+//! Decimal and hexadecimal digits.
 ghost use Rattle.std.specs.Prelude.{◌≡◌, ◌<◌, IfSome};
 ghost use Rattle.std.specs.List.{list_all};
 ghost use Rattle.digit_texts.specs.Digits.{are_digits, digits_size, hex_digit, hex_value, is_digit};
 
-/// 0 to 9.
+/// Whether a byte is a decimal digit.
 pub fn is_digit(b: u8) -> bool
     ensures { result ≡ is_digit b }
 {
     b.is_ascii_digit()
 }
 
-/// Nothing but digits; there may be none.
+/// Whether a text has nothing but digits; it may be empty.
 pub fn all_digits(word: &[u8]) -> bool
     ensures { result ≡ list_all is_digit word.now }
 {
     word.iter().all(|b| is_digit(*b))
 }
 
-/// One or more digits, and nothing else.
+/// Whether a text is one or more digits and nothing else.
 pub fn are_digits(word: &[u8]) -> bool
     ensures { result ≡ are_digits word.now }
 {
@@ -27,14 +27,14 @@ pub fn are_digits(word: &[u8]) -> bool
     }
 }
 
-/// How many digits stand at the front.
+/// How many digits a text begins with.
 pub fn digits_size(text: &[u8]) -> usize
     ensures { result ≡ digits_size text.now }
 {
     text.iter().take_while(|b| is_digit(**b)).count()
 }
 
-/// The value of a hexadecimal digit, small or capital.
+/// The value of a hexadecimal digit, 0 to 15; the digit may be a small letter or a capital.
 pub fn hex_value(digit: u8) -> Option<u8>
     ensures value { result ≡ hex_value digit }
     ensures within { IfSome result (λ value. value < 16) }

@@ -1,21 +1,21 @@
 //! Decimal numbers, digit by digit.
 ghost use Rattle.std.specs.Prelude.{◌≡◌, ◌+◌, ◌*◌, ◌-◌, ◌≤◌, ◌&&◌, nat_le, IfSome};
-ghost use Rattle.digit_texts.specs.Digits.{is_digit, kept, kept_number, number_up_to, written_from};
+ghost use Rattle.digit_texts.specs.Digits.{is_digit, capped_number, kept_number, number_up_to, written_from};
 
 use crate::digit::are_digits;
 
 /// A number that is kept in 32 bits, with one digit more.
 fn with_digit(before: u32, digit: u8) -> u32
-    ensures { result ≡ kept (before * 10 + (digit - 48)) }
+    ensures { result ≡ capped_number (before * 10 + (digit - 48)) }
 {
     before
         .saturating_mul(10)
         .saturating_add(u32::from(digit.saturating_sub(b'0')))
 }
 
-/// The number that digits write; one past the greatest of 32 bits is kept as that one.
+/// The number that digits write; one above 4,294,967,295 is kept as that number.
 pub fn number_value(digits: &[u8]) -> u32
-    ensures { result ≡ kept (written_from 0 digits.now) }
+    ensures { result ≡ capped_number (written_from 0 digits.now) }
 {
     let mut value = 0;
     for digit in digits {
@@ -24,7 +24,7 @@ pub fn number_value(digits: &[u8]) -> u32
     value
 }
 
-/// A decimal number of any size, so kept, with any number of leading zeros.
+/// A decimal number with any number of leading zeros; one above 4,294,967,295 is kept as that number.
 pub fn kept_number(digits: &[u8]) -> Option<u32>
     ensures { result ≡ kept_number digits.now }
 {

@@ -5,7 +5,7 @@ use Rattle.std.specs.List.{flat_map}
 use Rattle.st_tree.proofs.Common.{flat_map-append}
 use Rattle.s7_base.specs.declared.word.Width.{Width}
 use Rattle.st_tree.proofs.PartEquations.{expressions_in_append}
-use Rattle.st_tree.specs.Parts.{expressions_in}
+use Rattle.st_tree.specs.BodyParts.{expressions_in}
 use Rattle.st_tree.specs.declared.expr.BinaryOp.{BinaryOp}
 use Rattle.st_tree.specs.declared.expr.BinaryOp.TheVariants as binary
 use Rattle.st_tree.specs.declared.expr.Expr.{Expr, para-roll-Expr}

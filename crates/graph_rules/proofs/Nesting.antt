@@ -4,7 +4,7 @@ use Rattle.std.specs.Prelude.{nat_lt}
 use Rattle.st_tree.proofs.Induction.{Both, folds_related}
 use Rattle.st_tree.specs.Form.{Form, canon, canon_step, group, infix_level, level, unary_form, wrap}
 use Rattle.st_tree.specs.Nesting.{expression_nesting, form_height, form_nesting}
-use Rattle.st_tree.specs.Parts.{height, height_step}
+use Rattle.st_tree.specs.BodyParts.{height, height_step}
 use Rattle.st_tree.specs.declared.expr.Expr.{Expr, map-Expr}
 use Rattle.st_tree.specs.declared.expr.Expr.TheOpen as E
 use Rattle.st_tree.specs.declared.expr.UnaryOp.{UnaryOp}
@@ -40,7 +40,8 @@ one_operand unary.BcdToInt f n h = (omega (arith, h.0), omega (arith, h.1))
 one_operand unary.BcdToDint f n h = (omega (arith, h.0), omega (arith, h.1))
 
 -- one layer, whatever bounded operands it has
-layer : (y : E.Expr-F (Both IsBounded)) → IsBounded (canon_step (map-Expr (Both IsBounded) Form (λ x. x.0) y)) (height_step (map-Expr (Both IsBounded) ℕ (λ x. x.1) y))
+layer : (y : E.Expr-F (Both IsBounded))
+    → IsBounded (canon_step (map-Expr (Both IsBounded) Form (λ x. x.0) y)) (height_step (map-Expr (Both IsBounded) ℕ (λ x. x.1) y))
 layer (E.Literal ty n) = (omega arith, omega arith)
 layer (E.Read v) = (omega arith, omega arith)
 layer (E.Unary op a) = one_operand op a.0 a.1 a.2

@@ -7,7 +7,7 @@ use Rattle.std.proofs.lemmas.List.{append-nil}
 use Rattle.std.proofs.lemmas.List.Elements.{All-cons, All-nil}
 use Rattle.s7_base.specs.declared.word.Width.{Width}
 use Rattle.st_tree.proofs.PartEquations.{out_area_write, out_assign, reads_of_area_read, reads_of_binary, reads_of_convert, reads_of_literal, reads_of_read, reads_of_select, reads_of_shift, reads_of_unary}
-use Rattle.st_tree.specs.Parts.{call_step, expressions_step, reads_of}
+use Rattle.st_tree.specs.BodyParts.{call_step, expressions_step, reads_of}
 use Rattle.st_tree.specs.declared.expr.Expr.{Expr}
 use Rattle.st_tree.specs.declared.expr.Var.{Var}
 use Rattle.st_tree.specs.declared.expr.Var.TheVariants as var
@@ -28,7 +28,8 @@ read_by_assign v e =
 
 pub read_by_area_write : (w : Width) (p e : Expr) → read_by (stmt.AreaWrite w p e) ≡ reads_of p ++ reads_of e
 read_by_area_write w p e =
-    ap (λ (y : S.Stmt-F Stmt Arm CaseArm). flat_map reads_of (expressions_step y) ++ flat_map (λ (call : ℕ × List Var). call.1) (call_step y)) (out_area_write w p e)
+    ap (λ (y : S.Stmt-F Stmt Arm CaseArm). flat_map reads_of (expressions_step y) ++ flat_map (λ (call : ℕ × List Var). call.1) (call_step y))
+    (out_area_write w p e)
     ∙ append-nil (reads_of p ++ (reads_of e ++ [])) ∙ ap (λ (vs : List Var). reads_of p ++ vs) (append-nil (reads_of e))
 
 -- runs in two parts
@@ -94,7 +95,8 @@ all_written w written (v ∷ vs) h has = all_written w written vs h has
 
 -- one more local is written
 one_more : (w i : ℕ) (written : List ℕ) → i ≡ w → ((j : ℕ) → j < w → IsWritten written j) → (j : ℕ) → j < suc w → IsWritten (i ∷ written) j
-one_more w i written e has j h = ⊎_elim (λ (same : suc j ≡ suc w). inl (omega (arith, same, e))) (λ (less : suc j < suc w). inr (has j (omega (arith, less)))) (eq-or-lt_of_le h)
+one_more w i written e has j h =
+    ⊎_elim (λ (same : suc j ≡ suc w). inl (omega (arith, same, e))) (λ (less : suc j < suc w). inr (has j (omega (arith, less)))) (eq-or-lt_of_le h)
 
 -- what an assignment and an area write leave written
 after_assign : (written : List ℕ) (v : Var) (e : Expr) → written_after written (stmt.Assign v e) ≡ written_step written (S.Assign v e)
@@ -109,7 +111,8 @@ pub record IsInOrder (w : ℕ) (written : List ℕ) (xs : List Stmt) : Type 0 wh
   pub more : (i : ℕ) → i < w + locals_set xs → IsWritten (written_by_more written xs) i
 
 -- one statement, and then others
-module _ (written : List ℕ) (x : Stmt) (rest : List Stmt) (vs : List Var) (reads : read_by x ≡ vs) (after : List ℕ) (writes : written_after written x ≡ after) where
+module _ (written : List ℕ) (x : Stmt) (rest : List Stmt) (vs : List Var)
+    (reads : read_by x ≡ vs) (after : List ℕ) (writes : written_after written x ≡ after) where
   one_run : AreWritten written (locals_of vs) → AreOfRun after rest → AreOfRun written (x ∷ rest)
   one_run h k =
       (subst (λ (us : List Var). AreWritten written (locals_of us)) (sym reads) h, subst (λ (now : List ℕ). AreOfRun now rest) (sym writes) k)
@@ -124,7 +127,9 @@ in_order w written (stmt.Assign (var.Local i) e ∷ rest) h has =
     let others = in_order (suc w) (i ∷ written) rest (omega (arith, h)) (one_more w i written (omega (arith, h)) has) in
     let x : Stmt = stmt.Assign v e in
     record {
-      run = one_run written x rest (reads_of e) (read_by_assign v e) (i ∷ written) (after_assign written v e) (all_written w written (reads_of e) (omega (arith, h)) has) others.run;
+      run =
+          one_run written x rest (reads_of e) (read_by_assign v e) (i ∷ written) (after_assign written v e)
+          (all_written w written (reads_of e) (omega (arith, h)) has) others.run;
       more = λ j less.
           subst (λ (now : List ℕ). IsWritten now j) (sym (one_by written x rest (reads_of e) (read_by_assign v e) (i ∷ written) (after_assign written v e)))
           (others.more j (omega (arith, less)));
@@ -137,16 +142,20 @@ in_order w written (stmt.AreaWrite z p e ∷ rest) h has =
       run = one_run written x rest (reads_of p ++ reads_of e) (read_by_area_write z p e) written (after_area_write written z p e)
           (all_written w written (reads_of p ++ reads_of e) few has) others.run;
       more = λ j less.
-          subst (λ (now : List ℕ). IsWritten now j) (sym (one_by written x rest (reads_of p ++ reads_of e) (read_by_area_write z p e) written (after_area_write written z p e)))
+          subst (λ (now : List ℕ). IsWritten now j)
+          (sym (one_by written x rest (reads_of p ++ reads_of e) (read_by_area_write z p e) written (after_area_write written z p e)))
           (others.more j less);
     }
 in_order w written (stmt.Assign v e ∷ rest) h has =
     let others = in_order w written rest (omega (arith, h)) has in
     let x : Stmt = stmt.Assign v e in
     record {
-      run = one_run written x rest (reads_of e) (read_by_assign v e) written (after_assign written v e) (all_written w written (reads_of e) (omega (arith, h)) has) others.run;
+      run =
+          one_run written x rest (reads_of e) (read_by_assign v e) written (after_assign written v e)
+          (all_written w written (reads_of e) (omega (arith, h)) has) others.run;
       more = λ j less.
-          subst (λ (now : List ℕ). IsWritten now j) (sym (one_by written x rest (reads_of e) (read_by_assign v e) written (after_assign written v e))) (others.more j less);
+          subst (λ (now : List ℕ). IsWritten now j)
+          (sym (one_by written x rest (reads_of e) (read_by_assign v e) written (after_assign written v e))) (others.more j less);
     }
 in_order w written (x ∷ rest) h has = absurd (omega (arith, h))
 

@@ -1,6 +1,6 @@
 -- By what the expressions of a body divide.
 use Rattle.std.specs.Prelude.{◌≡◌, ◌≢◌, ℤ, pos, List, [], ◌∷◌, ◌++◌, flat_map, ◌⊎◌}
-use Rattle.st_tree.specs.Parts.{expressions_in}
+use Rattle.st_tree.specs.BodyParts.{expressions_in}
 use Rattle.st_tree.specs.declared.expr.BinaryOp.TheVariants as binary
 use Rattle.st_tree.specs.declared.expr.Expr.{Expr, para-Expr}
 use Rattle.st_tree.specs.declared.expr.Expr.TheOpen as E
@@ -25,11 +25,11 @@ divisors_step (E.AreaRead w pointer) = pointer.1
 abbrev pub divisors_of : Expr → List Expr
 divisors_of = para-Expr (List Expr) divisors_step
 
--- those in the expressions of a body
+-- the right operands of `/` and MOD in the expressions of a body
 abbrev pub divisors_in : List Stmt → List Expr
 divisors_in body = flat_map divisors_of (expressions_in body)
 
--- a number, and 1 in the place of 0: SEL(d = 0, d, 1)
+-- a number, but 1 where it is 0: SEL(d = 0, d, 1)
 abbrev pub one_for_zero : StType → Expr → Expr
 one_for_zero ty d =
     expr.Select (expr.Binary binary.Eq d (expr.Literal ty (pos 0))) d (expr.Literal ty (pos 1))
@@ -41,12 +41,12 @@ pub record IsOtherThanZero (e : Expr) : Type 0 where
   pub literal : e ≡ expr.Literal ty number
   pub other : number ≢ pos 0
 
--- a number, and 1 in the place of 0
+-- a number, but 1 where it is 0
 pub record IsOneForZero (e : Expr) : Type 0 where
   pub ty : StType
   pub number : Expr
   pub select : e ≡ one_for_zero ty number
 
--- no division by it has a fault
+-- no division by this expression has a fault
 abbrev pub IsSureDivisor : Expr → Type 0
 IsSureDivisor e = IsOtherThanZero e ⊎ IsOneForZero e

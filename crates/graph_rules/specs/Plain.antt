@@ -4,7 +4,7 @@ use Rattle.s7_base.specs.declared.register.Reg.TheVariants as reg
 use Rattle.memory_areas.specs.declared.place.AreaName.TheVariants as area
 use Rattle.graph_rules.specs.Divisors.{IsSureDivisor, divisors_in}
 use Rattle.graph_rules.specs.Runs.{AreOfRuns, AreWritten, locals_of, written_by}
-use Rattle.st_tree.specs.Parts.{calls_in, expressions_in, height, reads_of}
+use Rattle.st_tree.specs.BodyParts.{calls_in, expressions_in, height, reads_of}
 use Rattle.st_tree.specs.Proper.{Proper}
 use Rattle.st_tree.specs.declared.expr.BinaryOp.TheVariants as binary
 use Rattle.st_tree.specs.declared.expr.Expr.{Expr, fold-Expr}
@@ -38,8 +38,8 @@ test_of (exit.Table e targets last) = stmt.Case e (record { labels = pos 0 ∷ [
 test_of exit.End = []
 
 -- the statements of nodes, one node after another, whatever their exits are, each with its test
-abbrev pub listed : List StNode → List Stmt
-listed nodes = flat_map (λ (n : StNode). n.steps ++ test_of n.exit) nodes
+abbrev pub node_statements : List StNode → List Stmt
+node_statements nodes = flat_map (λ (n : StNode). n.steps ++ test_of n.exit) nodes
 
 -- a graph program as a text that says nothing of its exits
 abbrev pub listed_text : GraphProgram → StProgram
@@ -47,7 +47,7 @@ listed_text graph =
     record {
       dbs = graph.dbs;
       globals = graph.globals;
-      pous = map (λ (u : GraphPou). record u.head { body = listed u.graph.nodes }) graph.pous;
+      pous = map (λ (u : GraphPou). record u.head { body = node_statements u.graph.nodes }) graph.pous;
     }
 
 -- Expressions
@@ -131,14 +131,14 @@ tests_of exit.End = []
 abbrev pub HasSureTest : StExit → Type 0
 HasSureTest exit = All (λ (e : Expr). is_faultless e ≡ true) (tests_of exit)
 
--- no register variable is given to a call
+-- a variable that may be given to a call: no register variable
 abbrev pub IsGivenOn : Var → Type 0
 IsGivenOn (var.Register r) = ⊥
 IsGivenOn v = Unit {0}
 
 -- Nodes
 
--- an exit of the node at a position leads to nodes of a unit of so many; a table has 1 to 255 entries
+-- an exit of the node at a position leads to nodes of a unit with this many nodes; a table has 1 to 255 entries
 abbrev pub LeadsInside : ℕ → ℕ → StExit → Type 0
 LeadsInside count at exit.Fall = suc at < count
 LeadsInside count at (exit.Jump j) = j < count
@@ -156,8 +156,8 @@ pub record IsOnlyEnd (count at : ℕ) (node : StNode) : Type 0 where
   pub few : length node.steps ≤ 4
   pub settings : AreSettings node.steps
 
--- the node at a position of a unit of so many; its locals are temporaries: the test of its exit reads those alone
--- that the last run of its steps has written
+-- the node at a position of a unit with this many nodes is plain. Its locals are temporaries: the test of its exit
+-- reads only those that the last run of its steps has written
 pub record IsPlainNode (count at : ℕ) (node : StNode) : Type 0 where
   pub steps : AreSteps node.steps
   pub runs : AreOfRuns node.steps
@@ -171,8 +171,8 @@ pub record IsTemporary (local : Local) : Type 0 where
   pub number : ℕ
   pub name : local.name ≡ codes "T" ++ decimal number
 
--- a unit: its head has no body, and there are 1 to 32,769 nodes; its locals are named as temporaries; its expressions
--- are at most 32 high, and no division of them has a fault
+-- a unit is plain: its head has no body, and there are 1 to 32,769 nodes; its locals are named as temporaries; its
+-- expressions are at most 32 high, and no division of them has a fault
 pub record IsPlainUnit (unit : GraphPou) : Type 0 where
   pub body : unit.head.body ≡ []
   pub some : unit.graph.nodes ≢ []
@@ -180,11 +180,11 @@ pub record IsPlainUnit (unit : GraphPou) : Type 0 where
   pub nodes : (at : ℕ) (node : StNode) → slice_get unit.graph.nodes at ≡ Some node
       → IsPlainNode (length unit.graph.nodes) at node
   pub names : All IsTemporary unit.head.locals
-  pub low : All (λ (e : Expr). height e ≤ 32) (expressions_in (listed unit.graph.nodes))
-  pub divisors : All IsSureDivisor (divisors_in (listed unit.graph.nodes))
-  pub calls : All (λ (call : ℕ × List Var). All IsGivenOn call.1) (calls_in (listed unit.graph.nodes))
+  pub low : All (λ (e : Expr). height e ≤ 32) (expressions_in (node_statements unit.graph.nodes))
+  pub divisors : All IsSureDivisor (divisors_in (node_statements unit.graph.nodes))
+  pub calls : All (λ (call : ℕ × List Var). All IsGivenOn call.1) (calls_in (node_statements unit.graph.nodes))
 
--- a graph program: its steps and tests are those of a proper text without globals, and its units are plain
+-- a graph program is plain: its steps and tests are those of a proper text without globals, and its units are plain
 pub record Plain (graph : GraphProgram) : Type 0 where
   pub text : Proper (listed_text graph)
   pub globals : graph.globals ≡ []

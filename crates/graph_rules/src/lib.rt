@@ -1,4 +1,5 @@
-//! The rules of graph programs: what `Plain` asks of the programs that the passes of a translation hand on.
+//! The rules of graph programs: what `Plain` asks of the programs that one pass of a translation gives to the
+//! next.
 //!
-//! Stands on `st_tree`, which has graph programs, their types and the parts of a body. It computes nothing.
+//! Uses `st_tree`, which has graph programs, their types and the parts of a body. It computes nothing.
 #![tactic(auto)]

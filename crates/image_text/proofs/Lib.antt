@@ -1,10 +1,10 @@
 mod Blocks
 mod Cuts
-mod ImageRows
+mod ImageCases
 mod Kept
 mod Lines
 mod Replaced
-mod ReportRows
-mod Rows
+mod ReportCases
+mod ReportLines
 mod Shown
 mod Writing

@@ -4,12 +4,12 @@ use Rattle.std.specs.Prelude.{All, nat_le}
 use Rattle.std.proofs.lemmas.List.{length-replicate}
 use Rattle.std.proofs.lemmas.Bool.Decides.{nat_tests}
 use Rattle.memory_areas.specs.Access.{bytes_there, is_closed, or_none}
-use Rattle.memory_areas.specs.Areas.{AreBlocks, Contents, block_of, bytes_in, bytes_of, fresh, numbers_of, replaced, with_bytes}
+use Rattle.memory_areas.specs.Areas.{AreBlocks, Contents, block_of, bytes_in, bytes_of, fresh, numbers_of, overwrite, with_bytes}
 use Rattle.memory_areas.specs.declared.data_block.DataBlock.{DataBlock}
 use Rattle.memory_areas.specs.declared.place.Area.{Area}
 use Rattle.memory_areas.specs.declared.place.Area.TheVariants as area
 use Rattle.memory_areas.specs.declared.sizes.TheConstants.{MOST_BLOCK_BYTES}
-use Rattle.image_text.specs.Image.{has_room, is_blank, values_of, written}
+use Rattle.image_text.specs.Image.{has_room, is_blank, values_of, with_bytes_from}
 use Rattle.image_text.specs.inner.Fields.{IsNamed, IsUsable, pieces_left}
 use Rattle.image_text.proofs.Blocks.{are_blocks, blocks_written, found_written, missing_zero, small_block, written_same, written_twice}
 use Rattle.image_text.proofs.Replaced.{length_replaced, replaced_further, replaced_none}
@@ -55,57 +55,69 @@ same (area.Local d) x m n e = absurd n
 same (area.Cell d) x m n e = absurd n
 
 -- what is written, where the area is there
-here : (a : Area) (at : ℕ) (values bytes : List ℕ) (m : Contents) → bytes_of a m ≡ Some bytes → written a at values m ≡ with_bytes a (replaced bytes at values) m
-here a at values bytes m e = ap (λ o. with_bytes a (replaced (or_none o) at values) m) e
+here : (a : Area) (at : ℕ) (values bytes : List ℕ) (m : Contents) → bytes_of a m ≡ Some bytes
+    → with_bytes_from a at values m ≡ with_bytes a (overwrite bytes at values) m
+here a at values bytes m e = ap (λ o. with_bytes a (overwrite (or_none o) at values) m) e
 
 -- nothing more to write
-pub written_none : (a : Area) (at : ℕ) (m : Contents) → IsNamed a → Room (bytes_of a m) at 0 → written a at [] m ≡ m
+pub written_none : (a : Area) (at : ℕ) (m : Contents) → IsNamed a → Room (bytes_of a m) at 0 → with_bytes_from a at [] m ≡ m
 written_none a at m n r = here a at [] r.bytes m r.there ∙ ap (λ xs. with_bytes a xs m) (replaced_none r.bytes at) ∙ same a r.bytes m n r.there
 
 -- the first byte is written, then the others
 pub record Further (a : Area) (at v : ℕ) (more : List ℕ) (m after : Contents) : Type 0 where
-  pub same : written a (at + 1) more after ≡ written a at (v ∷ more) m
+  pub same : with_bytes_from a (at + 1) more after ≡ with_bytes_from a at (v ∷ more) m
   pub room : has_room (bytes_of a after) (at + 1) (length more) ≡ true
 
-further_to : (a : Area) (at v : ℕ) (more : List ℕ) (m : Contents) → IsNamed a → Room (bytes_of a m) at (suc (length more)) → Further a at v more m (with_bytes a (replaced (bytes_there (Some a) m) at (v ∷ [])) m)
+further_to : (a : Area) (at v : ℕ) (more : List ℕ) (m : Contents) → IsNamed a → Room (bytes_of a m) at (suc (length more))
+    → Further a at v more m (with_bytes a (overwrite (bytes_there (Some a) m) at (v ∷ [])) m)
 further_to a at v more m n r =
     let fits = r.fits in
     let there : bytes_there (Some a) m ≡ r.bytes = ap or_none r.there in
-    let x = replaced (bytes_there (Some a) m) at (v ∷ []) in
+    let x = overwrite (bytes_there (Some a) m) at (v ∷ []) in
     let after = there_after a x r.bytes m n r.there in
-    let one : x ≡ replaced r.bytes at (v ∷ []) = ap (λ xs. replaced xs at (v ∷ [])) there in
+    let one : x ≡ overwrite r.bytes at (v ∷ []) = ap (λ xs. overwrite xs at (v ∷ [])) there in
     let size : length x ≡ length r.bytes = ap length one ∙ length_replaced r.bytes at (v ∷ []) (omega arith) in
     record {
       same = here a (at + 1) more x (with_bytes a x m) after
-          ∙ twice a x (replaced x (at + 1) more) m n
-          ∙ ap (λ xs. with_bytes a (replaced xs (at + 1) more) m) one
+          ∙ twice a x (overwrite x (at + 1) more) m n
+          ∙ ap (λ xs. with_bytes a (overwrite xs (at + 1) more) m) one
           ∙ ap (λ xs. with_bytes a xs m) (replaced_further r.bytes at v more fits)
           ∙ sym (here a at (v ∷ more) r.bytes m r.there);
       room = has _ _ _ (record { bytes = x; there = after; fits = omega arith });
     }
 
-pub further : (a : Area) (at v : ℕ) (more : List ℕ) (m after : Contents) → IsNamed a → has_room (bytes_of a m) at (suc (length more)) ≡ true → after ≡ written a at (v ∷ []) m → Further a at v more m after
+pub further : (a : Area) (at v : ℕ) (more : List ℕ) (m after : Contents) → IsNamed a
+    → has_room (bytes_of a m) at (suc (length more)) ≡ true → after ≡ with_bytes_from a at (v ∷ []) m → Further a at v more m after
 further a at v more m after n h e = subst (Further a at v more m) (sym e) (further_to a at v more m n (room _ _ _ h))
 
 -- one field further
-pub field_done : (a : Area) (at v : ℕ) (more values : List ℕ) (m after whole : Contents) → IsNamed a → values ≡ v ∷ more → has_room (bytes_of a m) at (length values) ≡ true → after ≡ written a at (v ∷ []) m
-    → written a at values m ≡ whole → Further a at v more m after × (written a (at + 1) more after ≡ whole)
+pub field_done : (a : Area) (at v : ℕ) (more values : List ℕ) (m after whole : Contents) → IsNamed a
+    → values ≡ v ∷ more → has_room (bytes_of a m) at (length values) ≡ true → after ≡ with_bytes_from a at (v ∷ []) m
+    → with_bytes_from a at values m ≡ whole → Further a at v more m after × (with_bytes_from a (at + 1) more after ≡ whole)
 field_done a at v more values m after whole n e h f w =
     let next = further a at v more m after n (subst (λ vs. has_room (bytes_of a m) at (length vs) ≡ true) e h) f in
-    (next, next.same ∙ ap (λ vs. written a at vs m) (sym e) ∙ w)
+    (next, next.same ∙ ap (λ vs. with_bytes_from a at vs m) (sym e) ∙ w)
 
 -- no field is left
-pub fields_done : (a : Area) (at : ℕ) (left : List ℕ) (m whole : Contents) → IsNamed a → length left ≡ 0 → has_room (bytes_of a m) at (length (or_none (values_of (pieces_left is_blank left)))) ≡ true
-    → written a at (or_none (values_of (pieces_left is_blank left))) m ≡ whole → m ≡ whole
+pub fields_done : (a : Area) (at : ℕ) (left : List ℕ) (m whole : Contents) → IsNamed a → length left ≡ 0
+    → has_room (bytes_of a m) at (length (or_none (values_of (pieces_left is_blank left)))) ≡ true
+    → with_bytes_from a at (or_none (values_of (pieces_left is_blank left))) m ≡ whole → m ≡ whole
 fields_done a at [] m whole n e h w = sym (written_none a at m n (room _ _ _ h)) ∙ w
 fields_done a at (b ∷ rest) m whole n e h w = absurd (omega arith)
 
 -- Usable memory
 
-usable_with : (a : Area) (x bytes : List ℕ) (m : Contents) → IsNamed a → IsUsable m → bytes_of a m ≡ Some bytes → length x ≡ length bytes → IsUsable (with_bytes a x m)
-usable_with area.I x bytes m n u e s = let i : m.areas.inputs ≡ bytes = cc in record { inputs = subst (λ (k : ℕ). k ≤ MOST_BLOCK_BYTES) (ap length i ∙ sym s) u.inputs; outputs = u.outputs; markers = u.markers; blocks = u.blocks }
-usable_with area.Q x bytes m n u e s = let i : m.areas.outputs ≡ bytes = cc in record { inputs = u.inputs; outputs = subst (λ (k : ℕ). k ≤ MOST_BLOCK_BYTES) (ap length i ∙ sym s) u.outputs; markers = u.markers; blocks = u.blocks }
-usable_with area.M x bytes m n u e s = let i : m.areas.markers ≡ bytes = cc in record { inputs = u.inputs; outputs = u.outputs; markers = subst (λ (k : ℕ). k ≤ MOST_BLOCK_BYTES) (ap length i ∙ sym s) u.markers; blocks = u.blocks }
+usable_with : (a : Area) (x bytes : List ℕ) (m : Contents) → IsNamed a → IsUsable m
+    → bytes_of a m ≡ Some bytes → length x ≡ length bytes → IsUsable (with_bytes a x m)
+usable_with area.I x bytes m n u e s =
+    let i : m.areas.inputs ≡ bytes = cc in
+    record { inputs = subst (λ (k : ℕ). k ≤ MOST_BLOCK_BYTES) (ap length i ∙ sym s) u.inputs; outputs = u.outputs; markers = u.markers; blocks = u.blocks }
+usable_with area.Q x bytes m n u e s =
+    let i : m.areas.outputs ≡ bytes = cc in
+    record { inputs = u.inputs; outputs = subst (λ (k : ℕ). k ≤ MOST_BLOCK_BYTES) (ap length i ∙ sym s) u.outputs; markers = u.markers; blocks = u.blocks }
+usable_with area.M x bytes m n u e s =
+    let i : m.areas.markers ≡ bytes = cc in
+    record { inputs = u.inputs; outputs = u.outputs; markers = subst (λ (k : ℕ). k ≤ MOST_BLOCK_BYTES) (ap length i ∙ sym s) u.markers; blocks = u.blocks }
 usable_with (area.Db k) x bytes m n u e s =
     let small = subst (λ (j : ℕ). j ≤ MOST_BLOCK_BYTES) (sym s) (small_block k bytes m.areas.blocks u.blocks e) in
     record { inputs = u.inputs; outputs = u.outputs; markers = u.markers; blocks = blocks_written k x m.areas.blocks small u.blocks }
@@ -113,11 +125,13 @@ usable_with (area.Local d) x bytes m n u e s = absurd n
 usable_with (area.Cell d) x bytes m n u e s = absurd n
 
 -- a write leaves a memory usable
-pub usable_written : (a : Area) (at : ℕ) (values : List ℕ) (m : Contents) → IsNamed a → IsUsable m → has_room (bytes_of a m) at (length values) ≡ true → IsUsable (written a at values m)
+pub usable_written : (a : Area) (at : ℕ) (values : List ℕ) (m : Contents) → IsNamed a → IsUsable m
+    → has_room (bytes_of a m) at (length values) ≡ true → IsUsable (with_bytes_from a at values m)
 usable_written a at values m n u h =
     let r = room _ _ _ h in
     let there : bytes_there (Some a) m ≡ r.bytes = ap or_none r.there in
-    usable_with a (replaced (bytes_there (Some a) m) at values) r.bytes m n u r.there (ap (λ xs. length (replaced xs at values)) there ∙ length_replaced r.bytes at values r.fits)
+    usable_with a (overwrite (bytes_there (Some a) m) at values) r.bytes m n u r.there
+    (ap (λ xs. length (overwrite xs at values)) there ∙ length_replaced r.bytes at values r.fits)
 
 -- an area that is there is no larger than the largest data block, and is no block 0
 pub small_there : (a : Area) (bytes : List ℕ) (m : Contents) → IsNamed a → IsUsable m → bytes_of a m ≡ Some bytes → length bytes ≤ MOST_BLOCK_BYTES
@@ -141,7 +155,8 @@ open_there (area.Local d) bytes m u e = refl
 open_there (area.Cell d) bytes m u e = refl
 
 -- there is room for a count of bytes: the area is no block 0, and the bytes have numbers of 32 bits
-pub ready : (a : Area) (at count : ℕ) (m : Contents) → IsNamed a → IsUsable m → has_room (bytes_of a m) at count ≡ true → (is_closed (Some a) ≡ false) × (at + count < 2 ^ 32)
+pub ready : (a : Area) (at count : ℕ) (m : Contents) → IsNamed a → IsUsable m
+    → has_room (bytes_of a m) at count ≡ true → (is_closed (Some a) ≡ false) × (at + count < 2 ^ 32)
 ready a at count m n u h =
     let r = room _ _ _ h in
     let fits = r.fits in

@@ -1,4 +1,5 @@
--- The report of a run: how it ended, and the memory as it then was.
+-- The report of a run. It says how the run ended, and shows the memory as it then was.
+-- Held against: this project's own reports.
 use Rattle.std.specs.Prelude.{ℕ, ◌+◌, ◌/◌, ◌%◌, Bool, true, false, not, ◌==◌, ◌||◌, if◌then◌else◌, List, [], ◌∷◌, ◌++◌, take, codes, decimal, flat_map, Option, Some, None}
 use Rattle.std.specs.List.{list_any}
 use Rattle.digit_texts.specs.Digits.{hex_digit}
@@ -23,7 +24,7 @@ fault_name fault.DivideByZero = codes "DivideByZero"
 abbrev pub byte_text : ℕ → List ℕ
 byte_text b = 32 ∷ hex_digit (b / 16) ∷ hex_digit (b % 16) ∷ []
 
--- a line of the area of a name: the bytes from byte `at` on
+-- the line of an area with a name: the bytes from byte `at` on
 abbrev pub row_text : List ℕ → ℕ → List ℕ → List ℕ
 row_text name at row = name ++ codes " " ++ decimal at ++ codes ":" ++ flat_map byte_text row ++ codes "\n"
 
@@ -31,7 +32,7 @@ row_text name at row = name ++ codes " " ++ decimal at ++ codes ":" ++ flat_map 
 abbrev pub is_set : ℕ → Bool
 is_set b = not (b == 0)
 
--- a line, which is shown where all are or where a byte of it is not zero
+-- a line of a report, which is shown where all are or where a byte of it is not zero
 abbrev pub row_shown : Bool → List ℕ → ℕ → List ℕ → List ℕ
 row_shown all name at row = if all || list_any is_set row then row_text name at row else []
 

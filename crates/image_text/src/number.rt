@@ -1,6 +1,6 @@
 //! Numbers and bytes as an image writes them.
 ghost use Rattle.std.specs.Prelude.{◌≡◌, option_map};
-ghost use Rattle.digit_texts.specs.Digits.{kept};
+ghost use Rattle.digit_texts.specs.Digits.{capped_number};
 ghost use Rattle.image_text.specs.Image.{is_number, image_number, byte_number, byte_of};
 
 use digit_texts::{all_digits, hex_value, is_digit, number_value};
@@ -15,9 +15,9 @@ fn is_number(word: &[u8]) -> bool
     }
 }
 
-/// A number without leading zeros; one past the greatest is kept as that one.
+/// A number without leading zeros; one above 4,294,967,295 is kept as that number.
 pub fn image_number(word: &[u8]) -> Option<u32>
-    ensures { result ≡ option_map kept (image_number word.now) }
+    ensures { result ≡ option_map capped_number (image_number word.now) }
 {
     if is_number(word) {
         Some(number_value(word))
@@ -28,7 +28,7 @@ pub fn image_number(word: &[u8]) -> Option<u32>
 
 /// The number before a colon.
 pub fn byte_number(word: &[u8]) -> Option<u32>
-    ensures { result ≡ option_map kept (byte_number word.now) }
+    ensures { result ≡ option_map capped_number (byte_number word.now) }
 {
     match word {
         [number @ .., b':'] => image_number(number),

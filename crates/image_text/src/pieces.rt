@@ -34,7 +34,7 @@ fn piece_size(text: &[u8]) -> usize
     text.iter().take_while(|b| !is_blank(**b)).count()
 }
 
-/// The first line, and what stands after it: nothing, or a line feed and further lines.
+/// The first line, and what comes after it: nothing, or a line feed and further lines.
 pub fn cut_line(text: &[u8]) -> (&[u8], &[u8])
     ensures cut { slice_split (λ b. b == 10) text.now ≡ result.0.now ∷ pieces_left (λ b. b == 10) result.1.now }
     ensures no_longer { length result.1.now ≤ length text.now }
@@ -42,7 +42,7 @@ pub fn cut_line(text: &[u8]) -> (&[u8], &[u8])
     text.split_at(line_size(text))
 }
 
-/// The first piece, and what stands after it: nothing, or a blank and further pieces.
+/// The first piece, and what comes after it: nothing, or a blank and further pieces.
 pub fn cut_piece(text: &[u8]) -> (&[u8], &[u8])
     ensures cut { slice_split is_blank text.now ≡ result.0.now ∷ pieces_left is_blank result.1.now }
     ensures no_longer { length result.1.now ≤ length text.now }
@@ -50,7 +50,7 @@ pub fn cut_piece(text: &[u8]) -> (&[u8], &[u8])
     text.split_at(piece_size(text))
 }
 
-/// The piece after the blank at the front, and what stands after it.
+/// The piece after the blank at the front, and what comes after it.
 pub fn next_piece(left: &[u8]) -> (&[u8], &[u8])
     requires { 0 < length left.now }
     ensures cut { pieces_left is_blank left.now ≡ result.0.now ∷ pieces_left is_blank result.1.now }

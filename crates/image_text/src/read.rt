@@ -2,14 +2,14 @@
 ghost use Rattle.std.specs.Prelude.{◌≡◌, ◌∷◌, [], ◌+◌, ◌<◌, ◌^◌, IfOk, IsSome, OnOk, Some, false, length, true};
 ghost use Rattle.memory_areas.specs.Access.{is_closed};
 ghost use Rattle.memory_areas.specs.Areas.{AreBlocks, IsMemoryOf, bytes_of, fresh};
-ghost use Rattle.image_text.specs.Image.{has_room, image_of, is_blank, line_on, line_said, says_nothing, shape_said, values_of, written};
+ghost use Rattle.image_text.specs.Image.{has_room, image_of, is_blank, line_on, line_said, says_nothing, area_line_said, values_of, with_bytes_from};
 ghost use Rattle.image_text.specs.inner.Fields.{IsNamed, IsUsable, LineDoes, MemoryStays, pieces_left, values_left, view};
 ghost use Rattle.image_text.specs.Reading.{Reads};
 
+use crate::area_line::{AreaLine, area_line_of, count_bytes};
 use crate::number::byte_of;
 use crate::pieces::{cut_line, next_piece, rest_after, strip_return};
 use crate::refusal::ImageRefusal;
-use crate::shape::{Shape, count_bytes, shape_of};
 use memory_areas::{Area, DataBlock, Memory, Place};
 use s7_base::{Line, NoMemory};
 use std::alloc::Global;
@@ -23,7 +23,7 @@ fn says_nothing(line: &[u8]) -> bool
     }
 }
 
-/// The area is there, and has so many bytes from a byte on.
+/// Whether the area exists, and has this many bytes from a byte on.
 fn has_room(memory: &Memory, area: Area, byte: u32, count: usize) -> bool
     requires { IsNamed area }
     ensures { result ≡ has_room (bytes_of area memory.now) byte count }
@@ -34,7 +34,7 @@ fn has_room(memory: &Memory, area: Area, byte: u32, count: usize) -> bool
     }
 }
 
-/// The byte of the first field, and what stands after it.
+/// The byte of the first field, and what comes after it.
 fn next_value(left: &[u8]) -> (u8, &[u8])
     requires some { 0 < length left.now }
     requires bytes { IsSome (values_of (pieces_left is_blank left.now)) }
@@ -51,7 +51,7 @@ fn put_byte(memory: &mut Memory, area: Area, at: u32, value: u8)
     requires named { IsNamed area }
     requires is_open { is_closed (Some area) ≡ false }
     requires room { has_room (bytes_of area memory.old) at 1 ≡ true }
-    ensures done { memory.new ≡ written area at (value ∷ []) memory.old }
+    ensures done { memory.new ≡ with_bytes_from area at (value ∷ []) memory.old }
     ensures stays { MemoryStays memory.old memory.new }
 {
     let place = Place {
@@ -69,7 +69,7 @@ fn put_fields(memory: &mut Memory, area: Area, byte: u32, fields: &[u8])
     requires bytes { IsSome (values_of (pieces_left is_blank fields.now)) }
     requires room { has_room (bytes_of area memory.old) byte (length (values_left fields.now)) ≡ true }
     requires small { byte + length (values_left fields.now) < 2 ^ 32 }
-    ensures done { memory.new ≡ written area byte (values_left fields.now) memory.old }
+    ensures done { memory.new ≡ with_bytes_from area byte (values_left fields.now) memory.old }
     ensures stays { MemoryStays memory.old memory.new }
 {
     let mut left = fields;
@@ -82,21 +82,25 @@ fn put_fields(memory: &mut Memory, area: Area, byte: u32, fields: &[u8])
     }
 }
 
-/// Does what a line of the right shape says.
-fn apply_shape(memory: &mut Memory, line: Line, shape: Shape<'_>) -> Result<(), ImageRefusal>
+/// Does what a line of the right form says.
+fn apply_area_line(
+    memory: &mut Memory,
+    line: Line,
+    area_line: AreaLine<'_>,
+) -> Result<(), ImageRefusal>
     requires usable { IsUsable memory.old }
-    requires named { IsNamed shape.area }
-    ensures done { LineDoes (line_on line (shape_said (Some (view shape.entry))) memory.old) result memory.new }
+    requires named { IsNamed area_line.area }
+    ensures done { LineDoes (line_on line (area_line_said (Some (view area_line.entry))) memory.old) result memory.new }
     ensures usable { OnOk result (IsUsable memory.new) }
     ensures stays { OnOk result (MemoryStays memory.old memory.new) }
 {
-    let Some(count) = count_bytes(shape.fields) else {
+    let Some(count) = count_bytes(area_line.fields) else {
         return Err(ImageRefusal::BadByte(line));
     };
-    if !has_room(memory, shape.area, shape.byte, count) {
+    if !has_room(memory, area_line.area, area_line.byte, count) {
         return Err(ImageRefusal::OutsideArea(line));
     }
-    put_fields(memory, shape.area, shape.byte, shape.fields);
+    put_fields(memory, area_line.area, area_line.byte, area_line.fields);
     Ok(())
 }
 
@@ -110,10 +114,10 @@ fn apply_line(memory: &mut Memory, line: Line, text: &[u8]) -> Result<(), ImageR
     if says_nothing(text) {
         return Ok(());
     }
-    let Some(shape) = shape_of(text) else {
+    let Some(area_line) = area_line_of(text) else {
         return Err(ImageRefusal::BadLine(line));
     };
-    apply_shape(memory, line, shape)
+    apply_area_line(memory, line, area_line)
 }
 
 fn new_memory(alloc: Global, blocks: &[DataBlock]) -> Result<Memory, NoMemory>

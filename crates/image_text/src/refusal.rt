@@ -4,17 +4,17 @@ ghost use Rattle.image_text.specs.declared.refusal.ImageRefusal.TheVariants as r
 
 use s7_base::{Line, NoMemory};
 
-/// Why a text gave no memory: its first faulty line, or memory ran out. Of two faults of one line the
-/// one that stands first here counts.
+/// Why a text gave no memory: its first faulty line, or memory ran out. Of two faults of one line the one
+/// that is listed first here counts.
 #[derive(Clone, Copy, Debug, PartialEq, Eq)]
 pub enum ImageRefusal {
-    /// The line does not have the shape of an image's line.
+    /// The line does not have the form of an image's line.
     BadLine(Line),
 
     /// A field is not exactly two hexadecimal digits.
     BadByte(Line),
 
-    /// The data block is not there, or a byte stands past the area.
+    /// The data block does not exist, or a byte lies past the area.
     OutsideArea(Line),
 
     /// Memory ran out.

@@ -16,7 +16,7 @@ use std::alloc::Global;
 /// How many bytes a line shows.
 const ROW: usize = 16;
 
-/// How many characters such a line takes at most, as `DB65535 16368: ` and 16 bytes.
+/// Room for the characters of a line of a report: `DB65535 16368:`, 16 bytes and a line end.
 const ROW_ROOM: usize = 64;
 
 fn fault_name(fault: Fault) -> &'static str
@@ -33,7 +33,7 @@ fn fault_name(fault: Fault) -> &'static str
     }
 }
 
-fn put(out: &mut Vec<u8>, text: &str) -> Result<(), NoMemory>
+fn push_text(out: &mut Vec<u8>, text: &str) -> Result<(), NoMemory>
     ensures { OnOk result (out.new.items ≡ out.old.items ++ text.now) }
 {
     out.extend_from_slice(text.as_bytes())?;
@@ -44,7 +44,7 @@ fn put_number(out: &mut Vec<u8>, number: usize) -> Result<(), NoMemory>
     ensures { OnOk result (out.new.items ≡ out.old.items ++ decimal number) }
 {
     let mut buffer = Buffer::new();
-    put(out, buffer.format(number))
+    push_text(out, buffer.format(number))
 }
 
 fn put_byte(out: &mut Vec<u8>, byte: u8) -> Result<(), NoMemory>
@@ -67,11 +67,11 @@ fn put_row(out: &mut Vec<u8>, name: &[u8], at: usize, row: &[u8]) -> Result<(), 
     ensures { OnOk result (out.new.items ≡ out.old.items ++ row_text name.now at row.now) }
 {
     out.extend_from_slice(name)?;
-    put(out, " ")?;
+    push_text(out, " ")?;
     put_number(out, at)?;
-    put(out, ":")?;
+    push_text(out, ":")?;
     put_bytes(out, row)?;
-    put(out, "\n")
+    push_text(out, "\n")
 }
 
 fn has_set(row: &[u8]) -> bool
@@ -80,7 +80,7 @@ fn has_set(row: &[u8]) -> bool
     row.iter().any(|b| *b != 0)
 }
 
-/// The line, where all are shown or a byte of it is not zero.
+/// The line of 16 bytes from a byte on, where all lines are shown or a byte of it is not zero.
 fn show_row(
     out: &mut Vec<u8>,
     all: bool,
@@ -96,7 +96,7 @@ fn show_row(
     Ok(())
 }
 
-/// The line that begins at a byte.
+/// The bytes of the line that begins at a byte.
 fn row_at(bytes: &[u8], at: usize) -> &[u8]
     requires { at < length bytes.now }
     ensures { result.now ≡ take 16 (drop at bytes.now) }
@@ -188,11 +188,11 @@ fn put_end(out: &mut Vec<u8>, fault: Option<Fault>) -> Result<(), NoMemory>
     ensures { OnOk result (out.new.items ≡ out.old.items ++ end_text fault) }
 {
     match fault {
-        None => put(out, "# ENDED\n"),
+        None => push_text(out, "# ENDED\n"),
         Some(fault) => {
-            put(out, "# FAULT ")?;
-            put(out, fault_name(fault))?;
-            put(out, "\n")
+            push_text(out, "# FAULT ")?;
+            push_text(out, fault_name(fault))?;
+            push_text(out, "\n")
         }
     }
 }
@@ -210,11 +210,11 @@ fn put_report(
             put_end(out, fault)?;
             put_memory(alloc, out, memory)
         }
-        Outcome::Going => put(out, "# GOING\n"),
+        Outcome::Going => push_text(out, "# GOING\n"),
     }
 }
 
-/// The report of a run that stands so, with its memory.
+/// The report of a run with this outcome and memory.
 pub fn image_text(alloc: Global, memory: &Memory, outcome: Outcome) -> Result<Vec<u8>, NoMemory>
     ensures { IfOk result (λ text. text.items ≡ report outcome memory.now.areas) }
 {

@@ -12,9 +12,9 @@ use Rattle.s7_base.specs.declared.word.Width.{Width}
 use Rattle.stl_tree.specs.Accumulators.{read_number, write_number}
 use Rattle.stl_tree.specs.AddressRegisters.{pointer_in}
 use Rattle.stl_tree.specs.DataBlocks.{db_opened}
-use Rattle.stl_tree.specs.Instructions.{on_registers, put, taken}
+use Rattle.stl_tree.specs.Instructions.{on_registers, write_operand, taken}
 use Rattle.stl_tree.specs.Now.{Now, Effect, next, go, enter, leave, with_registers, with_value}
-use Rattle.stl_tree.specs.Operands.{Found, aimed_by, aimed_in, found_at, place_in, with_place}
+use Rattle.stl_tree.specs.Operands.{OperandPlace, aimed_by, aimed_in, found_at, place_in, with_place}
 use Rattle.stl_tree.specs.Reads.{found_by, register_of}
 use Rattle.stl_tree.specs.Registers.{RegisterValues}
 use Rattle.stl_tree.specs.declared.program.Ar.{Ar}
@@ -109,7 +109,7 @@ module _ (now : Now) (s : RegisterValues) (effect : Place → Now → Effect) wh
   at_aim aim h = by (place_aimed aim)
     where
       by : (r : Result Place Fault)
-          → DoesAlike now s (λ n. with_value (and_then r (λ p. Ok (record { place = p; after = n }))) (λ (f : Found). effect f.place f.after))
+          → DoesAlike now s (λ n. with_value (and_then r (λ p. Ok (record { place = p; after = n }))) (λ (f : OperandPlace). effect f.place f.after))
       by (Ok p) = h p
       by (Err e) = refl
 
@@ -167,7 +167,7 @@ takes w row o asked now s found h alike =
 -- a number is written at an operand
 pub puts : (w : Width) (value : RegisterValues → ℕ) (o : Operand) (asked : List Reg) (now : Now) (s : RegisterValues)
     → AreSame (found_by o) now.registers (beside now.registers s) → AreSame asked now.registers (beside now.registers s)
-    → ((r t : RegisterValues) → AreSame asked r t → value r ≡ value t) → DoesAlike now s (put w value o)
+    → ((r t : RegisterValues) → AreSame asked r t → value r ≡ value t) → DoesAlike now s (write_operand w value o)
 puts w value o asked now s found h equal =
     at_place o asked now s (λ p after. with_value (write_number w p (value after.registers) after.memory) (λ m. next (record after { memory = m }))) found h
     (λ p n k. by_one_value n.registers (beside n.registers s) (λ v. write_number w p v n.memory) (value n.registers) (value (beside n.registers s))

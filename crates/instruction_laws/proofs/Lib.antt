@@ -1,10 +1,10 @@
 mod Beside
-mod BitRows
-mod EffectRows
-mod LawRows
+mod BitEffects
+mod InstructionEffects
+mod LawCases
 mod Located
-mod LocatedRows
-mod NumberRows
+mod LocatedCases
+mod NumberEffects
 mod RangeNumbers
-pub mod RangeRows
-mod WordRows
+pub mod RangeEffects
+mod WordEffects

@@ -1,6 +1,6 @@
 -- Accesses meet the tests of `located`: at a place, by an aim, and through each operand.
 use Rattle.std.proofs.Common.{◌≡◌, ℕ, List, Option, Some, None, Result, Ok, Err, refl}
-use Rattle.memory_areas.specs.Access.{Aim, aimed, and_then, bytes_there, fault_of, located, place_aimed, reached, read_dword, unless}
+use Rattle.memory_areas.specs.Access.{Aim, aim_of_place, and_then, bytes_there, fault_of, located, place_aimed, bytes_for_access, read_dword, unless}
 use Rattle.memory_areas.specs.Areas.{Contents}
 use Rattle.memory_areas.specs.Pointers.{with_offset}
 use Rattle.memory_areas.specs.declared.place.Area.{Area}
@@ -12,7 +12,7 @@ use Rattle.s7_base.specs.declared.word.Width.{Width}
 use Rattle.stl_tree.specs.AddressRegisters.{pointer_in}
 use Rattle.stl_tree.specs.DataBlocks.{db_opened}
 use Rattle.stl_tree.specs.Now.{Now, with_registers}
-use Rattle.stl_tree.specs.Operands.{Found, aimed_by, aimed_in, found_at, place_in}
+use Rattle.stl_tree.specs.Operands.{OperandPlace, aimed_by, aimed_in, found_at, place_in}
 use Rattle.stl_tree.specs.declared.program.Operand.{Operand}
 use Rattle.stl_tree.specs.declared.program.Operand.TheVariants as operand
 use Rattle.instruction_laws.specs.InstructionLaws.{AccessesAreLocated}
@@ -21,32 +21,32 @@ use Rattle.instruction_laws.specs.Located.{OperandAim, aimed_and_located, found_
 -- At a place, by the fault that the tests give
 
 tested : (fault : Option Fault) (p : Place) (bytes : List ℕ)
-    → and_then (unless fault bytes) (λ (there : List ℕ). Ok p) ≡ and_then (unless fault (aimed p)) place_aimed
+    → and_then (unless fault bytes) (λ (there : List ℕ). Ok p) ≡ and_then (unless fault (aim_of_place p)) place_aimed
 tested None p bytes = refl
 tested (Some f) p bytes = refl
 
-place_located : (p : Place) (w : Width) (m : Contents) → and_then (reached p w m) (λ bytes. Ok p) ≡ located (aimed p) w m
-place_located p w m = tested (fault_of (aimed p) w m) p (bytes_there (Some p.area) m)
+place_located : (p : Place) (w : Width) (m : Contents) → and_then (bytes_for_access p w m) (λ bytes. Ok p) ≡ located (aim_of_place p) w m
+place_located p w m = tested (fault_of (aim_of_place p) w m) p (bytes_there (Some p.area) m)
 
 -- By an aim, and the state in which it is judged
 
-abbrev found_there : Place → Now → Found
+abbrev found_there : Place → Now → OperandPlace
 found_there p after = record { place = p; after = after }
 
 abbrev aim_there : Aim → Now → OperandAim
 aim_there aim after = record { aim = aim; after = after }
 
 -- what was found, reached
-abbrev reached_at : Width → Found → Result Found Fault
-reached_at w f = and_then (reached f.place w f.after.memory) (λ bytes. Ok f)
+abbrev reached_at : Width → OperandPlace → Result OperandPlace Fault
+reached_at w f = and_then (bytes_for_access f.place w f.after.memory) (λ bytes. Ok f)
 
 -- an aim, located
-abbrev located_at : Width → Now → Aim → Result Found Fault
+abbrev located_at : Width → Now → Aim → Result OperandPlace Fault
 located_at w after aim = and_then (located aim w after.memory) (λ (p : Place). Ok (found_there p after))
 
 tested_after : (fault : Option Fault) (p : Place) (bytes : List ℕ) (after : Now)
     → and_then (unless fault bytes) (λ (there : List ℕ). Ok (found_there p after))
-    ≡ and_then (and_then (unless fault (aimed p)) place_aimed) (λ (q : Place). Ok (found_there q after))
+    ≡ and_then (and_then (unless fault (aim_of_place p)) place_aimed) (λ (q : Place). Ok (found_there q after))
 tested_after None p bytes after = refl
 tested_after (Some f) p bytes after = refl
 
@@ -56,7 +56,7 @@ aim_located : (a : Option Area) (byte x : ℕ) (w : Width) (after : Now)
 aim_located None byte x w after = refl
 aim_located (Some a) byte x w after =
     let p : Place = record { area = a; byte = byte; bit = x } in
-    tested_after (fault_of (aimed p) w after.memory) p (bytes_there (Some a) after.memory) after
+    tested_after (fault_of (aim_of_place p) w after.memory) p (bytes_there (Some a) after.memory) after
 
 -- through a pointer that was read, or that an access to it did not give
 pointer_located : (read : Result ℕ Fault) (a : AreaName) (w : Width) (now : Now)

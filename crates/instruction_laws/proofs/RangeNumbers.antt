@@ -6,7 +6,7 @@ use Rattle.std.proofs.lemmas.Int.{ints}
 use Rattle.std.proofs.lemmas.Nat.{and_le_l, or_of_16, or_of_32, xor_of_16, xor_of_32}
 use Rattle.bcd_words.proofs.Digits.{worth-below}
 use Rattle.bcd_words.specs.Bcd.{digits, sign_digit, worth}
-use Rattle.memory_areas.specs.Pointers.{moved}
+use Rattle.memory_areas.specs.Pointers.{pointer_plus}
 use Rattle.s7_base.specs.SignedNumbers.{pattern}
 use Rattle.s7_base.specs.declared.word.Width.{Width}
 use Rattle.s7_base.specs.declared.word.Width.TheVariants as width
@@ -16,7 +16,7 @@ use Rattle.status_word.specs.StatusBits.{StatusBits}
 use Rattle.memory_areas.specs.Access.{bits_wide}
 use Rattle.stl_tree.specs.Accumulators.{part, with_number, with_part}
 use Rattle.stl_tree.specs.Shifts.{bottom, left, right, step, times, top, width_of as shift_width}
-use Rattle.stl_tree.specs.WordLogic.{combined, width_of as logic_width}
+use Rattle.stl_tree.specs.WordLogic.{combination_of, width_of as logic_width}
 use Rattle.stl_tree.specs.declared.accumulator.LogicRow.{LogicRow}
 use Rattle.stl_tree.specs.declared.accumulator.LogicRow.TheVariants as logic
 use Rattle.stl_tree.specs.declared.accumulator.ShiftRow.{ShiftRow}
@@ -48,7 +48,7 @@ with_number_below w a z h = with_part_below w a (pattern (bits_wide w) z) h (pat
 pub halves_below : (x y : ℤ) → pattern 16 x * 2 ^ 16 + pattern 16 y < 2 ^ 32
 halves_below x y = omega (arith, pattern_below 16 x, pattern_below 16 y)
 
-pub moved_below : (p : ℕ) (z : ℤ) → p < 2 ^ 32 → moved p z < 2 ^ 32
+pub moved_below : (p : ℕ) (z : ℤ) → p < 2 ^ 32 → pointer_plus p z < 2 ^ 32
 moved_below p z h = grind (arith, ints)
 
 pub truth : (b : Bool) → from_bool b < 2
@@ -105,7 +105,8 @@ right_around_below a c h = highest c (2 ^ 31) (a / 2) (omega arith)
 
 -- Word logic
 
-pub combined_below : (l : LogicRow) (p q : ℕ) → p < 2 ^ bits_wide (logic_width l) → q < 2 ^ bits_wide (logic_width l) → combined l p q < 2 ^ bits_wide (logic_width l)
+pub combined_below : (l : LogicRow) (p q : ℕ) → p < 2 ^ bits_wide (logic_width l)
+    → q < 2 ^ bits_wide (logic_width l) → combination_of l p q < 2 ^ bits_wide (logic_width l)
 combined_below logic.Aw p q h k = omega (arith, and_le_l p q)
 combined_below logic.Ow p q h k = or_of_16 p q h k
 combined_below logic.Xow p q h k = xor_of_16 p q h k

@@ -48,14 +48,16 @@ pub data IsLike (q : Reg) (r s after_r after_s : RegisterValues) : Type 0 where
   is_same : IsSame q after_r after_s → IsLike q r s after_r after_s
   is_kept : IsSame q r after_r → IsSame q s after_s → IsLike q r s after_r after_s
 
--- two states after an instruction: they have the same memory, open brackets and activations, and each register is alike
+-- two states after an instruction: they have the same memory, open brackets and activations, and each register is
+-- alike on both sides
 pub record AreLikeStates (r s : RegisterValues) (one other : Now) : Type 0 where
   pub memory : one.memory ≡ other.memory
   pub brackets : one.brackets ≡ other.brackets
   pub activations : one.activations ≡ other.activations
   pub registers : (q : Reg) → IsLike q r s one.registers other.registers
 
--- an instruction does alike on both sides: it goes on, jumps, calls or ends alike, or meets the same fault
+-- an instruction does the same on both sides: it continues, jumps, calls or ends in the same way, or has the same
+-- fault
 abbrev pub AreLike : RegisterValues → RegisterValues → Effect → Effect → Type 0
 AreLike r s (next one) (next other) = AreLikeStates r s one other
 AreLike r s (go to one) (go there other) = (to ≡ there) × AreLikeStates r s one other

@@ -1,6 +1,6 @@
 -- Laws of the instruction table.
 use Rattle.std.specs.Prelude.{◌≡◌, ◌^◌, ◌<◌, Ok}
-use Rattle.memory_areas.specs.Access.{aimed, and_then, located, reached}
+use Rattle.memory_areas.specs.Access.{aim_of_place, and_then, located, bytes_for_access}
 use Rattle.memory_areas.specs.Areas.{Contents}
 use Rattle.memory_areas.specs.declared.place.Place.{Place}
 use Rattle.s7_base.specs.declared.word.Width.{Width}
@@ -15,7 +15,8 @@ use Rattle.instruction_laws.specs.Located.{aimed_and_located, found_and_reached}
 use Rattle.instruction_laws.specs.Ranges.{IsInRange, LeavesInRange}
 
 -- what an instruction does depends on no register but those that it reads: where two states agree on these, it does
--- alike to both. ACCU1 holds 32 bits: AD with no bit and OD with all bits read nothing, and would keep any above these
+-- the same to both. ACCU1 has 32 bits: AD with no bit and OD with all bits read nothing, and would keep any above
+-- these
 abbrev pub EffectsDependOnReads : Type 0
 EffectsDependOnReads =
     (op : Op) (one other : Now)
@@ -26,9 +27,10 @@ EffectsDependOnReads =
 abbrev pub RangesAreKept : Type 0
 RangesAreKept = (op : Op) (now : Now) → HasOperand op → IsInRange now → LeavesInRange (effect_of op now)
 
--- an access goes by the tests of `located`: to reach a place, as each read and write there does, gives what `located`
--- gives of it, the place or the first fault; and to find the place of an operand and then reach it gives what `located`
--- gives of its aim, in the same state
+-- an access follows the tests of `located`: to reach a place, as each read and write of it does, gives the answer of
+-- `located` to it, the place or the first fault; and to find the place of an operand and then reach it gives the
+-- answer of `located` to its aim, in the same state
 pub record AccessesAreLocated : Type 0 where
-  pub of_place : (p : Place) (w : Width) (m : Contents) → and_then (reached p w m) (λ bytes. Ok p) ≡ located (aimed p) w m
+  pub of_place : (p : Place) (w : Width) (m : Contents)
+      → and_then (bytes_for_access p w m) (λ bytes. Ok p) ≡ located (aim_of_place p) w m
   pub of_operand : (o : Operand) (w : Width) (now : Now) → found_and_reached o w now ≡ aimed_and_located o w now

@@ -13,12 +13,12 @@ pub record AreInRange (r : RegisterValues) : Type 0 where
   pub db : r.db < 2 ^ 16
   pub di : r.di < 2 ^ 16
 
--- a state is in its ranges: its registers are, and its memory holds bytes
+-- a state is in its ranges: its registers are, and its memory has only bytes
 pub record IsInRange (now : Now) : Type 0 where
   pub registers : AreInRange now.registers
   pub memory : HoldsBytes now.memory
 
--- an instruction leaves a state in its ranges, or meets a fault
+-- an instruction leaves a state in its ranges, or has a fault
 abbrev pub LeavesInRange : Effect → Type 0
 LeavesInRange (next now) = IsInRange now
 LeavesInRange (go to now) = IsInRange now

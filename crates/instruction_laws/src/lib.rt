@@ -1,8 +1,8 @@
-//! Laws of instructions: what an instruction does depends on no register but those that it reads, it keeps registers
-//! and memory in their ranges, and its accesses go by the tests of `located`.
+//! Laws of instructions: what an instruction does depends on no register but those that it reads, it keeps
+//! registers and memory in their ranges, and its accesses follow the tests of `located`.
 //!
-//! Stands on `stl_tree`, whose instruction table these laws are about, and on `st_tree`, whose proofs show that writes
-//! keep a memory of bytes one. It computes nothing: the contracts of its functions are the laws.
+//! Uses `stl_tree`, whose table of instructions these laws are about, and `st_tree`, whose proofs show that
+//! writes keep a memory of bytes. It computes nothing: the contracts of its functions are the laws.
 #![tactic(auto)]
 
 ghost use Rattle.instruction_laws.specs.InstructionLaws.{AccessesAreLocated, EffectsDependOnReads, RangesAreKept};
@@ -17,7 +17,8 @@ pub fn ranges_are_kept()
     ensures { RangesAreKept }
 {}
 
-/// An access reaches the place that its operand is aimed at, or meets the fault of the first test that holds there.
+/// An access reaches the place that its operand is aimed at, or has the fault of the first test that is true
+/// there.
 pub fn accesses_are_located()
     ensures { AccessesAreLocated }
 {}

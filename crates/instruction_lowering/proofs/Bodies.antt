@@ -12,8 +12,8 @@ use Rattle.stl_tree.specs.declared.program.Op.TheVariants as op
 use Rattle.std.specs.List.{flat_map}
 use Rattle.st_tree.proofs.Common.{flat_map-append}
 use Rattle.st_tree.proofs.PartEquations.{expressions_in_append}
-use Rattle.st_tree.specs.Parts.{expressions_in, reads_in, reads_of as variables_of}
-use Rattle.st_tree.specs.WellTyped.{Sight}
+use Rattle.st_tree.specs.BodyParts.{expressions_in, reads_in, reads_of as variables_of}
+use Rattle.st_tree.specs.WellTyped.{UnitScope}
 use Rattle.st_tree.specs.declared.expr.StType.{StType}
 use Rattle.st_tree.specs.declared.expr.Var.{Var}
 use Rattle.st_tree.specs.declared.expr.Var.TheVariants as var
@@ -22,25 +22,25 @@ use Rattle.graph_rules.proofs.Runs.{order_equations}
 use Rattle.bit_templates.proofs.Serving.{bit_logic}
 use Rattle.bit_templates.specs.Brackets.{bracket_at, types_of_bracket}
 use Rattle.bit_templates.specs.declared.chain.OpenBracket.{OpenBracket}
-use Rattle.row_templates.specs.Builders.{literal_of, set_of}
-use Rattle.row_templates.specs.Nodes.{nodes_in}
-use Rattle.row_templates.specs.Reading.{EachRegister, IsAmong}
-use Rattle.row_templates.specs.Templates.{AreInOrder, AreTyped, IsPlainBody, IsTemplate}
-use Rattle.row_templates.specs.Writes.{AreWrites}
-use Rattle.row_templates.proofs.FetchBounds.{writes_in_parts}
-use Rattle.row_templates.proofs.Obligations.{order_in_parts, ordered, plain_in_parts}
-use Rattle.row_templates.proofs.ReadRegisters.{both_read, variables_read}
-use Rattle.row_templates.proofs.Sizes.{counts, of_append, of_nothing}
-use Rattle.row_templates.proofs.Typing.{cleared_plain, left_typed, literal_is, no_statement, right_typed, set_plain}
+use Rattle.template_parts.specs.Builders.{literal_of, set_of}
+use Rattle.template_parts.specs.Nodes.{nodes_in}
+use Rattle.template_parts.specs.Reading.{EachRegister, IsAmong}
+use Rattle.template_parts.specs.Templates.{AreInOrder, AreTyped, IsPlainBody, IsTemplate}
+use Rattle.template_parts.specs.Writes.{AreWrites}
+use Rattle.template_parts.proofs.FetchBounds.{writes_in_parts}
+use Rattle.template_parts.proofs.Obligations.{order_in_parts, ordered, plain_in_parts}
+use Rattle.template_parts.proofs.ReadRegisters.{both_read, variables_read}
+use Rattle.template_parts.proofs.Sizes.{counts, of_append, of_nothing}
+use Rattle.template_parts.proofs.Typing.{cleared_plain, left_typed, literal_is, no_statement, right_typed, set_plain}
 use Rattle.instruction_lowering.specs.Lowered.{IsRead, ends_block}
 use Rattle.instruction_lowering.specs.inner.Temporaries.{types_in, types_of}
-use Rattle.instruction_lowering.specs.declared.statements.Spot.{Spot}
+use Rattle.instruction_lowering.specs.declared.statements.LoweringContext.{LoweringContext}
 use Rattle.instruction_lowering.specs.inner.Lowering.{steps_of, used_in}
-use Rattle.instruction_lowering.specs.inner.Templates.{behind, close_innermost, end_word_of, outer_of, statements_of}
+use Rattle.instruction_lowering.specs.inner.Templates.{context_after, close_innermost, end_word_of, outer_of, statements_of}
 use Rattle.instruction_lowering.proofs.Serving.{serves}
 
 -- statements of so many instructions, which may read such registers, with so many locals from the first one on
-pub record HasBounds (P : Reg → Type 0) (sight : Sight) (first count size : ℕ) (xs : List Stmt) : Type 0 where
+pub record HasBounds (P : Reg → Type 0) (sight : UnitScope) (first count size : ℕ) (xs : List Stmt) : Type 0 where
   pub writes : AreWrites xs
   pub few : length xs ≤ 11 * size
   pub small : nodes_in xs ≤ 91 * size
@@ -56,9 +56,10 @@ each_more P Q more (v ∷ vs) h = each_more P Q more vs h
 reads_in_parts : (xs ys : List Stmt) → reads_in (xs ++ ys) ≡ reads_in xs ++ reads_in ys
 reads_in_parts xs ys = ap (flat_map variables_of) (expressions_in_append xs ys) ∙ flat_map-append variables_of (expressions_in xs) (expressions_in ys)
 
-module _ (sight : Sight) where
+module _ (sight : UnitScope) where
   -- one body after another
-  both_bounds : (P : Reg → Type 0) (first middle one two a b : ℕ) (xs ys : List Stmt) → middle ≡ first + one → HasBounds P sight first one a xs → HasBounds P sight middle two b ys
+  both_bounds : (P : Reg → Type 0) (first middle one two a b : ℕ) (xs ys : List Stmt)
+      → middle ≡ first + one → HasBounds P sight first one a xs → HasBounds P sight middle two b ys
       → HasBounds P sight first (one + two) (a + b) (xs ++ ys)
   both_bounds P first middle one two a b xs ys e h k =
       record {
@@ -116,7 +117,8 @@ module _ (sight : Sight) where
   outer_kept used (o ∷ outer) h = h.1
 
   -- the brackets behind an instruction are
-  kept_behind : (o : Op) (q : Spot) → AreTyped sight q.used (types_of o) → AreKept q.used q.brackets → AreKept (behind o q).used (behind o q).brackets
+  kept_behind : (o : Op) (q : LoweringContext) → AreTyped sight q.used (types_of o)
+      → AreKept q.used q.brackets → AreKept (context_after o q).used (context_after o q).brackets
   kept_behind (op.Bracket c) q own h =
       (record { first = q.used; bracket = refl; below = omega arith; typed = own }, kept_higher q.used (q.used + 3) q.brackets (omega arith) h)
   kept_behind op.Close q own h = outer_kept q.used q.brackets h
@@ -149,10 +151,12 @@ module _ (sight : Sight) where
         small = end_nodes;
         reads = simp variables_read tt;
         locals = ordered first 0 end_word_of (simp order_equations) refl;
-        plain = cleared_plain sight false (set_of reg.Os (literal_of false) ∷ []) (set_plain sight reg.Os (literal_of false) [] (omega arith) (literal_is sight false) (no_statement sight));
+        plain =
+            cleared_plain sight false (set_of reg.Os (literal_of false) ∷ [])
+            (set_plain sight reg.Os (literal_of false) [] (omega arith) (literal_is sight false) (no_statement sight));
       }
 
-  one_bounds : (o : Op) (q : Spot) → HasOperand o → AreTyped sight q.used (types_of o) → AreKept q.used q.brackets
+  one_bounds : (o : Op) (q : LoweringContext) → HasOperand o → AreTyped sight q.used (types_of o) → AreKept q.used q.brackets
       → HasBounds (λ (r : Reg). IsAmong r (reads_of o)) sight q.used (length (types_of o)) 1 (statements_of q o)
   one_bounds (op.Bracket c) q h own kept =
       of_template (op.Bracket c) q.used types_of_bracket (statements_of q (op.Bracket c)) own (bit_logic.opening c q.used).template
@@ -163,42 +167,45 @@ module _ (sight : Sight) where
   abbrev HasItsOperand : Instr → Type 0
   HasItsOperand i = HasOperand i.op
 
-  more_reads : (P Q : Reg → Type 0) (first count size : ℕ) (xs : List Stmt) → ((r : Reg) → P r → Q r) → HasBounds P sight first count size xs → HasBounds Q sight first count size xs
+  more_reads : (P Q : Reg → Type 0) (first count size : ℕ) (xs : List Stmt) → ((r : Reg) → P r → Q r)
+      → HasBounds P sight first count size xs → HasBounds Q sight first count size xs
   more_reads P Q first count size xs more h =
       record { writes = h.writes; few = h.few; small = h.small; reads = each_more P Q more (reads_in xs) h.reads; locals = h.locals; plain = h.plain }
 
   -- an instruction takes as many temporaries as it has types of them
-  used_one : (o : Op) (q : Spot) → (behind o q).used ≡ q.used + length (types_of o)
+  used_one : (o : Op) (q : LoweringContext) → (context_after o q).used ≡ q.used + length (types_of o)
   used_one (op.Bracket c) q = refl
   used_one op.Close q = omega arith
   used_one o q = refl
 
-  pub body_bounds : (body : List Instr) (q : Spot) → HaveOperands body → AreTyped sight q.used (types_in body) → AreKept q.used q.brackets
+  pub body_bounds : (body : List Instr) (q : LoweringContext) → HaveOperands body → AreTyped sight q.used (types_in body) → AreKept q.used q.brackets
       → HasBounds (IsRead body) sight q.used (used_in body) (length body) (steps_of q body)
   body_bounds [] q h own kept = no_bounds (IsRead []) q.used 0
   body_bounds (i ∷ rest) q h own kept =
       let more : 1 + length rest ≡ length (i ∷ rest) = omega arith in
       subst (λ (size : ℕ). HasBounds (IsRead (i ∷ rest)) sight q.used (used_in (i ∷ rest)) size (steps_of q (i ∷ rest))) more
-      (by (ends_block i.op) (body_bounds rest (behind i.op q) (All-tail HasItsOperand i rest h) others_typed (kept_behind i.op q typed kept)))
+      (by (ends_block i.op) (body_bounds rest (context_after i.op q) (All-tail HasItsOperand i rest h) others_typed (kept_behind i.op q typed kept)))
     where
       typed : AreTyped sight q.used (types_of i.op)
       typed = left_typed sight q.used (types_of i.op) (types_in rest) own
 
-      others_typed : AreTyped sight (behind i.op q).used (types_in rest)
-      others_typed = right_typed sight q.used (behind i.op q).used (types_of i.op) (types_in rest) (used_one i.op q) own
+      others_typed : AreTyped sight (context_after i.op q).used (types_in rest)
+      others_typed = right_typed sight q.used (context_after i.op q).used (types_of i.op) (types_in rest) (used_one i.op q) own
 
       here : HasBounds (IsRead (i ∷ rest)) sight q.used (length (types_of i.op)) 1 (statements_of q i.op)
       here =
           more_reads (λ (r : Reg). IsAmong r (reads_of i.op)) (IsRead (i ∷ rest)) q.used (length (types_of i.op)) 1 (statements_of q i.op) (λ r a. inl a)
           (one_bounds i.op q (All-head HasItsOperand i rest h) typed kept)
 
-      by : (b : Bool) → HasBounds (IsRead rest) sight (behind i.op q).used (used_in rest) (length rest) (steps_of (behind i.op q) rest)
+      by : (b : Bool) → HasBounds (IsRead rest) sight (context_after i.op q).used (used_in rest) (length rest) (steps_of (context_after i.op q) rest)
           → HasBounds (IsRead (i ∷ rest)) sight q.used (length (types_of i.op) + (if b then 0 else used_in rest)) (1 + length rest)
-          (statements_of q i.op ++ (if b then [] else steps_of (behind i.op q) rest))
+          (statements_of q i.op ++ (if b then [] else steps_of (context_after i.op q) rest))
       by true others =
           both_bounds (IsRead (i ∷ rest)) q.used (q.used + length (types_of i.op)) (length (types_of i.op)) 0 1 (length rest) (statements_of q i.op) [] refl
           here (no_bounds (IsRead (i ∷ rest)) (q.used + length (types_of i.op)) (length rest))
       by false others =
-          both_bounds (IsRead (i ∷ rest)) q.used (behind i.op q).used (length (types_of i.op)) (used_in rest) 1 (length rest) (statements_of q i.op) (steps_of (behind i.op q) rest)
+          both_bounds (IsRead (i ∷ rest)) q.used (context_after i.op q).used (length (types_of i.op))
+          (used_in rest) 1 (length rest) (statements_of q i.op) (steps_of (context_after i.op q) rest)
           (used_one i.op q) here
-          (more_reads (IsRead rest) (IsRead (i ∷ rest)) (behind i.op q).used (used_in rest) (length rest) (steps_of (behind i.op q) rest) (λ r a. inr a) others)
+          (more_reads (IsRead rest) (IsRead (i ∷ rest)) (context_after i.op q).used (used_in rest)
+          (length rest) (steps_of (context_after i.op q) rest) (λ r a. inr a) others)

@@ -9,9 +9,9 @@ use Rattle.st_tree.specs.Meaning.{Out, Faults, Normal}
 use Rattle.st_tree.specs.State.{State}
 use Rattle.bit_templates.specs.Brackets.{KeepBrackets}
 use Rattle.bit_templates.specs.declared.chain.OpenBracket.{OpenBracket}
-use Rattle.row_templates.specs.DoesRow.{DoesRow, own_of}
-use Rattle.row_templates.specs.Related.{Frames, Related}
-use Rattle.instruction_lowering.specs.declared.statements.Spot.{Spot}
+use Rattle.template_parts.specs.DoesInstruction.{DoesInstruction, own_of}
+use Rattle.template_parts.specs.Related.{Frames, Related}
+use Rattle.instruction_lowering.specs.declared.statements.LoweringContext.{LoweringContext}
 use Rattle.instruction_lowering.proofs.LeftBrackets.{LeavesBrackets}
 use Rattle.instruction_lowering.proofs.Temporaries.{Keeps, kept_below}
 
@@ -23,7 +23,7 @@ IsInside other = Unit {0}
 -- how its statements ended that began with these units and this memory: in a state that is related to the one
 -- after the instruction and keeps the brackets that are open at the spot behind it, with no unit taken; or by the
 -- same fault, with the areas of the memory as they were
-abbrev pub Does : Out → ℕ → ℕ → Spot → Frames → Contents → Effect → Type 0
+abbrev pub Does : Out → ℕ → ℕ → LoweringContext → Frames → Contents → Effect → Type 0
 Does ended units total p frames memory (next after) =
     (t : State) × (ended ≡ Normal units t) × Related frames after t × Keeps total p after.brackets t.activations
 Does ended units total p frames memory (fault f) = (t : State) × (ended ≡ Faults f t) × (t.memory.areas ≡ memory.areas)
@@ -34,10 +34,11 @@ Does ended units total p frames memory (leave after) = ⊥
 -- Instructions that open and close no bracket
 
 -- what it does, its statements do at any spot with the same brackets before and behind
-pub does_row : (ended : Out) (units total : ℕ) (p q : Spot) (frames : Frames) (s : State) (memory : Contents) (entries : List Entry) (effect : Effect)
+pub does_instruction : (ended : Out) (units total : ℕ) (p q : LoweringContext)
+    (frames : Frames) (s : State) (memory : Contents) (entries : List Entry) (effect : Effect)
     → q.brackets ≡ p.brackets → p.used ≤ q.used → LeavesBrackets entries effect → Keeps total p entries s.activations
-    → DoesRow ended units p.used frames s memory effect → Does ended units total q frames memory effect
-does_row ended units total p q frames s memory entries (next after) same more left keeps row = (
+    → DoesInstruction ended units p.used frames s memory effect → Does ended units total q frames memory effect
+does_instruction ended units total p q frames s memory entries (next after) same more left keeps row = (
   row.to,
   row.goes,
   row.related,
@@ -48,7 +49,7 @@ does_row ended units total p q frames s memory entries (next after) same more le
         (kept_below p.used q.used p.brackets entries (own_of s.activations) (own_of row.to.activations) more row.below keeps.1)),
   ),
 )
-does_row ended units total p q frames s memory entries (fault f) same more left keeps row = (row.at, row.stops, row.areas)
-does_row ended units total p q frames s memory entries (go to after) same more left keeps row = elim row [ ]
-does_row ended units total p q frames s memory entries (enter call after) same more left keeps row = elim row [ ]
-does_row ended units total p q frames s memory entries (leave after) same more left keeps row = elim row [ ]
+does_instruction ended units total p q frames s memory entries (fault f) same more left keeps row = (row.at, row.stops, row.areas)
+does_instruction ended units total p q frames s memory entries (go to after) same more left keeps row = elim row [ ]
+does_instruction ended units total p q frames s memory entries (enter call after) same more left keeps row = elim row [ ]
+does_instruction ended units total p q frames s memory entries (leave after) same more left keeps row = elim row [ ]

@@ -6,11 +6,11 @@ use Rattle.s7_base.specs.declared.outcome.Fault.{Fault}
 use Rattle.s7_base.specs.declared.word.Width.{Width}
 use Rattle.s7_base.specs.declared.word.Width.TheVariants as width
 use Rattle.status_word.specs.StatusBits.{StatusBits, after_check, after_edge, after_store}
-use Rattle.stl_tree.specs.Accumulators.{loaded, part, read_number, write_number}
-use Rattle.stl_tree.specs.Conversions.{converted}
+use Rattle.stl_tree.specs.Accumulators.{after_load, part, read_number, write_number}
+use Rattle.stl_tree.specs.Conversions.{after_conversion}
 use Rattle.stl_tree.specs.AddressRegisters.{pointer_in, with_pointer}
 use Rattle.stl_tree.specs.DataBlocks.{db_opened, di_opened}
-use Rattle.stl_tree.specs.Instructions.{at_edge, block_opened, effect_of, on_registers, on_status, pointed_from, pointer_stored, put, stored, taken}
+use Rattle.stl_tree.specs.Instructions.{at_edge, block_opened, effect_of, on_registers, on_status, pointed_from, pointer_stored, write_operand, store_where_rlo, taken}
 use Rattle.stl_tree.specs.Now.{Now, next, with_memory, with_status, with_value}
 use Rattle.stl_tree.specs.Registers.{RegisterValues}
 use Rattle.stl_tree.specs.declared.program.Ar.{Ar}
@@ -33,9 +33,9 @@ use Rattle.memory_areas.specs.declared.place.Place.{Place}
 use Rattle.s7_base.specs.declared.check.Entry.{Entry}
 use Rattle.s7_base.specs.declared.outcome.Fault.{Fault}
 use Rattle.stl_tree.specs.Now.{Effect, depth, with_registers}
-use Rattle.stl_tree.specs.Operands.{Found, aimed_by, aimed_in, found_at, place_in, with_place}
+use Rattle.stl_tree.specs.Operands.{OperandPlace, aimed_by, aimed_in, found_at, place_in, with_place}
 use Rattle.stl_tree.specs.declared.program.Operand.TheVariants as operand
-use Rattle.row_templates.proofs.Pointers.{place_pointed}
+use Rattle.template_parts.proofs.Pointers.{place_pointed}
 
 -- an effect leaves the open brackets as they were
 abbrev pub LeavesBrackets : List Entry → Effect → Type 0
@@ -43,7 +43,8 @@ LeavesBrackets entries (next after) = after.brackets ≡ entries
 LeavesBrackets entries other = Unit {0}
 
 -- an effect by a value does where each one does
-pub left_by_value : {A : Type 0} (entries : List Entry) (effect : A → Effect) (r : Result A Fault) → ((x : A) → LeavesBrackets entries (effect x)) → LeavesBrackets entries (with_value r effect)
+pub left_by_value : {A : Type 0} (entries : List Entry) (effect : A → Effect) (r : Result A Fault)
+    → ((x : A) → LeavesBrackets entries (effect x)) → LeavesBrackets entries (with_value r effect)
 left_by_value entries effect (Ok x) h = h x
 left_by_value entries effect (Err f) h = tt
 
@@ -51,7 +52,7 @@ left_by_value entries effect (Err f) h = tt
 abbrev aimed_place : AreaName → ℕ → Now → Place
 aimed_place a p now = place_pointed a p now.registers.db now.registers.di (depth now.activations)
 
-abbrev is_found : Place → Now → Result Found Fault
+abbrev is_found : Place → Now → Result OperandPlace Fault
 is_found p now = Ok (record { place = p; after = now })
 
 -- and one by the place of an operand, since finding it does
@@ -87,20 +88,27 @@ module _ (now : Now) where
   left_by_write : (after : Now) (written : Result Contents Fault) (row : Bool → StatusBits → StatusBits) → after.brackets ≡ now.brackets
       → LeavesBrackets now.brackets (with_memory written after (λ (done : Now). next (with_status (row done.registers.status.rlo) done)))
   left_by_write after written row same =
-      left_by_value {A = Contents} now.brackets (λ (m : Contents). next (with_status (row after.registers.status.rlo) (record after { memory = m }))) written (λ m. same)
+      left_by_value {A = Contents} now.brackets
+      (λ (m : Contents). next (with_status (row after.registers.status.rlo) (record after { memory = m }))) written (λ m. same)
 
-  left_by_store : (o : Operand) (value : Bool) → LeavesBrackets now.brackets (stored value o now)
+  left_by_store : (o : Operand) (value : Bool) → LeavesBrackets now.brackets (store_where_rlo value o now)
   left_by_store o value =
       left_at_place now.brackets o now
-      (λ q after. with_value (read_bit q after.memory) (λ b. with_memory (write_bit q (if after.registers.status.rlo then value else b) after.memory) after (on_status (after_store (if after.registers.status.rlo then value else b))))) refl
-      (λ q after same. left_by_value {A = Bool} now.brackets (λ (b : Bool). with_memory (write_bit q (if after.registers.status.rlo then value else b) after.memory) after (on_status (after_store (if after.registers.status.rlo then value else b)))) (read_bit q after.memory)
-      (λ b. left_by_write after (write_bit q (if after.registers.status.rlo then value else b) after.memory) (λ rlo. after_store (if after.registers.status.rlo then value else b)) same))
+      (λ q after. with_value (read_bit q after.memory) (λ b. with_memory (write_bit q (if after.registers.status.rlo then value else b) after.memory) after
+      (on_status (after_store (if after.registers.status.rlo then value else b))))) refl
+      (λ q after same. left_by_value {A = Bool} now.brackets
+      (λ (b : Bool). with_memory (write_bit q (if after.registers.status.rlo then value else b) after.memory) after
+      (on_status (after_store (if after.registers.status.rlo then value else b)))) (read_bit q after.memory)
+      (λ b. left_by_write after (write_bit q (if after.registers.status.rlo then value else b) after.memory)
+      (λ rlo. after_store (if after.registers.status.rlo then value else b)) same))
 
   left_by_edge : (o : Operand) (rising : Bool) → LeavesBrackets now.brackets (at_edge rising o now)
   left_by_edge o rising =
       left_at_place now.brackets o now
-      (λ q after. with_value (read_bit q after.memory) (λ b. with_memory (write_bit q after.registers.status.rlo after.memory) after (on_status (after_edge rising b)))) refl
-      (λ q after same. left_by_value {A = Bool} now.brackets (λ (b : Bool). with_memory (write_bit q after.registers.status.rlo after.memory) after (on_status (after_edge rising b))) (read_bit q after.memory)
+      (λ q after. with_value (read_bit q after.memory)
+      (λ b. with_memory (write_bit q after.registers.status.rlo after.memory) after (on_status (after_edge rising b)))) refl
+      (λ q after same. left_by_value {A = Bool} now.brackets
+      (λ (b : Bool). with_memory (write_bit q after.registers.status.rlo after.memory) after (on_status (after_edge rising b))) (read_bit q after.memory)
       (λ b. left_by_write after (write_bit q after.registers.status.rlo after.memory) (λ rlo. after_edge rising b) same))
 
   -- a number that is read or written leaves the brackets
@@ -109,10 +117,11 @@ module _ (now : Now) where
       left_at_place now.brackets o now (λ q after. with_value (read_number w q after.memory) (λ v. on_registers (row v) after)) refl
       (λ q after same. left_by_value {A = ℕ} now.brackets (λ (v : ℕ). on_registers (row v) after) (read_number w q after.memory) (λ v. same))
 
-  left_by_putting : (w : Width) (value : RegisterValues → ℕ) (o : Operand) → LeavesBrackets now.brackets (put w value o now)
+  left_by_putting : (w : Width) (value : RegisterValues → ℕ) (o : Operand) → LeavesBrackets now.brackets (write_operand w value o now)
   left_by_putting w value o =
       left_at_place now.brackets o now (λ q after. with_memory (write_number w q (value after.registers) after.memory) after next) refl
-      (λ q after same. left_by_value {A = Contents} now.brackets (λ (m : Contents). next (record after { memory = m })) (write_number w q (value after.registers) after.memory) (λ m. same))
+      (λ q after same. left_by_value {A = Contents} now.brackets (λ (m : Contents). next (record after { memory = m }))
+      (write_number w q (value after.registers) after.memory) (λ m. same))
 
   left_by_pointing : (a : Ar) (from : ArLoad) → LeavesBrackets now.brackets (pointed_from a from now)
   left_by_pointing a ar_load.Accu1 = refl
@@ -139,13 +148,15 @@ module _ (now : Now) where
   brackets_left op.Close h = elim h [ ]
   brackets_left op.BlockEnd h = elim h [ ]
   brackets_left (op.Assign o) h =
-      left_at_place now.brackets o now (λ q after. with_memory (write_bit q after.registers.status.rlo after.memory) after (λ (done : Now). next (with_status (after_store done.registers.status.rlo) done))) refl
+      left_at_place now.brackets o now
+      (λ q after. with_memory (write_bit q after.registers.status.rlo after.memory) after
+      (λ (done : Now). next (with_status (after_store done.registers.status.rlo) done))) refl
       (λ q after same. left_by_write after (write_bit q after.registers.status.rlo after.memory) after_store same)
   brackets_left (op.Set o) h = left_by_store o true
   brackets_left (op.Reset o) h = left_by_store o false
   brackets_left (op.EdgeUp o) h = left_by_edge o true
   brackets_left (op.EdgeDown o) h = left_by_edge o false
-  brackets_left (op.Load (load.At o w)) h = left_by_taking w loaded o
+  brackets_left (op.Load (load.At o w)) h = left_by_taking w after_load o
   brackets_left (op.Load (load.Constant c)) h = refl
   brackets_left (op.Transfer o w) h = left_by_putting w (λ r. part w r.accu1) o
   brackets_left (op.LoadAr a from) h = left_by_pointing a from
@@ -153,5 +164,6 @@ module _ (now : Now) where
   brackets_left (op.OpenDb d) h = left_by_opening db_opened d
   brackets_left (op.OpenDi d) h = left_by_opening di_opened d
   brackets_left (op.Unary u) h =
-      left_by_value {A = RegisterValues} now.brackets (λ (r : RegisterValues). next (record now { registers = r })) (converted u now.registers) (λ r. refl)
+      left_by_value {A = RegisterValues} now.brackets
+      (λ (r : RegisterValues). next (record now { registers = r })) (after_conversion u now.registers) (λ r. refl)
   brackets_left o h = refl

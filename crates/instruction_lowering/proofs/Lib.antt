@@ -6,7 +6,7 @@ pub mod Does
 pub mod Names
 pub mod PlainGraph
 pub mod ProperNames
-pub mod Rows
+pub mod Effects
 pub mod Same
 pub mod Serving
 pub mod Simulation

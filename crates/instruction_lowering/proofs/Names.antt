@@ -109,12 +109,14 @@ no_block : (o : Option Block) → o ≡ None → IsSome o → ⊥
 no_block None e h = cc
 no_block (Some b) e h = cc
 
-by_test : (called : BlockName) (blocks : List Block) (test : Bool) → nat_lt (position_or_len (λ (b : Block). is_same_name b.name called) blocks) (length blocks) ≡ test
+by_test : (called : BlockName) (blocks : List Block) (test : Bool)
+    → nat_lt (position_or_len (λ (b : Block). is_same_name b.name called) blocks) (length blocks) ≡ test
     → IsSome (block_of called blocks) → IsSome (cond test (Some (position_or_len (λ (b : Block). is_same_name b.name called) blocks)) None)
 by_test called blocks true e h = refl
 by_test called blocks false e h =
     let k : ℕ = position_or_len (λ (b : Block). is_same_name b.name called) blocks in
-    absurd (no_block (block_of called blocks) (find_at (λ (b : Block). is_same_name b.name called) blocks ∙ slice_get_past blocks k (ltb-false k (length blocks) e)) h)
+    absurd
+    (no_block (block_of called blocks) (find_at (λ (b : Block). is_same_name b.name called) blocks ∙ slice_get_past blocks k (ltb-false k (length blocks) e)) h)
 
 -- a block that is there has a position
 pub position_of : (called : BlockName) (blocks : List Block) → IsSome (block_of called blocks) → IsSome (block_named called blocks)
@@ -147,11 +149,13 @@ not_meant called h b =
 
 -- Whatever is made of each block, and found by its name
 module _ (A : Type 0) (of : Block → A) (test : A → Bool) where
-  chosen : (found : Bool) (b : Block) (o : Option Block) (o' : Option A) → o' ≡ option_map of o → cond found (Some (of b)) o' ≡ option_map of (cond found (Some b) o)
+  chosen : (found : Bool) (b : Block) (o : Option Block) (o' : Option A) → o' ≡ option_map of o
+      → cond found (Some (of b)) o' ≡ option_map of (cond found (Some b) o)
   chosen true b o o' e = refl
   chosen false b o o' e = e
 
-  pub found_of : (called : BlockName) → ((b : Block) → IsAcceptedBlock b → test (of b) ≡ is_same_name b.name called) → (blocks : List Block) → All IsAcceptedBlock blocks
+  pub found_of : (called : BlockName) → ((b : Block) → IsAcceptedBlock b → test (of b) ≡ is_same_name b.name called)
+      → (blocks : List Block) → All IsAcceptedBlock blocks
       → find test (map of blocks) ≡ option_map of (block_of called blocks)
   found_of called same [] all = refl
   found_of called same (b ∷ bs) all =
@@ -184,10 +188,12 @@ found_named called (x ∷ xs) b e =
     (at_find (is_same_name x.name called) x b (block_of called xs) e)
 
 -- it is not larger than the largest
-pub found_size : (called : BlockName) (blocks : List Block) (b : Block) → block_of called blocks ≡ Some b → length b.body ≤ greatest (map (λ (y : Block). length y.body) blocks)
+pub found_size : (called : BlockName) (blocks : List Block) (b : Block) → block_of called blocks ≡ Some b
+    → length b.body ≤ greatest (map (λ (y : Block). length y.body) blocks)
 found_size called [] b e = cc
 found_size called (x ∷ xs) b e =
-    ⊎_elim (λ (h : (is_same_name x.name called ≡ true) × (x ≡ b)). let same : length x.body ≡ length b.body = ap (λ (y : Block). length y.body) h.1 in omega arith)
+    ⊎_elim (λ (h : (is_same_name x.name called ≡ true) × (x ≡ b)). let same : length x.body ≡ length b.body =
+    ap (λ (y : Block). length y.body) h.1 in omega arith)
     (λ (h : block_of called xs ≡ Some b). let within = found_size called xs b h in omega arith)
     (at_find (is_same_name x.name called) x b (block_of called xs) e)
 

@@ -8,13 +8,13 @@ use Rattle.memory_areas.specs.declared.sizes.TheConstants.{ACTIVATIONS}
 use Rattle.st_tree.proofs.FittingCalls.{at_position}
 use Rattle.st_tree.specs.Chains.{chain_of, chain_to, unit_chain}
 use Rattle.s7_base.specs.Numbers.{greatest}
-use Rattle.st_tree.specs.Parts.{calls_in}
+use Rattle.st_tree.specs.BodyParts.{calls_in}
 use Rattle.st_tree.specs.Naming.{are_apart, key_of}
-use Rattle.graph_rules.specs.Plain.{AreSteps, IsGivenOn, IsOnlyEnd, IsPlainNode, IsPlainUnit, IsStep, IsTemporary, Plain, is_faultless, listed, listed_text}
+use Rattle.graph_rules.specs.Plain.{AreSteps, IsGivenOn, IsOnlyEnd, IsPlainNode, IsPlainUnit, IsStep, IsTemporary, Plain, is_faultless, node_statements, listed_text}
 use Rattle.graph_rules.specs.Runs.{AreOfRun, IsWritten, bodies_in, bodies_step, written_by}
 use Rattle.st_tree.specs.StRun.{called_name}
 use Rattle.st_tree.specs.Proper.{IsDataBlock, IsFormal, IsGlobal, IsProperUnit, Proper}
-use Rattle.st_tree.specs.WellTyped.{Head, head_of, sight_of, type_inside}
+use Rattle.st_tree.specs.WellTyped.{Head, head_of, unit_scope_of, type_inside}
 use Rattle.st_tree.specs.declared.expr.StType.{StType}
 use Rattle.st_tree.specs.declared.expr.Var.{Var}
 use Rattle.st_tree.specs.declared.graph.GraphPou.{GraphPou}
@@ -33,13 +33,13 @@ use Rattle.instruction_lowering.proofs.Names.{numbered}
 use Rattle.instruction_lowering.proofs.ProperNames.{has_name, names_unit, units_apart}
 use Rattle.instruction_lowering.proofs.Bodies.{HasBounds, body_bounds}
 use Rattle.instruction_lowering.specs.Lowered.{IsRead}
-use Rattle.row_templates.specs.Templates.{AreTyped, IsPlainBody}
-use Rattle.row_templates.specs.Writes.{AreWrites}
+use Rattle.template_parts.specs.Templates.{AreTyped, IsPlainBody}
+use Rattle.template_parts.specs.Writes.{AreWrites}
 use Rattle.instruction_lowering.proofs.TemporaryNames.{are_temporaries, locals_apart, proper_locals, so_many, typed_local}
 use Rattle.instruction_lowering.specs.Lowered.{ends_block}
 use Rattle.instruction_lowering.specs.inner.Temporaries.{types_in}
-use Rattle.instruction_lowering.specs.inner.Lowering.{AreFew, IsFew, lowered, node_of, steps_of, temporaries, temporary, unit_of, used_in}
-use Rattle.instruction_lowering.specs.inner.Templates.{first_spot, statements_of}
+use Rattle.instruction_lowering.specs.inner.Lowering.{AreFew, IsFew, graph_program_of, node_of, steps_of, temporaries, temporary, unit_of, used_in}
+use Rattle.instruction_lowering.specs.inner.Templates.{first_context, statements_of}
 use Rattle.stl_tree.specs.Accepted.{IsAccepted, IsAcceptedBlock, IsEnded}
 use Rattle.stl_tree.specs.declared.program.Block.{Block}
 use Rattle.stl_tree.specs.declared.program.Instr.{Instr}
@@ -49,7 +49,7 @@ use Rattle.stl_tree.specs.declared.program.Program.{Program}
 -- Units
 
 abbrev text_of : GraphPou → Pou
-text_of u = record u.head { body = listed u.graph.nodes }
+text_of u = record u.head { body = node_statements u.graph.nodes }
 
 -- some blocks at the front, one more of them, and all
 pub few_more : (blocks : List Block) (i : ℕ) (b : Block) → AreFew (take i blocks) → slice_get blocks i ≡ Some b → IsFew b → AreFew (take (i + 1) blocks)
@@ -73,20 +73,21 @@ module _ (block : Block) (h : IsAcceptedBlock block) where
   small : IsFew block → 1 + length (temporaries 0 types) ≤ 2 ^ 33
   small few = let e = so_many 0 types in omega arith
 
-  own_typed : (heads : List Head) → AreTyped (sight_of [] heads (text_of (unit_of block))) 0 types
+  own_typed : (heads : List Head) → AreTyped (unit_scope_of [] heads (text_of (unit_of block))) 0 types
   own_typed heads k ty e =
       let at : 0 + k ≡ k = omega arith in
       ap (λ (i : ℕ). type_inside (slice_get (temporaries 0 types) i)) at ∙ typed_local 1 types (temporaries 0 types) (are_temporaries 0 types) k ty e
 
   bounds : (heads : List Head)
-      → HasBounds (IsRead block.body) (sight_of [] heads (text_of (unit_of block))) 0 (used_in block.body) (length block.body) (steps_of first_spot block.body)
-  bounds heads = body_bounds (sight_of [] heads (text_of (unit_of block))) block.body first_spot h.operands (own_typed heads) tt
+      → HasBounds (IsRead block.body) (unit_scope_of [] heads (text_of (unit_of block))) 0
+      (used_in block.body) (length block.body) (steps_of first_context block.body)
+  bounds heads = body_bounds (unit_scope_of [] heads (text_of (unit_of block))) block.body first_context h.operands (own_typed heads) tt
 
   -- the text of its one node is those statements
-  plain_body : (heads : List Head) → IsPlainBody (sight_of [] heads (text_of (unit_of block))) (listed (node_of block.body ∷ []))
+  plain_body : (heads : List Head) → IsPlainBody (unit_scope_of [] heads (text_of (unit_of block))) (node_statements (node_of block.body ∷ []))
   plain_body heads =
-      let steps = steps_of first_spot block.body in
-      subst (IsPlainBody (sight_of [] heads (text_of (unit_of block)))) (sym (append-nil (steps ++ []) ∙ append-nil steps)) (bounds heads).plain
+      let steps = steps_of first_context block.body in
+      subst (IsPlainBody (unit_scope_of [] heads (text_of (unit_of block)))) (sym (append-nil (steps ++ []) ∙ append-nil steps)) (bounds heads).plain
 
   proper_unit : (few : IsFew block) (heads : List Head) → IsProperUnit [] heads (text_of (unit_of block))
   proper_unit few heads =
@@ -123,7 +124,8 @@ no_calls (b ∷ rest) h =
 only_end_of : (body : List Instr) → IsEnded body → length body == 1 ≡ true → IsOnlyEnd 1 0 (node_of body)
 only_end_of [] ended one = elim ended [ ]
 only_end_of (i ∷ []) ended one =
-    subst (λ (o : Op). IsOnlyEnd 1 0 (record { steps = statements_of first_spot o ++ (if ends_block o then [] else []); exit = exit.End; only_end = true })) (sym ended)
+    subst (λ (o : Op). IsOnlyEnd 1 0 (record { steps = statements_of first_context o ++ (if ends_block o then [] else []); exit = exit.End; only_end = true }))
+    (sym ended)
     (record { last = refl; exit = refl; few = omega arith; settings = tt })
 only_end_of (i ∷ j ∷ rest) ended one = let long : length (i ∷ j ∷ rest) ≡ 1 = eqb-true (length (i ∷ j ∷ rest)) 1 one in absurd (omega arith)
 
@@ -145,17 +147,19 @@ are_steps (x ∷ rest) h = elim h [ ]
 -- temporaries are named so
 pub are_named : (n : ℕ) (types : List StType) → All IsTemporary (temporaries n types)
 are_named n [] = All-nil IsTemporary
-are_named n (ty ∷ types) = All-cons IsTemporary (temporary (suc n) ty) (temporaries (suc n) types) (record { number = suc n; name = refl }) (are_named (suc n) types)
+are_named n (ty ∷ types) =
+    All-cons IsTemporary (temporary (suc n) ty) (temporaries (suc n) types) (record { number = suc n; name = refl }) (are_named (suc n) types)
 
 -- the bounds of a unit's one node
 pub unit_bounds : (block : Block) → IsAcceptedBlock block
-    → HasBounds (IsRead block.body) (sight_of [] [] (text_of (unit_of block))) 0 (used_in block.body) (length block.body) (steps_of first_spot block.body)
+    → HasBounds (IsRead block.body) (unit_scope_of [] [] (text_of (unit_of block))) 0
+    (used_in block.body) (length block.body) (steps_of first_context block.body)
 unit_bounds block h = bounds block h []
 
 plain_node : (block : Block) → IsAcceptedBlock block → IsPlainNode 1 0 (node_of block.body)
 plain_node block h =
     let b = unit_bounds block h in
-    let steps = steps_of first_spot block.body in
+    let steps = steps_of first_context block.body in
     record {
       steps = are_steps steps b.writes;
       runs = record {
@@ -179,7 +183,9 @@ plain_unit block h =
       names = are_named 0 (types_in block.body);
       low = body.high;
       divisors = body.divisors;
-      calls = subst (λ (calls : List (ℕ × List Var)). All (λ (call : ℕ × List Var). All IsGivenOn call.1) calls) (sym body.calls) (All-nil (λ (call : ℕ × List Var). All IsGivenOn call.1));
+      calls =
+          subst (λ (calls : List (ℕ × List Var)). All (λ (call : ℕ × List Var). All IsGivenOn call.1) calls)
+          (sym body.calls) (All-nil (λ (call : ℕ × List Var). All IsGivenOn call.1));
     }
   where
     nodes : (at : ℕ) (node : StNode) → slice_get (node_of block.body ∷ []) at ≡ Some node → IsPlainNode 1 at node
@@ -189,7 +195,8 @@ plain_unit block h =
 plain_units : (blocks : List Block) → All IsAcceptedBlock blocks → All IsPlainUnit (map unit_of blocks)
 plain_units [] h = All-nil IsPlainUnit
 plain_units (b ∷ rest) h =
-    All-cons IsPlainUnit (unit_of b) (map unit_of rest) (plain_unit b (All-head IsAcceptedBlock b rest h)) (plain_units rest (All-tail IsAcceptedBlock b rest h))
+    All-cons IsPlainUnit (unit_of b) (map unit_of rest) (plain_unit b (All-head IsAcceptedBlock b rest h))
+    (plain_units rest (All-tail IsAcceptedBlock b rest h))
 
 -- The whole
 
@@ -199,7 +206,7 @@ keys_are (b ∷ rest) = ap (λ ks. key_of (called_name b.name) ∷ ks) (keys_are
 
 module _ (program : Program) (accepted : IsAccepted program) (bytes : All IsDataBlock program.dbs) (few : AreFew program.blocks) where
   abbrev tree : StProgram
-  tree = listed_text (lowered program)
+  tree = listed_text (graph_program_of program)
 
   short : (n : ℕ) (unit : Pou) → slice_get tree.pous n ≡ Some unit → chain_of tree n ≤ ACTIVATIONS
   short n unit e =
@@ -225,5 +232,5 @@ module _ (program : Program) (accepted : IsAccepted program) (bytes : All IsData
         chains = short;
       }
 
-  pub plain_graph : Plain (lowered program)
+  pub plain_graph : Plain (graph_program_of program)
   plain_graph = record { text = proper_text; globals = refl; units = plain_units program.blocks accepted.blocks }

@@ -28,11 +28,11 @@ use Rattle.st_tree.specs.declared.program.Pou.{Pou}
 use Rattle.st_tree.specs.declared.program.StProgram.{StProgram}
 use Rattle.instruction_lowering.specs.Lowered.{AreUnitsOf, HasFormalsOf, IsExitBehind, IsExitOf, IsHeadOf, IsKindOf, IsNodeOf, IsRead, IsUnitOf, Lowered, SameGraphRuns, ends_block, is_end_alone}
 use Rattle.instruction_lowering.specs.inner.Temporaries.{types_in}
-use Rattle.instruction_lowering.specs.inner.Lowering.{head_for, lowered, node_of, steps_of, temporaries, unit_of, used_behind}
-use Rattle.instruction_lowering.specs.inner.Templates.{first_spot}
+use Rattle.instruction_lowering.specs.inner.Lowering.{head_for, graph_program_of, node_of, steps_of, temporaries, unit_of, used_behind}
+use Rattle.instruction_lowering.specs.inner.Templates.{first_context}
 use Rattle.instruction_laws.specs.Ranges.{AreInRange}
-use Rattle.row_templates.specs.Related.{AreAlike, AreFormals, Related}
-use Rattle.row_templates.proofs.Alike.{same_areas}
+use Rattle.template_parts.specs.Related.{AreAlike, AreFormals, Related}
+use Rattle.template_parts.proofs.Alike.{same_areas}
 use Rattle.instruction_lowering.proofs.PlainGraph.{are_named, unit_bounds}
 use Rattle.instruction_lowering.proofs.Bounds.{Begun, Side, back, begun_back, begun_forth, forth}
 use Rattle.instruction_lowering.proofs.Names.{IsAt, IsNumbered, block_at, block_of, found_each, found_numbered, found_of, found_size, meant, none_of, not_meant, position_of}
@@ -42,12 +42,12 @@ use Rattle.st_tree.specs.Calls.{activation_of, zero_of}
 use Rattle.st_tree.specs.declared.state.Reference.{Reference}
 use Rattle.std.proofs.lemmas.Bool.Decides.{nat_tests}
 use Rattle.std.proofs.lemmas.List.{append-nil, length-map}
-use Rattle.st_tree.specs.Parts.{reads_in}
+use Rattle.st_tree.specs.BodyParts.{reads_in}
 use Rattle.st_tree.specs.declared.graph.StExit.TheVariants as exit_of
 use Rattle.st_tree.specs.declared.program.Stmt.{Stmt}
 use Rattle.stl_tree.specs.declared.program.Instr.{Instr}
 use Rattle.stl_tree.specs.declared.program.Op.{Op}
-use Rattle.row_templates.specs.Reading.{EachRegister}
+use Rattle.template_parts.specs.Reading.{EachRegister}
 use Rattle.std.proofs.lemmas.List.Elements.{All-head, All-tail}
 use Rattle.instruction_lowering.proofs.Simulation.{Follows, Sees, Stack, at_node, both_end, ran, running_on, through, used_behind_all}
 
@@ -90,7 +90,7 @@ end_alone (i ∷ j ∷ rest) h = two_more (length rest)
 node_is : (b : Block) → IsAcceptedBlock b → IsNodeOf b.body (node_of b.body)
 node_is b h =
     let bounds = unit_bounds b h in
-    let steps : List Stmt = steps_of first_spot b.body in
+    let steps : List Stmt = steps_of first_context b.body in
     record {
       exit = ends_by_end b.body h.ends;
       only_end = end_alone b.body h.ends;
@@ -141,14 +141,16 @@ heads_found n h blocks formed =
     ap (unit_called (name.Ob n)) (map-map (λ (u : GraphPou). u.head) unit_of blocks)
     ∙ found_of Pou (λ (b : Block). head_for b) (is_meant (name.Ob n)) (name.Ob n) (meant n h) blocks formed
 
-no_head : (called : BlockName) → is_program called ≡ false → (blocks : List Block) → unit_called called (map (λ (u : GraphPou). u.head) (map unit_of blocks)) ≡ None
+no_head : (called : BlockName) → is_program called ≡ false → (blocks : List Block)
+    → unit_called called (map (λ (u : GraphPou). u.head) (map unit_of blocks)) ≡ None
 no_head called h blocks =
     ap (unit_called called) (map-map (λ (u : GraphPou). u.head) unit_of blocks)
     ∙ none_of Pou (λ (b : Block). head_for b) (is_meant called) (not_meant called h) blocks
 
 -- Runs
 
-module _ (program : Program) (formed : All IsAcceptedBlock program.blocks) (call : Call) (i : ℕ) (called : block_called call.block program.blocks ≡ Some i) where
+module _ (program : Program) (formed : All IsAcceptedBlock program.blocks) (call : Call)
+    (i : ℕ) (called : block_called call.block program.blocks ≡ Some i) where
   at : IsAt call.block program.blocks i
   at = block_at call.block program.blocks i (named_of call.block program.blocks i called)
 
@@ -156,7 +158,7 @@ module _ (program : Program) (formed : All IsAcceptedBlock program.blocks) (call
   b = at.block
 
   abbrev graph : GraphProgram
-  graph = lowered program
+  graph = graph_program_of program
 
   number : (n : ℕ) × (call.block ≡ name.Ob n)
   number = number_of call.block program.blocks i called
@@ -223,62 +225,80 @@ module _ (program : Program) (formed : All IsAcceptedBlock program.blocks) (call
   abbrev total : ℕ
   total = length (types_in b.body)
 
-  enough : used_behind first_spot b.body ≤ total
-  enough = let h = used_behind_all b.body first_spot in omega arith
+  enough : used_behind first_context b.body ≤ total
+  enough = let h = used_behind_all b.body first_context in omega arith
 
-  start_keeps : (memory : Areas) → Keeps total first_spot [] (state memory).activations
+  start_keeps : (memory : Areas) → Keeps total first_context [] (state memory).activations
   start_keeps memory = (length-map (temporaries 0 (types_in b.body)) zero_of ∙ so_many 0 (types_in b.body), tt)
 
   -- behind the first block nothing follows
-  nothing_follows : (counts : Counting) (side : Side) (n : ℕ) → Follows program graph counts side (size_of program) n first alone (λ units s. Ended s.memory.areas None) 0
+  nothing_follows : (counts : Counting) (side : Side) (n : ℕ)
+      → Follows program graph counts side (size_of program) n first alone (λ units s. Ended s.memory.areas None) 0
   nothing_follows counts side n j small units within to after s handed =
-      both_end side _ _ (ap end_of (over_stays j after.memory None) ∙ sym (ap (λ (m : Areas). Ended m None) (same_areas (running_on alone (record first { at = to })) after s handed)))
+      both_end side _ _
+      (ap end_of (over_stays j after.memory None)
+      ∙ sym (ap (λ (m : Areas). Ended m None) (same_areas (running_on alone (record first { at = to })) after s handed)))
 
   abbrev graph_from : Counting → Areas → ℕ → ℕ → Out
   graph_from counts memory most units = nodes_do counts graph most (node_of b.body ∷ []) 0 units (state memory)
 
   stl_is : (memory : Areas) (n : ℕ) → stl_run program call memory n ≡ ran n (running program (now memory))
-  stl_is memory n = ap (λ o. end_of (steps_on n (running program (record { registers = start; brackets = []; memory = with_areas memory; activations = first_activation o })))) called
+  stl_is memory n =
+      ap
+      (λ o. end_of (steps_on n (running program (record { registers = start; brackets = []; memory = with_areas memory; activations = first_activation o }))))
+      called
 
-  graph_is : (counts : Counting) (memory : Areas) (units : ℕ) → counted_run counts graph call memory (suc units) ≡ through (graph_from counts memory (most_nodes graph (suc units)) units) (λ units s. Ended s.memory.areas None)
+  graph_is : (counts : Counting) (memory : Areas) (units : ℕ)
+      → counted_run counts graph call memory (suc units)
+      ≡ through (graph_from counts memory (most_nodes graph (suc units)) units) (λ units s. Ended s.memory.areas None)
   graph_is counts memory units =
       ap (λ o. run_of_graph counts graph o call memory (suc units)) unit_there
       ∙ seen_through (graph_from counts memory (most_nodes graph (suc units)) units)
 
-  simulated : (counts : Counting) (side : Side) (memory : Areas) → IsMemoryOf program.dbs memory → (n units most : ℕ) → Begun side (size_of program) n units most 0 0
+  simulated : (counts : Counting) (side : Side) (memory : Areas) → IsMemoryOf program.dbs memory
+      → (n units most : ℕ) → Begun side (size_of program) n units most 0 0
       → Sees side (ran n (running program (now memory))) (through (graph_from counts memory most units) (λ units s. Ended s.memory.areas None))
   simulated counts side memory valid n units most begun =
       let shape = found_each IsAcceptedBlock call.block program.blocks b at.found formed in
       let within : length b.body ≤ size_of program = found_size call.block program.blocks b at.found in
-      at_node program graph counts side (size_of program) n first alone b at.there refl shape.ends shape.operands shape.brackets (omega arith) (now memory) (state memory) (start_related memory valid) total enough (start_keeps memory) units most 0 begun
+      at_node program graph counts side (size_of program) n first alone b at.there refl shape.ends shape.operands shape.brackets
+      (omega arith) (now memory) (state memory) (start_related memory valid) total enough (start_keeps memory) units most 0 begun
       (λ units s. Ended s.memory.areas None) (nothing_follows counts side n)
 
-  nodes_end : (memory : Areas) → IsMemoryOf program.dbs memory → (n : ℕ) (after : Areas) (fault : Option Fault) → stl_run program call memory n ≡ Ended after fault → graph_run graph call memory n ≡ Ended after fault
+  nodes_end : (memory : Areas) → IsMemoryOf program.dbs memory → (n : ℕ) (after : Areas) (fault : Option Fault)
+      → stl_run program call memory n ≡ Ended after fault → graph_run graph call memory n ≡ Ended after fault
   nodes_end memory valid zero after fault ended = absurd (going (sym (stl_is memory 0) ∙ ended))
     where
       going : Going ≡ Ended after fault → ⊥
       going e = cc
   nodes_end memory valid (suc n) after fault ended =
       graph_is each_node memory n
-      ∙ simulated each_node forth memory valid (suc n) n (most_nodes graph (suc n)) (begun_forth (size_of program) n (longest graph)) after fault (sym (stl_is memory (suc n)) ∙ ended)
+      ∙ simulated each_node forth memory valid (suc n) n (most_nodes graph (suc n))
+      (begun_forth (size_of program) n (longest graph)) after fault (sym (stl_is memory (suc n)) ∙ ended)
 
-  passes_end : (memory : Areas) → IsMemoryOf program.dbs memory → (n : ℕ) (after : Areas) (fault : Option Fault) → pass_run graph call memory n ≡ Ended after fault → stl_run program call memory (n * size_of program) ≡ Ended after fault
+  passes_end : (memory : Areas) → IsMemoryOf program.dbs memory → (n : ℕ) (after : Areas) (fault : Option Fault)
+      → pass_run graph call memory n ≡ Ended after fault → stl_run program call memory (n * size_of program) ≡ Ended after fault
   passes_end memory valid zero after fault ended = absurd (going (sym (ap (λ o. run_of_graph each_pass graph o call memory 0) unit_there) ∙ ended))
     where
       going : Going ≡ Ended after fault → ⊥
       going e = cc
   passes_end memory valid (suc n) after fault ended =
       stl_is memory (suc n * size_of program)
-      ∙ simulated each_pass back memory valid (suc n * size_of program) n (most_nodes graph (suc n)) (begun_back (size_of program) n (most_nodes graph (suc n))) after fault (sym (graph_is each_pass memory n) ∙ ended)
+      ∙ simulated each_pass back memory valid (suc n * size_of program) n (most_nodes graph (suc n))
+      (begun_back (size_of program) n (most_nodes graph (suc n))) after fault (sym (graph_is each_pass memory n) ∙ ended)
 
   same_runs : SameGraphRuns program.dbs (stl_run program call) (graph_run graph call) (pass_run graph call) (size_of program)
   same_runs =
-      record { forth = λ memory valid n after fault ended. nodes_end memory valid n after fault ended; back = λ memory valid n after fault ended. passes_end memory valid n after fault ended }
+      record {
+        forth = λ memory valid n after fault ended. nodes_end memory valid n after fault ended;
+        back = λ memory valid n after fault ended. passes_end memory valid n after fault ended;
+      }
 
   fits_graph : FitsGraph graph call
   fits_graph =
       subst (λ (o : Option Pou). FitsIfThere (heads_of graph) call o)
-      (sym (ap (λ (called : BlockName). unit_called called (heads_of graph).pous) number.1 ∙ heads_found number.0 numbered program.blocks formed ∙ ap (option_map (λ (b : Block). head_for b)) found))
+      (sym (ap (λ (called : BlockName). unit_called called (heads_of graph).pous) number.1
+      ∙ heads_found number.0 numbered program.blocks formed ∙ ap (option_map (λ (b : Block). head_for b)) found))
       (subst (λ (called : BlockName). FitsUnit program.dbs (head_for b) called call.instance call.actuals) (sym number.1) tt)
 
 some_unit : (o : Option Block) (text : StProgram) (call : Call) → FitsIfThere text call (option_map (λ (b : Block). head_for b) o) → IsSome o
@@ -287,16 +307,18 @@ some_unit (Some b) text call h = refl
 
 -- a call of a graph program is one of the block that its unit was lowered from
 fits_program : (program : Program) → All IsAcceptedBlock program.blocks → (call : Call) (called : BlockName) → HasNoInstance called
-    → FitsIfThere (heads_of (lowered program)) call (unit_called called (heads_of (lowered program)).pous) → IsSome (block_called called program.blocks)
+    → FitsIfThere (heads_of (graph_program_of program)) call (unit_called called (heads_of (graph_program_of program)).pous)
+    → IsSome (block_called called program.blocks)
 fits_program program formed call (name.Ob n) small fits =
     position_of (name.Ob n) program.blocks
-    (some_unit (block_of (name.Ob n) program.blocks) (heads_of (lowered program)) call
-    (subst (λ (o : Option Pou). FitsIfThere (heads_of (lowered program)) call o) (heads_found n small program.blocks formed) fits))
-fits_program program formed call (name.Fc n) small fits = absurd (subst (λ (o : Option Pou). FitsIfThere (heads_of (lowered program)) call o) (no_head (name.Fc n) refl program.blocks) fits)
+    (some_unit (block_of (name.Ob n) program.blocks) (heads_of (graph_program_of program)) call
+    (subst (λ (o : Option Pou). FitsIfThere (heads_of (graph_program_of program)) call o) (heads_found n small program.blocks formed) fits))
+fits_program program formed call (name.Fc n) small fits =
+    absurd (subst (λ (o : Option Pou). FitsIfThere (heads_of (graph_program_of program)) call o) (no_head (name.Fc n) refl program.blocks) fits)
 fits_program program formed call (name.Fb n) none fits = absurd none
 
 -- an accepted program means what its graph program means
-pub lowered_same : (program : Program) → IsAccepted program → Lowered program (lowered program)
+pub lowered_same : (program : Program) → IsAccepted program → Lowered program (graph_program_of program)
 lowered_same program accepted =
     let formed = accepted.blocks in
     record {

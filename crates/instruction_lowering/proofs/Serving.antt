@@ -5,15 +5,15 @@ use Rattle.stl_tree.specs.declared.accumulator.UnaryRow.{UnaryRow}
 use Rattle.stl_tree.specs.declared.accumulator.UnaryRow.TheVariants as unary
 use Rattle.stl_tree.specs.declared.program.Op.{Op}
 use Rattle.stl_tree.specs.declared.program.Op.TheVariants as op
-use Rattle.row_templates.specs.Templates.{Serves}
-use Rattle.accumulator_templates.proofs.InstructionRows.{accumulator_serves}
-use Rattle.arithmetic_templates.proofs.LawRows.{arithmetic_serves}
+use Rattle.template_parts.specs.Templates.{Serves}
+use Rattle.accumulator_templates.proofs.Serving.{accumulator_serves}
+use Rattle.arithmetic_templates.proofs.Serving.{arithmetic_serves}
 use Rattle.bit_templates.proofs.Serving.{bit_logic}
-use Rattle.digit_templates.proofs.LawRows.{digits_serve}
-use Rattle.pointer_templates.proofs.InstructionRows.{pointers_serve}
-use Rattle.shift_templates.proofs.ShiftRows.{shifts_serve}
+use Rattle.digit_templates.proofs.Serving.{digits_serve}
+use Rattle.pointer_templates.proofs.Serving.{pointers_serve}
+use Rattle.shift_templates.proofs.ShiftEffects.{shifts_serve}
 use Rattle.instruction_lowering.specs.inner.Temporaries.{types_of, types_of_unary}
-use Rattle.instruction_lowering.specs.declared.statements.Spot.{Spot}
+use Rattle.instruction_lowering.specs.declared.statements.LoweringContext.{LoweringContext}
 use Rattle.instruction_lowering.specs.inner.Templates.{statements_of, unary_of}
 use Rattle.instruction_lowering.proofs.LeftBrackets.{IsStraight}
 
@@ -31,7 +31,7 @@ unary_serves unary.Cad first = accumulator_serves.cad first
 unary_serves unary.Negi first = arithmetic_serves.negi first
 unary_serves unary.Negd first = arithmetic_serves.negd first
 
-pub serves : (o : Op) → IsStraight o → HasOperand o → (q : Spot) → Serves o q.used (types_of o) (statements_of q o)
+pub serves : (o : Op) → IsStraight o → HasOperand o → (q : LoweringContext) → Serves o q.used (types_of o) (statements_of q o)
 serves (op.Check c b) straight h q = bit_logic.check c b q.used h
 serves op.OrAlone straight h q = bit_logic.or_alone q.used
 serves (op.Bracket c) straight h q = elim straight [ ]

@@ -4,13 +4,13 @@ use Rattle.std.specs.Prelude.{slice_get}
 use Rattle.s7_base.specs.declared.check.Entry.{Entry}
 use Rattle.st_tree.specs.State.{Activation}
 use Rattle.st_tree.specs.declared.state.Value.{Value}
-use Rattle.row_templates.specs.DoesRow.{own_of}
+use Rattle.template_parts.specs.DoesInstruction.{own_of}
 use Rattle.bit_templates.specs.Brackets.{KeepBrackets, KeepsBracket}
 use Rattle.bit_templates.specs.declared.chain.OpenBracket.{OpenBracket}
-use Rattle.instruction_lowering.specs.declared.statements.Spot.{Spot}
+use Rattle.instruction_lowering.specs.declared.statements.LoweringContext.{LoweringContext}
 
 -- the running unit has so many locals, which keep the brackets that are open at a spot
-abbrev pub Keeps : ℕ → Spot → List Entry → List Activation → Type 0
+abbrev pub Keeps : ℕ → LoweringContext → List Entry → List Activation → Type 0
 Keeps total p entries acts = (length (own_of acts) ≡ total) × KeepBrackets p.used p.brackets entries (own_of acts)
 
 -- what lies below is all that counts

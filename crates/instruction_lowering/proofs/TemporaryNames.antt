@@ -100,7 +100,8 @@ is_new_one m n (ty ∷ types) (x ∷ rest) less small h =
     rw (h.0, same_key m n (omega arith) (omega arith), not_same m n less) more
 
 -- no two have one name
-pub locals_apart : (n : ℕ) (types : List StType) (locals : List Local) → n + length locals ≤ 2 ^ 33 → AreTemporaries n types locals → are_apart (keys_of locals) ≡ true
+pub locals_apart : (n : ℕ) (types : List StType) (locals : List Local) → n + length locals ≤ 2 ^ 33
+    → AreTemporaries n types locals → are_apart (keys_of locals) ≡ true
 locals_apart n types [] small h = refl
 locals_apart n [] (x ∷ rest) small h = elim h [ ]
 locals_apart n (ty ∷ types) (x ∷ rest) small h =

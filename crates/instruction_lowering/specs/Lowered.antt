@@ -6,7 +6,7 @@ use Rattle.memory_areas.specs.End.{End, Ended}
 use Rattle.memory_areas.specs.declared.data_block.DataBlock.{DataBlock}
 use Rattle.s7_base.specs.declared.outcome.Fault.{Fault}
 use Rattle.s7_base.specs.declared.register.Reg.{Reg}
-use Rattle.st_tree.specs.Parts.{reads_in, reads_of as variables_of}
+use Rattle.st_tree.specs.BodyParts.{reads_in, reads_of as variables_of}
 use Rattle.stl_tree.specs.Reads.{reads_of}
 use Rattle.stl_tree.specs.declared.program.Instr.{Instr}
 use Rattle.stl_tree.specs.declared.program.Op.{Op}
@@ -29,9 +29,9 @@ use Rattle.st_tree.specs.declared.program.Local.{Local}
 use Rattle.st_tree.specs.declared.program.Pou.{Pou}
 use Rattle.st_tree.specs.Values.{type_of_width}
 use Rattle.graph_rules.specs.Plain.{IsTemporary, tests_of}
-use Rattle.row_templates.specs.Writes.{AreWrites}
-use Rattle.row_templates.specs.Nodes.{nodes, nodes_in}
-use Rattle.row_templates.specs.Reading.{EachRegister, IsAmong}
+use Rattle.template_parts.specs.Writes.{AreWrites}
+use Rattle.template_parts.specs.Nodes.{nodes, nodes_in}
+use Rattle.template_parts.specs.Reading.{EachRegister, IsAmong}
 
 -- Blocks
 
@@ -40,12 +40,12 @@ use Rattle.row_templates.specs.Reading.{EachRegister, IsAmong}
 abbrev pub blocks_of : List Instr → List (List Instr)
 blocks_of body = body ∷ []
 
--- how a node is left behind an instruction: an end word ends its unit, and behind any other the next node follows
+-- the exit of a node after an instruction: an end word ends its unit, and after any other the next node follows
 abbrev pub IsExitBehind : Op → StExit → Type 0
 IsExitBehind op.BlockEnd exit = exit ≡ exit_of.End
 IsExitBehind other exit = exit ≡ exit_of.Fall
 
--- and behind the last instruction of a block
+-- the exit of a node after the last instruction of its block
 abbrev pub IsExitOf : List Instr → StExit → Type 0
 IsExitOf [] exit = ⊥
 IsExitOf (i ∷ []) exit = IsExitBehind i.op exit
@@ -66,9 +66,9 @@ abbrev pub IsRead : List Instr → Reg → Type 0
 IsRead [] r = ⊥
 IsRead (i ∷ rest) r = IsAmong r (reads_of i.op) ⊎ IsRead rest r
 
--- a node is that of a block: it is left as the block is; its steps and the test of its exit read the register variables
--- alone that instructions of the block read, and have at most eleven statements and 91 nodes of expressions for each of
--- them
+-- a node is that of a block: it has the exit of the block; its steps and the test of its exit read only register
+-- variables that instructions of the block read, and have at most eleven statements and 91 nodes of expressions for
+-- each of them
 pub record IsNodeOf (block : List Instr) (node : StNode) : Type 0 where
   pub exit : IsExitOf block node.exit
   pub only_end : node.only_end ≡ is_end_alone block
@@ -86,13 +86,13 @@ AreNodesOf (block ∷ blocks) (node ∷ nodes) = IsNodeOf block node × AreNodes
 
 -- Units
 
--- an organization block is a program; of a function or a function block, which no call fits so far, a unit of either
--- kind may be made
+-- the unit of an organization block is a program; that of a function or a function block, which no call fits so far,
+-- may be of either kind
 abbrev pub IsKindOf : BlockName → Bool → Type 0
 IsKindOf (name.Ob n) program = program ≡ true
 IsKindOf other program = Unit {0}
 
--- as many formals as the block has, each of the type of its width
+-- the formals of a unit are as many as those of the block, each of the type of its width
 abbrev pub AreFormalsOf : List Formal → List Local → Type 0
 AreFormalsOf [] [] = Unit {0}
 AreFormalsOf [] (l ∷ locals) = ⊥
@@ -127,10 +127,10 @@ AreUnitsOf (block ∷ blocks) (unit ∷ units) = IsUnitOf block unit × AreUnits
 
 -- Runs
 
--- the runs of a program and of a graph from a memory of these data blocks: where the first ends within some steps,
--- the graph ends with the same memory and the same fault within as many nodes; where the graph ends within some
--- passes, the program ends so within as many steps for each as the largest block has; so where one goes on for
--- ever, the other does
+-- the runs of a program and of a graph from a memory of these data blocks are the same: where the first ends within
+-- some steps, the graph ends with the same memory and the same fault within as many nodes; where the graph ends
+-- within some passes, the program ends in this way within as many steps for each as the largest block has; so where
+-- one goes on for ever, the other does
 pub record SameGraphRuns (blocks : List DataBlock) (stl nodes passes : Areas → ℕ → End) (size : ℕ) : Type 0 where
   pub forth : (memory : Areas) → IsMemoryOf blocks memory → (n : ℕ) (after : Areas) (fault : Option Fault)
       → stl memory n ≡ Ended after fault → nodes memory n ≡ Ended after fault

@@ -6,9 +6,9 @@ use memory_areas::DataBlock;
 use s7_base::{List, NoMemory};
 use std::alloc::Global;
 
-/// Data blocks of the same numbers and bytes, which are those that a graph may have.
+/// A copy of data blocks: the same numbers and bytes, which a graph may have.
 #[tactic(auto, using(crate::proofs::BlockBytes::one_more))]
-pub fn copied(alloc: Global, blocks: &[DataBlock]) -> Result<List<DataBlock>, NoMemory>
+pub fn copy_blocks(alloc: Global, blocks: &[DataBlock]) -> Result<List<DataBlock>, NoMemory>
     ensures copies { IfOk result (λ copies. copies ≡ blocks.now) }
     ensures bytes { OnOk result (All IsDataBlock blocks.now) }
 {

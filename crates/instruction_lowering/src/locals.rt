@@ -12,12 +12,12 @@ use bit_templates::{types_checked, types_of_bracket, types_of_edge};
 use digit_templates::{types_of_btd, types_of_bti, types_of_dtb, types_of_itb};
 use itoa::Buffer;
 use pointer_templates::{types_of_pointer_exchange, types_of_pointer_load, types_of_pointer_store};
-use row_templates::{types_fetched, types_reached};
 use s7_base::{List, NoMemory, Width};
 use shift_templates::{types_of_shift, types_through_cc1};
 use st_tree::{Local, StType};
 use std::alloc::Global;
 use stl_tree::{Instr, Op, UnaryRow};
+use template_parts::{types_fetched, types_reached};
 
 /// The temporaries of the instructions of a body, from `T1` on.
 pub fn locals_of(alloc: Global, body: &[Instr]) -> Result<List<Local>, NoMemory>
@@ -79,7 +79,7 @@ pub fn types_of(op: &Op) -> &'static [StType]
     }
 }
 
-/// Those of an instruction on ACCU1 alone.
+/// The types of the temporaries of an instruction on ACCU1 alone.
 fn types_of_unary(row: UnaryRow) -> &'static [StType]
     ensures { result.now ≡ types_of_unary row }
 {

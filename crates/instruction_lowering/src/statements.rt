@@ -3,7 +3,7 @@
 //! Each is a handful of assignments and area writes, so a body without jumps is one node. Of the status word all bits but
 //! STA have variables.
 ghost use Rattle.std.specs.Prelude.{◌≡◌, ◌<◌, ◌+◌, ◌^◌, ◌++◌, IfOk, OnOk};
-ghost use Rattle.instruction_lowering.specs.inner.Templates.{behind, close_innermost, end_word_of, first_spot, more, statements_of, unary_of, with_bracket};
+ghost use Rattle.instruction_lowering.specs.inner.Templates.{context_after, close_innermost, end_word_of, first_context, more, statements_of, unary_of, with_bracket};
 
 use crate::locals::types_of;
 use accumulator_templates::{
@@ -20,36 +20,36 @@ use digit_templates::{push_btd, push_bti, push_dtb, push_itb};
 use pointer_templates::{
     push_pointer_exchange, push_pointer_load, push_pointer_move, push_pointer_store,
 };
-use row_templates::{literal, push_cleared, set};
 use s7_base::{Check, List, NoMemory, Reg, Width};
 use shift_templates::{push_rlda, push_rrda, push_shift};
 use st_tree::{StType, Stmt};
 use std::alloc::Global;
 use std::collections::LinkedList;
 use stl_tree::{Op, UnaryRow};
+use template_parts::{literal, push_clear_or, set_register};
 
-/// How far the statements of a body have come.
+/// The state of the lowering between two instructions of a body.
 #[derive(Drop)]
-pub struct Spot {
+pub struct LoweringContext {
     /// How many locals the unit has so far.
     used: u32,
 
-    /// The innermost one first.
+    /// The brackets that are open, the innermost one first.
     brackets: LinkedList<OpenBracket>,
 }
 
-impl Spot {
-    /// The start of a body.
-    pub fn first(alloc: Global) -> Spot
-        ensures { result ≡ first_spot }
+impl LoweringContext {
+    /// The state at the start of a body.
+    pub fn first(alloc: Global) -> LoweringContext
+        ensures { result ≡ first_context }
     {
-        Spot {
+        LoweringContext {
             used: 0,
             brackets: LinkedList::new(alloc),
         }
     }
 
-    /// The number of the first of some locals, which are the next ones.
+    /// Takes the next locals, of these types, and gives the number of the first.
     fn take(&mut self, types: &[StType]) -> Result<u32, NoMemory>
         ensures first { IfOk result (λ first. first ≡ self.old.used) }
         ensures room { IfOk result (λ first. first + 8 < 2 ^ 32) }
@@ -63,7 +63,7 @@ impl Spot {
         Ok(first)
     }
 
-    /// A bracket is opened, whose chain the locals from one on keep.
+    /// Opens a bracket whose chain is kept by the locals from `first` on.
     fn open(&mut self, first: u32, check: Check) -> Result<(), NoMemory>
         requires { first + 8 < 2 ^ 32 }
         ensures { OnOk result (self.new ≡ with_bracket first check self.old) }
@@ -73,15 +73,15 @@ impl Spot {
     }
 }
 
-/// Puts the statements of an instruction at the end of some steps: the table of all instructions.
+/// Appends the statements of an instruction: the table of all instructions.
 pub fn push_statements(
     alloc: Global,
     steps: &mut List<Stmt>,
-    spot: &mut Spot,
+    spot: &mut LoweringContext,
     op: &Op,
 ) -> Result<(), NoMemory>
     ensures steps { OnOk result (steps.new ≡ steps.old ++ statements_of spot.old op.now) }
-    ensures spot { OnOk result (spot.new ≡ behind op.now spot.old) }
+    ensures spot { OnOk result (spot.new ≡ context_after op.now spot.old) }
 {
     let first = spot.take(types_of(op))?;
     match op {
@@ -133,18 +133,22 @@ pub fn push_statements(
     }
 }
 
-/// The end word: a caller sees OR, /FC and OS cleared.
+/// Appends the statements of the end word: a caller sees OR, /FC and OS cleared.
 fn push_end(steps: &mut List<Stmt>) -> Result<(), NoMemory>
     ensures { OnOk result (steps.new ≡ steps.old ++ end_word_of) }
 {
-    push_cleared(steps, false)?;
-    steps.push(set(Reg::Os, literal(false)))
+    push_clear_or(steps, false)?;
+    steps.push(set_register(Reg::Os, literal(false)))
 }
 
-/// The innermost bracket is closed.
-fn push_innermost(alloc: Global, steps: &mut List<Stmt>, spot: &mut Spot) -> Result<(), NoMemory>
+/// Appends the statements that close the innermost bracket.
+fn push_innermost(
+    alloc: Global,
+    steps: &mut List<Stmt>,
+    spot: &mut LoweringContext,
+) -> Result<(), NoMemory>
     ensures steps { OnOk result (steps.new ≡ steps.old ++ close_innermost spot.old.brackets) }
-    ensures spot { OnOk result (spot.new ≡ behind Op.Close spot.old) }
+    ensures spot { OnOk result (spot.new ≡ context_after Op.Close spot.old) }
 {
     match spot.brackets.pop_front() {
         Some(bracket) => push_closed(alloc, steps, bracket),
@@ -152,7 +156,7 @@ fn push_innermost(alloc: Global, steps: &mut List<Stmt>, spot: &mut Spot) -> Res
     }
 }
 
-/// An instruction on ACCU1 alone.
+/// Appends the statements of an instruction on ACCU1 alone.
 fn push_unary(
     alloc: Global,
     steps: &mut List<Stmt>,

@@ -6,19 +6,20 @@ ghost use Rattle.graph_rules.specs.Plain.{Plain};
 ghost use Rattle.st_tree.specs.StRun.{called_name};
 ghost use Rattle.stl_tree.specs.Accepted.{IsAccepted};
 ghost use Rattle.instruction_lowering.specs.Lowered.{Lowered};
-ghost use Rattle.instruction_lowering.specs.inner.Lowering.{IsFew, graph_of, head_for, lowered, node_of, steps_of, unit_of};
-ghost use Rattle.instruction_lowering.specs.inner.Templates.{first_spot};
+ghost use Rattle.instruction_lowering.specs.inner.Lowering.{IsFew, graph_of, head_for, graph_program_of, node_of, steps_of, unit_of};
+ghost use Rattle.instruction_lowering.specs.inner.Templates.{first_context};
 
-use crate::data_blocks::copied;
+use crate::data_blocks::copy_blocks;
 use crate::locals::{ends_block, locals_of};
-use crate::statements::{Spot, push_statements};
+use crate::statements::{LoweringContext, push_statements};
 use itoa::Buffer;
 use s7_base::{List, NoMemory};
 use st_tree::{GraphPou, GraphProgram, Pou, StExit, StGraph, StNode, Stmt};
 use std::alloc::Global;
 use stl_tree::{Block, BlockName, Instr, Program};
 
-/// The graph program of a program: a unit for each block, in the order of the blocks. It means the same.
+/// The graph program of a program: a unit for each block, in the order of the blocks. It means what the
+/// program means.
 pub fn lower(alloc: Global, program: &Program) -> Result<GraphProgram, NoMemory>
     requires { IsAccepted program.now }
     ensures plain { IfOk result Plain }
@@ -29,7 +30,7 @@ pub fn lower(alloc: Global, program: &Program) -> Result<GraphProgram, NoMemory>
         let unit = unit(alloc, block)?;
         pous.push(unit)?;
     }
-    let dbs = copied(alloc, program.dbs.as_slice())?;
+    let dbs = copy_blocks(alloc, program.dbs.as_slice())?;
     Ok(GraphProgram {
         dbs,
         globals: List::new(alloc),
@@ -75,13 +76,13 @@ fn unit_name(alloc: Global, name: BlockName) -> Result<List<u8>, NoMemory>
     ensures { IfOk result (λ text. text ≡ called_name name) }
 {
     match name {
-        BlockName::Ob(number) => numbered(alloc, "OB", number),
-        BlockName::Fc(number) => numbered(alloc, "FC", number),
-        BlockName::Fb(number) => numbered(alloc, "FB", number),
+        BlockName::Ob(number) => word_with_number(alloc, "OB", number),
+        BlockName::Fc(number) => word_with_number(alloc, "FC", number),
+        BlockName::Fb(number) => word_with_number(alloc, "FB", number),
     }
 }
 
-fn numbered(alloc: Global, word: &str, number: u16) -> Result<List<u8>, NoMemory>
+fn word_with_number(alloc: Global, word: &str, number: u16) -> Result<List<u8>, NoMemory>
     ensures { IfOk result (λ text. text ≡ word.now ++ decimal number) }
 {
     let mut text = Vec::from_slice(alloc, word.as_bytes())?;
@@ -102,11 +103,11 @@ fn node(alloc: Global, body: &[Instr]) -> Result<StNode, NoMemory>
     })
 }
 
-/// The statements of a body; nothing behind an end word is reached.
+/// Appends the statements of a body; nothing after an end word is reached.
 fn push_steps(alloc: Global, steps: &mut List<Stmt>, body: &[Instr]) -> Result<(), NoMemory>
-    ensures { OnOk result (steps.new ≡ steps.old ++ steps_of first_spot body.now) }
+    ensures { OnOk result (steps.new ≡ steps.old ++ steps_of first_context body.now) }
 {
-    let mut spot = Spot::first(alloc);
+    let mut spot = LoweringContext::first(alloc);
     let mut rest = body;
     while let Some((instr, behind)) = rest.split_first() {
         push_statements(alloc, steps, &mut spot, &instr.op)?;

@@ -3,9 +3,9 @@ use Rattle.std.proofs.Common.{◌≡◌, None, refl}
 use Rattle.memory_areas.specs.declared.place.AreaName.{AreaName}
 use Rattle.s7_base.specs.declared.word.Width.{Width}
 use Rattle.stl_rules.specs.Programs.{op_with}
-use Rattle.stl_rules.specs.declared.given.Given.TheVariants as behind
-use Rattle.stl_statements.specs.declared.mnemonic.Mnemonic.{Mnemonic}
-use Rattle.stl_statements.specs.declared.mnemonic.Mnemonic.TheVariants as is
+use Rattle.stl_rules.specs.declared.resolved_operand.ResolvedOperand.TheVariants as behind
+use Rattle.stl_statement_grammar.specs.declared.mnemonic.Mnemonic.{Mnemonic}
+use Rattle.stl_statement_grammar.specs.declared.mnemonic.Mnemonic.TheVariants as is
 
 pub outside : (what : Mnemonic) (name : AreaName) (w : Width) → op_with what (behind.Outside name w) ≡ None
 outside (is.Check c) name w = refl

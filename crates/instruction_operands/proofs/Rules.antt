@@ -6,9 +6,9 @@ use Rattle.s7_base.specs.Broken.{rule_number}
 use Rattle.s7_base.specs.declared.reason.Reason.{Reason}
 use Rattle.s7_base.specs.declared.reason.Reason.TheVariants.{BadAddress, BadOperand, UnknownName}
 use Rattle.stl_rules.specs.Programs.{op_by, op_or_rule, or_bad_operand, outside_rule, some_place, some_pointer}
-use Rattle.stl_rules.specs.declared.given.Given.{Given}
-use Rattle.stl_rules.specs.declared.given.Given.TheVariants as behind
-use Rattle.stl_statements.specs.declared.mnemonic.Mnemonic.{Mnemonic}
+use Rattle.stl_rules.specs.declared.resolved_operand.ResolvedOperand.{ResolvedOperand}
+use Rattle.stl_rules.specs.declared.resolved_operand.ResolvedOperand.TheVariants as behind
+use Rattle.stl_statement_grammar.specs.declared.mnemonic.Mnemonic.{Mnemonic}
 use Rattle.stl_tree.specs.declared.program.Op.{Op}
 use Rattle.instruction_operands.specs.RuleLaws.{IsLeast, LeastRuleIsNamed, broken_rules, unless_taken}
 
@@ -30,7 +30,8 @@ alone_so rule named r e f = subst (λ x. IsLeast x (rule ∷ [])) (same_rule rul
 of_two : IsLeast BadOperand (BadAddress ∷ BadOperand ∷ [])
 of_two = (
   inr (inl refl),
-  All-cons (NotBelow BadOperand) BadAddress (BadOperand ∷ []) (omega arith) (All-cons (NotBelow BadOperand) BadOperand [] (omega arith) (All-nil (NotBelow BadOperand))),
+  All-cons (NotBelow BadOperand) BadAddress (BadOperand ∷ []) (omega arith)
+      (All-cons (NotBelow BadOperand) BadOperand [] (omega arith) (All-nil (NotBelow BadOperand))),
 )
 
 -- outside a range
@@ -47,7 +48,7 @@ made_of : (o : Option Op) (what : Op) → or_bad_operand o ≡ Ok what → unles
 made_of None what e = absurd cc
 made_of (Some o) what e = refl
 
-made : (what : Option Mnemonic) (g : Given) (o : Op) → op_or_rule what g ≡ Ok o → broken_rules what g ≡ []
+made : (what : Option Mnemonic) (g : ResolvedOperand) (o : Op) → op_or_rule what g ≡ Ok o → broken_rules what g ≡ []
 made what behind.Unknown o e = absurd cc
 made what behind.Unfit o e = absurd cc
 made what behind.NoNumber o e = absurd cc
@@ -56,7 +57,7 @@ made what (behind.Outside name w) o e = absurd cc
 made what behind.NoPointer o e = absurd cc
 made what g o e = made_of (op_by what g) o e
 
-named : (what : Option Mnemonic) (g : Given) (rule : Reason) → op_or_rule what g ≡ Err rule → IsLeast rule (broken_rules what g)
+named : (what : Option Mnemonic) (g : ResolvedOperand) (rule : Reason) → op_or_rule what g ≡ Err rule → IsLeast rule (broken_rules what g)
 named what behind.Unknown rule e = alone_so UnknownName rule (Err UnknownName) refl e
 named what behind.Unfit rule e = alone_so BadOperand rule (Err BadOperand) refl e
 named what behind.NoNumber rule e = alone_so BadAddress rule (Err BadAddress) refl e

@@ -1,8 +1,8 @@
-//! The instruction that a raw one is, by its mnemonic and what stands behind it.
+//! The instruction of a mnemonic and its operand.
 ghost use Rattle.std.specs.Prelude.{◌≡◌, ◌≢◌, Some, None, if◌then◌else◌};
 ghost use Rattle.s7_base.specs.declared.word.Width.TheVariants as wide;
-ghost use Rattle.stl_rules.specs.Programs.{adding, combining, comparing, is_compared, loading_pointer, moving_pointer, op_by, op_or_rule, op_with, or_bad_operand, outside_rule, pointed, shifting, some_place, some_pointer, storing_pointer, with_number, within};
-ghost use Rattle.stl_rules.specs.declared.given.Given.TheVariants as behind;
+ghost use Rattle.stl_rules.specs.Programs.{adding, combining, comparing, is_compared, loading_pointer, moving_pointer, op_by, op_or_rule, op_with, or_bad_operand, outside_rule, pointer_op, shifting, some_place, some_pointer, storing_pointer, with_number, within};
+ghost use Rattle.stl_rules.specs.declared.resolved_operand.ResolvedOperand.TheVariants as behind;
 ghost use Rattle.stl_tree.specs.Accepted.{is_of_pointers};
 ghost use Rattle.memory_areas.specs.Access.{bits_wide};
 ghost use Rattle.stl_tree.specs.Accumulators.{signed_part};
@@ -15,15 +15,15 @@ use crate::pointer::pointer_constant;
 use memory_areas::AreaName;
 use s7_base::{Check, Reason, Width};
 use status_word::Test;
-use stl_rules::Given;
-use stl_statements::{Mnemonic, fits};
+use stl_rules::ResolvedOperand;
+use stl_statement_grammar::Mnemonic;
 use stl_tree::{
     Ar, ArLoad, ArStore, BitArg, Constant, LoadArg, LogicRow, Op, OpenArg, Operand, ShiftRow,
     may_hold_pointers,
 };
-use symbol_layout::value_in;
+use symbol_layout::{fits, value_in};
 
-/// One of the six signs of comparisons.
+/// Whether a test is one of the six signs of comparisons.
 fn is_comparison(test: Test) -> bool
     ensures { result ≡ is_comparison test }
 {
@@ -33,7 +33,7 @@ fn is_comparison(test: Test) -> bool
     }
 }
 
-/// A comparison of words or of double words.
+/// Whether a test and a width are a comparison of words or of double words.
 fn is_compared(test: Test, width: Width) -> bool
     ensures { result ≡ is_compared test width }
 {
@@ -99,7 +99,7 @@ fn with_bit(what: Mnemonic, bit: Operand) -> Option<Op>
     }
 }
 
-/// The areas that an operand may lie in are ones of pointers.
+/// Whether the area of an operand is one of those of pointers.
 fn is_of_pointers(place: Operand) -> bool
     ensures { result ≡ is_of_pointers place }
 {
@@ -112,9 +112,9 @@ fn is_of_pointers(place: Operand) -> bool
     }
 }
 
-/// An operand is a double word where pointers may stand.
+/// Whether an operand is a double word in an area where pointers may be stored.
 fn is_pointed(place: Operand, width: Width) -> bool
-    ensures { (o : Operand → Op) → (if result then Some (o place) else None) ≡ pointed o place width }
+    ensures { (o : Operand → Op) → (if result then Some (o place) else None) ≡ pointer_op o place width }
 {
     match width {
         Width::Dword => is_of_pointers(place),
@@ -179,7 +179,7 @@ fn with_stw(what: Mnemonic) -> Option<Op>
     }
 }
 
-/// The number in the DB register.
+/// An instruction on the number in the DB register.
 fn with_db_number(what: Mnemonic) -> Option<Op>
     ensures { result ≡ op_with what behind.DbNo }
 {
@@ -189,7 +189,7 @@ fn with_db_number(what: Mnemonic) -> Option<Op>
     }
 }
 
-/// The number in the DI register.
+/// An instruction on the number in the DI register.
 fn with_di_number(what: Mnemonic) -> Option<Op>
     ensures { result ≡ op_with what behind.DiNo }
 {
@@ -199,7 +199,7 @@ fn with_di_number(what: Mnemonic) -> Option<Op>
     }
 }
 
-/// From or to the other address register, with AR1 alone.
+/// An instruction that copies AR2 to AR1, or AR1 to AR2.
 fn with_other_ar(what: Mnemonic) -> Option<Op>
     ensures { result ≡ op_with what behind.OtherAr }
 {
@@ -210,7 +210,7 @@ fn with_other_ar(what: Mnemonic) -> Option<Op>
     }
 }
 
-/// The number of a data block that is opened.
+/// An instruction that opens the data block of a number.
 fn with_db(what: Mnemonic, number: u16) -> Option<Op>
     ensures { result ≡ op_with what (behind.Db number) }
 {
@@ -220,7 +220,7 @@ fn with_db(what: Mnemonic, number: u16) -> Option<Op>
     }
 }
 
-/// The number of an instance that is opened.
+/// An instruction that opens the instance of a number.
 fn with_di(what: Mnemonic, number: u16) -> Option<Op>
     ensures { result ≡ op_with what (behind.Di number) }
 {
@@ -230,7 +230,7 @@ fn with_di(what: Mnemonic, number: u16) -> Option<Op>
     }
 }
 
-/// A word with the number of a data block that is opened.
+/// An instruction that opens the data block whose number is in a word.
 fn with_db_by(what: Mnemonic, number: Operand) -> Option<Op>
     ensures { result ≡ op_with what (behind.DbBy number) }
 {
@@ -240,7 +240,7 @@ fn with_db_by(what: Mnemonic, number: Operand) -> Option<Op>
     }
 }
 
-/// A word with the number of an instance that is opened.
+/// An instruction that opens the instance whose number is in a word.
 fn with_di_by(what: Mnemonic, number: Operand) -> Option<Op>
     ensures { result ≡ op_with what (behind.DiBy number) }
 {
@@ -264,7 +264,7 @@ fn dword_number(value: u32) -> i32
     value.cast_signed()
 }
 
-/// A plain number is added to the low word, another constant to the whole.
+/// The addition of a constant: a plain number to the low word, another constant to the whole of ACCU1.
 fn adding(constant: Constant) -> Op
     ensures { Some result ≡ adding (behind.Constant constant) }
 {
@@ -275,7 +275,7 @@ fn adding(constant: Constant) -> Op
     }
 }
 
-/// A number of 8 bits.
+/// A constant as a number of 8 bits, if it is one.
 fn byte_of(constant: Constant) -> Option<u8>
     ensures { result ≡ within 8 constant.value }
 {
@@ -329,7 +329,7 @@ fn shifting(row: ShiftRow, constant: Constant) -> Option<Op>
     }
 }
 
-/// A number that has room in a width.
+/// A number, if it has room in a width.
 fn within(width: Width, value: u32) -> Option<u32>
     ensures { result ≡ within (bits_wide width) value }
 {
@@ -383,47 +383,50 @@ fn with_operand(what: Mnemonic, operand: Operand, width: Width) -> Option<Op>
     }
 }
 
-/// An instruction by what its mnemonic is, and what stands behind it.
+/// The instruction of a mnemonic and its operand, if there is one.
 #[tactic(auto, using(crate::proofs::Operands::none_fit))]
-fn op_with(what: Mnemonic, given: Given) -> Option<Op>
-    ensures { result ≡ op_with what given }
+fn op_with(what: Mnemonic, resolved_operand: ResolvedOperand) -> Option<Op>
+    ensures { result ≡ op_with what resolved_operand }
 {
-    match given {
-        Given::Nothing => with_nothing(what),
-        Given::At(operand, width) => with_operand(what, operand, width),
-        Given::Flag(test) => with_flag(what, test),
-        Given::Stw => with_stw(what),
-        Given::DbNo => with_db_number(what),
-        Given::DiNo => with_di_number(what),
-        Given::Constant(constant) => with_constant(what, constant),
-        Given::Db(number) => with_db(what, number),
-        Given::Di(number) => with_di(what, number),
-        Given::OtherAr => with_other_ar(what),
-        Given::DbBy(number) => with_db_by(what, number),
-        Given::DiBy(number) => with_di_by(what, number),
-        Given::Outside(_, _) | Given::NoPointer | Given::NoNumber | Given::Unknown => None,
-        Given::Unfit | Given::Unjudged => None,
+    match resolved_operand {
+        ResolvedOperand::Nothing => with_nothing(what),
+        ResolvedOperand::At(operand, width) => with_operand(what, operand, width),
+        ResolvedOperand::Flag(test) => with_flag(what, test),
+        ResolvedOperand::Stw => with_stw(what),
+        ResolvedOperand::DbNo => with_db_number(what),
+        ResolvedOperand::DiNo => with_di_number(what),
+        ResolvedOperand::Constant(constant) => with_constant(what, constant),
+        ResolvedOperand::Db(number) => with_db(what, number),
+        ResolvedOperand::Di(number) => with_di(what, number),
+        ResolvedOperand::OtherAr => with_other_ar(what),
+        ResolvedOperand::DbBy(number) => with_db_by(what, number),
+        ResolvedOperand::DiBy(number) => with_di_by(what, number),
+        ResolvedOperand::Outside(_, _)
+        | ResolvedOperand::NoPointer
+        | ResolvedOperand::NoNumber
+        | ResolvedOperand::Unknown => None,
+        ResolvedOperand::Unfit | ResolvedOperand::Unjudged => None,
     }
 }
 
-/// An instruction by what its mnemonic is, if it is one.
-fn op_by(what: Option<Mnemonic>, given: Given) -> Option<Op>
-    ensures { result ≡ op_by what given }
+/// The instruction of a mnemonic, if it is one, and its operand.
+fn op_by(what: Option<Mnemonic>, resolved_operand: ResolvedOperand) -> Option<Op>
+    ensures { result ≡ op_by what resolved_operand }
 {
     match what {
-        Some(what) => op_with(what, given),
+        Some(what) => op_with(what, resolved_operand),
         None => None,
     }
 }
 
-/// An instruction, or the rule that an operand breaks which its mnemonic has not.
+/// An instruction, or `BadOperand` where the mnemonic does not take the operand.
 fn or_bad_operand(op: Option<Op>) -> Result<Op, Reason>
     ensures { result ≡ or_bad_operand op }
 {
     op.ok_or(Reason::BadOperand)
 }
 
-/// The rule that an operand outside its range breaks: one of another width or kind has that rule first.
+/// The rule that an operand outside its range breaks: `BadOperand` where its width or kind is wrong too.
 fn outside_rule(op: Option<Op>) -> Reason
     ensures { result ≡ outside_rule op }
 {
@@ -438,28 +441,28 @@ fn place_rule(what: Option<Mnemonic>, area: AreaName, width: Width) -> Reason
     ensures { result ≡ outside_rule (op_by what (behind.At (some_place area) width)) }
 {
     let some_place = Operand::Direct(area, 0, 0);
-    outside_rule(op_by(what, Given::At(some_place, width)))
+    outside_rule(op_by(what, ResolvedOperand::At(some_place, width)))
 }
 
 /// The rule that a pointer outside its range breaks.
 fn pointer_rule(what: Option<Mnemonic>) -> Reason
     ensures { result ≡ outside_rule (op_by what (behind.Constant some_pointer)) }
 {
-    outside_rule(op_by(what, Given::Constant(pointer_constant(0))))
+    outside_rule(op_by(what, ResolvedOperand::Constant(pointer_constant(0))))
 }
 
-/// The instruction that a mnemonic makes of what stands behind it, or the rule that is broken: `UnknownName`,
+/// The instruction that a mnemonic and its operand make, or the rule that is broken: `UnknownName`,
 /// `BadOperand` or `BadAddress`, of several the one that comes first.
-pub fn op_or_rule(what: Option<Mnemonic>, given: Given) -> Result<Op, Reason>
-    ensures { result ≡ op_or_rule what given }
+pub fn op_or_rule(what: Option<Mnemonic>, resolved_operand: ResolvedOperand) -> Result<Op, Reason>
+    ensures { result ≡ op_or_rule what resolved_operand }
 {
-    match given {
-        Given::Unknown => Err(Reason::UnknownName),
-        Given::Unfit => Err(Reason::BadOperand),
-        Given::NoNumber => Err(Reason::BadAddress),
-        Given::Unjudged => Ok(Op::Nop),
-        Given::Outside(area, width) => Err(place_rule(what, area, width)),
-        Given::NoPointer => Err(pointer_rule(what)),
-        _ => or_bad_operand(op_by(what, given)),
+    match resolved_operand {
+        ResolvedOperand::Unknown => Err(Reason::UnknownName),
+        ResolvedOperand::Unfit => Err(Reason::BadOperand),
+        ResolvedOperand::NoNumber => Err(Reason::BadAddress),
+        ResolvedOperand::Unjudged => Ok(Op::Nop),
+        ResolvedOperand::Outside(area, width) => Err(place_rule(what, area, width)),
+        ResolvedOperand::NoPointer => Err(pointer_rule(what)),
+        _ => or_bad_operand(op_by(what, resolved_operand)),
     }
 }

@@ -1,9 +1,11 @@
-//! What stands behind a mnemonic, where all names in it are found, and the instruction that both make.
+//! The operand of an instruction, where all names in it are found, and the instruction of a mnemonic and an
+//! operand.
 //!
-//! Stands on `stl_rules`, which has all of this as definitions. `place` makes an operand of a written place, of the
-//! address of a symbol and of a component, `pointer` of what a pointer names, or says that it lies outside its area
-//! or range; `instruction` has the instruction of each mnemonic and operand, or the rule that is broken;
-//! `least_rule_is_named` promises that of several rules this is the one with the least number. No call takes memory.
+//! Uses `stl_rules`, which has all of this as definitions. `place` makes an operand of a written place, of
+//! the address of a symbol and of a component, `pointer` of what a pointer names, or says that it lies
+//! outside its area or range; `instruction` has the instruction of each mnemonic and operand, or the rule
+//! that is broken; `least_rule_is_named` promises that of several rules this is the one with the least
+//! number. No call takes memory.
 #![tactic(auto)]
 
 pub use instruction::op_or_rule;

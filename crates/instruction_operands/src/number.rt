@@ -4,7 +4,7 @@ ghost use Rattle.stl_rules.specs.Names.{may_have};
 
 use stl_tree::BlockKind;
 
-/// A block of a kind may have a number.
+/// Whether a block of a kind may have a number.
 pub fn may_have(kind: BlockKind, number: u32) -> bool
     ensures { result ≡ may_have kind number }
 {

@@ -8,9 +8,9 @@ use Rattle.s7_base.specs.declared.outcome.Fault.{Fault}
 use Rattle.s7_base.specs.declared.outcome.Fault.TheVariants.{DbNotOpen, DbMissing, Alignment, AreaLength}
 use Rattle.s7_base.specs.declared.word.Width.{Width}
 use Rattle.s7_base.specs.declared.word.Width.TheVariants as width
-use Rattle.memory_areas.specs.Access.{Aim, aimed, and_then, bytes_there, bytes_wide, fault_of, is_closed, is_missing, is_unaligned, or_none, put, reached, unless, read_bit, read_byte, read_word, read_dword, write_bit, write_byte, write_word, write_dword}
+use Rattle.memory_areas.specs.Access.{Aim, aim_of_place, and_then, bytes_there, bytes_wide, fault_of, is_closed, is_missing, is_unaligned, or_none, write_bytes, bytes_for_access, unless, read_bit, read_byte, read_word, read_dword, write_bit, write_byte, write_word, write_dword}
 use Rattle.memory_areas.specs.AreaLaws.{AnyBit, IsByte, IsDword, IsOutside, IsWord, MemoriesStay, OtherBitsStay, OtherBytesStay, ReadsBack, SizesStay}
-use Rattle.memory_areas.specs.Areas.{Contents, IsArea, IsMemoryOf, Match, bit_of_byte, block_of, byte_at, byte_with, bytes_in, bytes_of, bytes_of_dword, bytes_of_word, dword_at, replaced, with_block, with_bytes, word_at}
+use Rattle.memory_areas.specs.Areas.{Contents, IsArea, IsMemoryOf, Match, bit_of_byte, block_of, byte_at, byte_with, bytes_in, bytes_of, bytes_of_dword, bytes_of_word, dword_at, overwrite, with_block, with_bytes, word_at}
 use Rattle.memory_areas.specs.declared.data_block.DataBlock.{DataBlock}
 use Rattle.memory_areas.specs.declared.place.Area.{Area}
 use Rattle.memory_areas.specs.declared.place.Area.TheVariants as area
@@ -29,7 +29,8 @@ block_with true n new bytes b bs e h rest = rw e refl
 block_with false n new bytes b bs e h rest = rw e (rest h)
 
 -- the block of a number has the bytes that it was given
-block_written : (n : ℕ) (new bytes : List ℕ) (bs : List DataBlock) → bytes_in (block_of n bs) ≡ Some bytes → bytes_in (block_of n (with_block n new bs)) ≡ Some new
+block_written : (n : ℕ) (new bytes : List ℕ) (bs : List DataBlock)
+    → bytes_in (block_of n bs) ≡ Some bytes → bytes_in (block_of n (with_block n new bs)) ≡ Some new
 block_written n new bytes [] h = cc
 block_written n new bytes (b ∷ bs) h = block_with (b.number == n) n new bytes b bs refl h (block_written n new bytes bs)
 
@@ -52,7 +53,9 @@ match_first : (t : Bool) (n : ℕ) (new bytes : List ℕ) (b g : DataBlock) (bs 
     → bytes_in (cond t (Some b) (block_of n bs)) ≡ Some bytes → ((size : ℕ) → IsArea size bytes → IsArea size new) → Match (b ∷ bs) (g ∷ gs)
     → (bytes_in (block_of n bs) ≡ Some bytes → Match (with_block n new bs) gs)
     → Match (if t then record b { bytes = new } ∷ bs else b ∷ with_block n new bs) (g ∷ gs)
-match_first true n new bytes b g bs gs e h f m rest = let same : b.bytes ≡ bytes = cc in (m.0, f (length g.bytes) (subst (IsArea (length g.bytes)) same m.1), m.2)
+match_first true n new bytes b g bs gs e h f m rest =
+    let same : b.bytes ≡ bytes = cc in
+    (m.0, f (length g.bytes) (subst (IsArea (length g.bytes)) same m.1), m.2)
 match_first false n new bytes b g bs gs e h f m rest = (m.0, m.1, rest h)
 
 -- blocks match given ones where one has other bytes, as many
@@ -117,8 +120,10 @@ same_area : (a b : Area) → (a ≡ b) ⊎ (a ≡ b → ⊥)
 same_area area.I area.I = inl refl
 same_area area.Q area.Q = inl refl
 same_area area.M area.M = inl refl
-same_area (area.Local d) (area.Local e) = ⊎_elim (λ (s : d ≡ e). inl (ap area.Local s)) (λ (f : d ≡ e → ⊥). inr (λ (s : area.Local d ≡ area.Local e). f cc)) (cases_eq d e)
-same_area (area.Cell d) (area.Cell e) = ⊎_elim (λ (s : d ≡ e). inl (ap area.Cell s)) (λ (f : d ≡ e → ⊥). inr (λ (s : area.Cell d ≡ area.Cell e). f cc)) (cases_eq d e)
+same_area (area.Local d) (area.Local e) =
+    ⊎_elim (λ (s : d ≡ e). inl (ap area.Local s)) (λ (f : d ≡ e → ⊥). inr (λ (s : area.Local d ≡ area.Local e). f cc)) (cases_eq d e)
+same_area (area.Cell d) (area.Cell e) =
+    ⊎_elim (λ (s : d ≡ e). inl (ap area.Cell s)) (λ (f : d ≡ e → ⊥). inr (λ (s : area.Cell d ≡ area.Cell e). f cc)) (cases_eq d e)
 same_area (area.Db d) (area.Db e) = ⊎_elim (λ (s : d ≡ e). inl (ap area.Db s)) (λ (f : d ≡ e → ⊥). inr (λ (s : area.Db d ≡ area.Db e). f cc)) (cases_eq d e)
 same_area area.I area.Q = inr (λ s. cc)
 same_area area.I area.M = inr (λ s. cc)
@@ -152,7 +157,8 @@ same_area (area.Db d) (area.Local e) = inr (λ s. cc)
 same_area (area.Db d) (area.Cell e) = inr (λ s. cc)
 
 -- a memory of some blocks stays one where an area has other bytes, as many
-memory_with : (a : Area) (new bytes : List ℕ) (m : Contents) (blocks : List DataBlock) → bytes_of a m ≡ Some bytes → ((size : ℕ) → IsArea size bytes → IsArea size new)
+memory_with : (a : Area) (new bytes : List ℕ) (m : Contents) (blocks : List DataBlock)
+    → bytes_of a m ≡ Some bytes → ((size : ℕ) → IsArea size bytes → IsArea size new)
     → IsMemoryOf blocks m.areas → IsMemoryOf blocks (with_bytes a new m).areas
 memory_with area.I new bytes m blocks h f v =
     let same : m.areas.inputs ≡ bytes = cc in
@@ -187,11 +193,12 @@ some_byte width.Byte = omega arith
 some_byte width.Word = omega arith
 some_byte width.Dword = omega arith
 
-bytes_found : (w : Width) (byte : ℕ) (o : Option (List ℕ)) → nat_lt (length (or_none o)) (byte + bytes_wide w) ≡ false → (bytes : List ℕ) × (o ≡ Some bytes) × (byte + bytes_wide w ≤ length bytes)
+bytes_found : (w : Width) (byte : ℕ) (o : Option (List ℕ)) → nat_lt (length (or_none o)) (byte + bytes_wide w) ≡ false
+    → (bytes : List ℕ) × (o ≡ Some bytes) × (byte + bytes_wide w ≤ length bytes)
 bytes_found w byte None e = let some = some_byte w in let none : byte + bytes_wide w ≤ 0 = grind (arith, nat_tests) in absurd (omega arith)
 bytes_found w byte (Some bytes) e = (bytes, refl, grind (arith, nat_tests))
 
-passes : (p : Place) (w : Width) (m : Contents) → fault_of (aimed p) w m ≡ None → Passed p w m
+passes : (p : Place) (w : Width) (m : Contents) → fault_of (aim_of_place p) w m ≡ None → Passed p w m
 passes p w m e =
     let closed = passed (is_closed (Some p.area)) DbNotOpen _ e in
     let missing = passed (is_missing (Some p.area) m) DbMissing _ closed.1 in
@@ -205,18 +212,20 @@ passes p w m e =
 -- what a write that is not refused gives
 record Wrote (p : Place) (w : Width) (new : List ℕ → List ℕ) (before after : Contents) : Type 0 where
   passed : Passed p w before
-  gives : put p passed.bytes (new passed.bytes) before ≡ after
+  gives : write_bytes p passed.bytes (new passed.bytes) before ≡ after
 
-not_refused : (f : Option Fault) (bytes : List ℕ) (g : List ℕ → Contents) (after : Contents) → and_then (unless f bytes) (λ b. Ok (g b)) ≡ Ok after → (f ≡ None) × (g bytes ≡ after)
+not_refused : (f : Option Fault) (bytes : List ℕ) (g : List ℕ → Contents) (after : Contents)
+    → and_then (unless f bytes) (λ b. Ok (g b)) ≡ Ok after → (f ≡ None) × (g bytes ≡ after)
 not_refused None bytes g after e = (refl, cc)
 not_refused (Some f) bytes g after e = cc
 
-wrote : (p : Place) (w : Width) (new : List ℕ → List ℕ) (before after : Contents) → and_then (reached p w before) (λ bytes. Ok (put p bytes (new bytes) before)) ≡ Ok after → Wrote p w new before after
+wrote : (p : Place) (w : Width) (new : List ℕ → List ℕ) (before after : Contents)
+    → and_then (bytes_for_access p w before) (λ bytes. Ok (write_bytes p bytes (new bytes) before)) ≡ Ok after → Wrote p w new before after
 wrote p w new before after e =
-    let done = not_refused (fault_of (aimed p) w before) (bytes_there (Some p.area) before) (λ bytes. put p bytes (new bytes) before) after e in
+    let done = not_refused (fault_of (aim_of_place p) w before) (bytes_there (Some p.area) before) (λ bytes. write_bytes p bytes (new bytes) before) after e in
     let free = passes p w before done.0 in
     let same : bytes_there (Some p.area) before ≡ free.bytes = ap or_none free.there in
-    record { passed = free; gives = subst (λ bytes. put p bytes (new bytes) before ≡ after) same done.1 }
+    record { passed = free; gives = subst (λ bytes. write_bytes p bytes (new bytes) before ≡ after) same done.1 }
 
 -- as many bytes are written as the width reaches
 abbrev IsWide : Width → (List ℕ → List ℕ) → Type 0
@@ -224,18 +233,21 @@ IsWide w new = (bytes : List ℕ) → length (new bytes) ≡ bytes_wide w
 
 -- the bytes of the area after a write
 abbrev bytes_after : (p : Place) (w : Width) (new : List ℕ → List ℕ) (before after : Contents) → Wrote p w new before after → List ℕ
-bytes_after p w new before after done = replaced done.passed.bytes p.byte (new done.passed.bytes)
+bytes_after p w new before after done = overwrite done.passed.bytes p.byte (new done.passed.bytes)
 
-area_after : (p : Place) (w : Width) (new : List ℕ → List ℕ) (before after : Contents) → (done : Wrote p w new before after) → bytes_of p.area after ≡ Some (bytes_after p w new before after done)
+area_after : (p : Place) (w : Width) (new : List ℕ → List ℕ) (before after : Contents)
+    → (done : Wrote p w new before after) → bytes_of p.area after ≡ Some (bytes_after p w new before after done)
 area_after p w new before after done =
     ap (bytes_of p.area) (sym done.gives)
     ∙ bytes_written p.area (bytes_after p w new before after done) done.passed.bytes before done.passed.there
 
-others_after : (p : Place) (w : Width) (new : List ℕ → List ℕ) (before after : Contents) → Wrote p w new before after → (a : Area) → a ≢ p.area → bytes_of a after ≡ bytes_of a before
+others_after : (p : Place) (w : Width) (new : List ℕ → List ℕ) (before after : Contents)
+    → Wrote p w new before after → (a : Area) → a ≢ p.area → bytes_of a after ≡ bytes_of a before
 others_after p w new before after done a apart =
     ap (bytes_of a) (sym done.gives) ∙ bytes_kept p.area a (bytes_after p w new before after done) before apart
 
-room_for : (p : Place) (w : Width) (new : List ℕ → List ℕ) (before after : Contents) → IsWide w new → (done : Wrote p w new before after) → p.byte + length (new done.passed.bytes) ≤ length done.passed.bytes
+room_for : (p : Place) (w : Width) (new : List ℕ → List ℕ) (before after : Contents) → IsWide w new
+    → (done : Wrote p w new before after) → p.byte + length (new done.passed.bytes) ≤ length done.passed.bytes
 room_for p w new before after wide done = let same = wide done.passed.bytes in let room = done.passed.room in omega arith
 
 -- as many bytes, or none
@@ -243,7 +255,8 @@ record Alike (one other : Option (List ℕ)) : Type 0 where
   missing : is_none one ≡ is_none other
   sized : length (or_none one) ≡ length (or_none other)
 
-alike_after : (p : Place) (w : Width) (new : List ℕ → List ℕ) (before after : Contents) → IsWide w new → Wrote p w new before after → (a : Area) → Alike (bytes_of a after) (bytes_of a before)
+alike_after : (p : Place) (w : Width) (new : List ℕ → List ℕ) (before after : Contents) → IsWide w new
+    → Wrote p w new before after → (a : Area) → Alike (bytes_of a after) (bytes_of a before)
 alike_after p w new before after wide done a = ⊎_elim here there (same_area a p.area)
   where
     here : a ≡ p.area → Alike (bytes_of a after) (bytes_of a before)
@@ -259,7 +272,8 @@ missing_bytes : (o : Option DataBlock) → is_none o ≡ is_none (bytes_in o)
 missing_bytes None = refl
 missing_bytes (Some b) = refl
 
-same_missing : (a : Area) (before after : Contents) → is_none (bytes_of a after) ≡ is_none (bytes_of a before) → is_missing (Some a) after ≡ is_missing (Some a) before
+same_missing : (a : Area) (before after : Contents) → is_none (bytes_of a after) ≡ is_none (bytes_of a before)
+    → is_missing (Some a) after ≡ is_missing (Some a) before
 same_missing area.I before after e = refl
 same_missing area.Q before after e = refl
 same_missing area.M before after e = refl
@@ -272,31 +286,36 @@ fault_as : (area : Option Area) (byte x : ℕ) (w : Width) (before after : Conte
 fault_as None byte x w before after alike = refl
 fault_as (Some a) byte x w before after alike = rw (same_missing a before after (alike a).missing, (alike a).sized) refl
 
-faults_after : (p : Place) (w : Width) (new : List ℕ → List ℕ) (before after : Contents) → IsWide w new → Wrote p w new before after → (aim : Aim) (v : Width) → fault_of aim v after ≡ fault_of aim v before
+faults_after : (p : Place) (w : Width) (new : List ℕ → List ℕ) (before after : Contents) → IsWide w new
+    → Wrote p w new before after → (aim : Aim) (v : Width) → fault_of aim v after ≡ fault_of aim v before
 faults_after p w new before after wide done aim v = fault_as aim.area aim.byte aim.bit v before after (alike_after p w new before after wide done)
 
 -- what a read gives hangs on its fault and on what it takes from the bytes of its area
-read_as : {V : Type 0} → (f g : Option Fault) (bytes others : List ℕ) (take : List ℕ → V) → f ≡ g → take bytes ≡ take others → and_then (unless f bytes) (λ b. Ok (take b)) ≡ and_then (unless g others) (λ b. Ok (take b))
-read_as {V = V} f g bytes others take e same = subst (λ (h : Option Fault). and_then {B = V} (unless f bytes) (λ b. Ok (take b)) ≡ and_then {B = V} (unless h others) (λ b. Ok (take b))) e (by f)
+read_as : {V : Type 0} → (f g : Option Fault) (bytes others : List ℕ) (take : List ℕ → V) → f ≡ g → take bytes ≡ take others
+    → and_then (unless f bytes) (λ b. Ok (take b)) ≡ and_then (unless g others) (λ b. Ok (take b))
+read_as {V = V} f g bytes others take e same =
+    subst (λ (h : Option Fault). and_then {B = V} (unless f bytes) (λ b. Ok (take b)) ≡ and_then {B = V} (unless h others) (λ b. Ok (take b))) e (by f)
   where
     by : (h : Option Fault) → and_then {B = V} (unless h bytes) (λ b. Ok (take b)) ≡ and_then {B = V} (unless h others) (λ b. Ok (take b))
     by None = ap Ok same
     by (Some h) = refl
 
 -- the place itself was read at, so it meets no fault
-free : (p : Place) (w : Width) (new : List ℕ → List ℕ) (before after : Contents) → and_then (reached p w before) (λ bytes. Ok (put p bytes (new bytes) before)) ≡ Ok after → fault_of (aimed p) w before ≡ None
-free p w new before after e = (not_refused (fault_of (aimed p) w before) (bytes_there (Some p.area) before) (λ bytes. put p bytes (new bytes) before) after e).0
+free : (p : Place) (w : Width) (new : List ℕ → List ℕ) (before after : Contents)
+    → and_then (bytes_for_access p w before) (λ bytes. Ok (write_bytes p bytes (new bytes) before)) ≡ Ok after → fault_of (aim_of_place p) w before ≡ None
+free p w new before after e =
+    (not_refused (fault_of (aim_of_place p) w before) (bytes_there (Some p.area) before) (λ bytes. write_bytes p bytes (new bytes) before) after e).0
 
 -- what was written is read back, where the new bytes give it
 read_back : {V : Type 0} → (p : Place) (w : Width) (new : List ℕ → List ℕ) (take : List ℕ → V) (v : V) (before after : Contents) → IsWide w new
-    → ((bytes : List ℕ) → p.byte + length (new bytes) ≤ length bytes → take (replaced bytes p.byte (new bytes)) ≡ v)
-    → and_then (reached p w before) (λ bytes. Ok (put p bytes (new bytes) before)) ≡ Ok after
-    → and_then (reached p w after) (λ bytes. Ok (take bytes)) ≡ Ok v
+    → ((bytes : List ℕ) → p.byte + length (new bytes) ≤ length bytes → take (overwrite bytes p.byte (new bytes)) ≡ v)
+    → and_then (bytes_for_access p w before) (λ bytes. Ok (write_bytes p bytes (new bytes) before)) ≡ Ok after
+    → and_then (bytes_for_access p w after) (λ bytes. Ok (take bytes)) ≡ Ok v
 read_back p w new take v before after wide gives e =
     let done = wrote p w new before after e in
-    let none : fault_of (aimed p) w after ≡ None = faults_after p w new before after wide done (aimed p) w ∙ free p w new before after e in
+    let none : fault_of (aim_of_place p) w after ≡ None = faults_after p w new before after wide done (aim_of_place p) w ∙ free p w new before after e in
     let there : bytes_there (Some p.area) after ≡ bytes_after p w new before after done = ap or_none (area_after p w new before after done) in
-    read_as (fault_of (aimed p) w after) None (bytes_there (Some p.area) after) (bytes_after p w new before after done) take none (ap take there)
+    read_as (fault_of (aim_of_place p) w after) None (bytes_there (Some p.area) after) (bytes_after p w new before after done) take none (ap take there)
     ∙ ap Ok (gives done.passed.bytes (room_for p w new before after wide done))
 
 -- a byte outside those that are written is as it was
@@ -306,7 +325,8 @@ byte_stays p q w new before after wide done outside = ⊎_elim here there (same_
   where
     here : q.area ≡ p.area → byte_at (bytes_there (Some q.area) after) q.byte ≡ byte_at (bytes_there (Some q.area) before) q.byte
     here e =
-        let apart : (q.byte < p.byte) ⊎ (p.byte + length (new done.passed.bytes) ≤ q.byte) = subst (λ count. (q.byte < p.byte) ⊎ (p.byte + count ≤ q.byte)) (sym (wide done.passed.bytes)) (outside e) in
+        let apart : (q.byte < p.byte) ⊎ (p.byte + length (new done.passed.bytes) ≤ q.byte) =
+        subst (λ count. (q.byte < p.byte) ⊎ (p.byte + count ≤ q.byte)) (sym (wide done.passed.bytes)) (outside e) in
         subst (λ (a : Area). byte_at (bytes_there (Some a) after) q.byte ≡ byte_at (bytes_there (Some a) before) q.byte) (sym e)
         (rw (area_after p w new before after done, done.passed.there)
         (other_byte done.passed.bytes p.byte (new done.passed.bytes) q.byte (room_for p w new before after wide done) apart))
@@ -315,22 +335,25 @@ byte_stays p q w new before after wide done outside = ⊎_elim here there (same_
     there apart = ap (λ o. byte_at (or_none o) q.byte) (others_after p w new before after done q.area apart)
 
 byte_reads_as_before : (p q : Place) (w : Width) (new : List ℕ → List ℕ) (before after : Contents) → IsWide w new → IsOutside p w q
-    → and_then (reached p w before) (λ bytes. Ok (put p bytes (new bytes) before)) ≡ Ok after → read_byte q after ≡ read_byte q before
+    → and_then (bytes_for_access p w before) (λ bytes. Ok (write_bytes p bytes (new bytes) before)) ≡ Ok after → read_byte q after ≡ read_byte q before
 byte_reads_as_before p q w new before after wide outside e =
     let done = wrote p w new before after e in
-    read_as (fault_of (aimed q) width.Byte after) (fault_of (aimed q) width.Byte before) (bytes_there (Some q.area) after) (bytes_there (Some q.area) before) (λ bytes. byte_at bytes q.byte)
-    (faults_after p w new before after wide done (aimed q) width.Byte) (byte_stays p q w new before after wide done outside)
+    read_as (fault_of (aim_of_place q) width.Byte after) (fault_of (aim_of_place q) width.Byte before)
+    (bytes_there (Some q.area) after) (bytes_there (Some q.area) before) (λ bytes. byte_at bytes q.byte)
+    (faults_after p w new before after wide done (aim_of_place q) width.Byte) (byte_stays p q w new before after wide done outside)
 
 sizes_after : (p : Place) (w : Width) (new : List ℕ → List ℕ) (before after : Contents) → IsWide w new
-    → and_then (reached p w before) (λ bytes. Ok (put p bytes (new bytes) before)) ≡ Ok after
-    → ((a : Area) → length (bytes_there (Some a) after) ≡ length (bytes_there (Some a) before)) × ((aim : Aim) (v : Width) → fault_of aim v after ≡ fault_of aim v before)
+    → and_then (bytes_for_access p w before) (λ bytes. Ok (write_bytes p bytes (new bytes) before)) ≡ Ok after
+    → ((a : Area) → length (bytes_there (Some a) after) ≡ length (bytes_there (Some a) before))
+    × ((aim : Aim) (v : Width) → fault_of aim v after ≡ fault_of aim v before)
 sizes_after p w new before after wide e =
     let done = wrote p w new before after e in
     (λ a. (alike_after p w new before after wide done a).sized, faults_after p w new before after wide done)
 
 memory_after : (p : Place) (w : Width) (new : List ℕ → List ℕ) (before after : Contents) (blocks : List DataBlock) → IsWide w new
     → (is_unaligned w p.bit ≡ false → (bytes : List ℕ) → p.byte < length bytes → All (λ b. b < 256) bytes → All (λ b. b < 256) (new bytes))
-    → IsMemoryOf blocks before.areas → and_then (reached p w before) (λ bytes. Ok (put p bytes (new bytes) before)) ≡ Ok after → IsMemoryOf blocks after.areas
+    → IsMemoryOf blocks before.areas
+    → and_then (bytes_for_access p w before) (λ bytes. Ok (write_bytes p bytes (new bytes) before)) ≡ Ok after → IsMemoryOf blocks after.areas
 memory_after p w new before after blocks wide small v e =
     let done = wrote p w new before after e in
     let within : p.byte < length done.passed.bytes = let some = some_byte w in let room = done.passed.room in omega arith in
@@ -358,7 +381,8 @@ dword_wide v bytes = refl
 
 pub bits_read_back : ReadsBack read_bit write_bit
 bits_read_back p v before after e =
-    read_back p width.Bit (λ bytes. byte_with (byte_at bytes p.byte) p.bit v ∷ []) (λ bytes. bit_of_byte (byte_at bytes p.byte) p.bit) v before after (bit_wide p v)
+    read_back p width.Bit (λ bytes. byte_with (byte_at bytes p.byte) p.bit v ∷ [])
+    (λ bytes. bit_of_byte (byte_at bytes p.byte) p.bit) v before after (bit_wide p v)
     (λ bytes room.
     ap (λ b. bit_of_byte b p.bit) (new_byte bytes p.byte (byte_with (byte_at bytes p.byte) p.bit v ∷ []) 0 p.byte room (omega arith) (omega arith))
     ∙ bit_written (byte_at bytes p.byte) p.bit v) e
@@ -368,22 +392,26 @@ bytes_read_back p v before after e =
     read_back p width.Byte (λ bytes. v ∷ []) (λ bytes. byte_at bytes p.byte) v before after (byte_wide v)
     (λ bytes room. new_byte bytes p.byte (v ∷ []) 0 p.byte room (omega arith) (omega arith)) e
 
-word_given : (v i : ℕ) (bytes : List ℕ) → i + 2 ≤ length bytes → word_at (replaced bytes i (bytes_of_word v)) i ≡ v
+word_given : (v i : ℕ) (bytes : List ℕ) → i + 2 ≤ length bytes → word_at (overwrite bytes i (bytes_of_word v)) i ≡ v
 word_given v i bytes room =
-    let high : get_or (replaced bytes i (bytes_of_word v)) i 0 ≡ v / 256 = new_byte bytes i (bytes_of_word v) 0 i room (omega arith) (omega arith) in
-    let low : get_or (replaced bytes i (bytes_of_word v)) (i + 1) 0 ≡ v % 256 = new_byte bytes i (bytes_of_word v) 1 (i + 1) room (omega arith) (omega arith) in
+    let high : get_or (overwrite bytes i (bytes_of_word v)) i 0 ≡ v / 256 = new_byte bytes i (bytes_of_word v) 0 i room (omega arith) (omega arith) in
+    let low : get_or (overwrite bytes i (bytes_of_word v)) (i + 1) 0 ≡ v % 256 =
+    new_byte bytes i (bytes_of_word v) 1 (i + 1) room (omega arith) (omega arith) in
     omega arith
 
 pub words_read_back : ReadsBack read_word write_word
 words_read_back p v before after e =
     read_back p width.Word (λ bytes. bytes_of_word v) (λ bytes. word_at bytes p.byte) v before after (word_wide v) (word_given v p.byte) e
 
-dword_given : (v i : ℕ) (bytes : List ℕ) → i + 4 ≤ length bytes → dword_at (replaced bytes i (bytes_of_dword v)) i ≡ v
+dword_given : (v i : ℕ) (bytes : List ℕ) → i + 4 ≤ length bytes → dword_at (overwrite bytes i (bytes_of_dword v)) i ≡ v
 dword_given v i bytes room =
-    let highest : get_or (replaced bytes i (bytes_of_dword v)) i 0 ≡ v / 2 ^ 24 = new_byte bytes i (bytes_of_dword v) 0 i room (omega arith) (omega arith) in
-    let high : get_or (replaced bytes i (bytes_of_dword v)) (i + 1) 0 ≡ v / 2 ^ 16 % 256 = new_byte bytes i (bytes_of_dword v) 1 (i + 1) room (omega arith) (omega arith) in
-    let low : get_or (replaced bytes i (bytes_of_dword v)) (i + 2) 0 ≡ v / 2 ^ 8 % 256 = new_byte bytes i (bytes_of_dword v) 2 (i + 2) room (omega arith) (omega arith) in
-    let lowest : get_or (replaced bytes i (bytes_of_dword v)) (i + 3) 0 ≡ v % 256 = new_byte bytes i (bytes_of_dword v) 3 (i + 3) room (omega arith) (omega arith) in
+    let highest : get_or (overwrite bytes i (bytes_of_dword v)) i 0 ≡ v / 2 ^ 24 = new_byte bytes i (bytes_of_dword v) 0 i room (omega arith) (omega arith) in
+    let high : get_or (overwrite bytes i (bytes_of_dword v)) (i + 1) 0 ≡ v / 2 ^ 16 % 256 =
+    new_byte bytes i (bytes_of_dword v) 1 (i + 1) room (omega arith) (omega arith) in
+    let low : get_or (overwrite bytes i (bytes_of_dword v)) (i + 2) 0 ≡ v / 2 ^ 8 % 256 =
+    new_byte bytes i (bytes_of_dword v) 2 (i + 2) room (omega arith) (omega arith) in
+    let lowest : get_or (overwrite bytes i (bytes_of_dword v)) (i + 3) 0 ≡ v % 256 =
+    new_byte bytes i (bytes_of_dword v) 3 (i + 3) room (omega arith) (omega arith) in
     omega arith
 
 pub dwords_read_back : ReadsBack read_dword write_dword
@@ -391,7 +419,8 @@ dwords_read_back p v before after e =
     read_back p width.Dword (λ bytes. bytes_of_dword v) (λ bytes. dword_at bytes p.byte) v before after (dword_wide v) (dword_given v p.byte) e
 
 pub bits_leave_bytes : OtherBytesStay width.Bit write_bit
-bits_leave_bytes p q v before after outside e = byte_reads_as_before p q width.Bit (λ bytes. byte_with (byte_at bytes p.byte) p.bit v ∷ []) before after (bit_wide p v) outside e
+bits_leave_bytes p q v before after outside e =
+    byte_reads_as_before p q width.Bit (λ bytes. byte_with (byte_at bytes p.byte) p.bit v ∷ []) before after (bit_wide p v) outside e
 
 pub bytes_leave_bytes : OtherBytesStay width.Byte write_byte
 bytes_leave_bytes p q v before after outside e = byte_reads_as_before p q width.Byte (λ bytes. v ∷ []) before after (byte_wide v) outside e
@@ -447,13 +476,15 @@ dwords_leave_memories p v before after blocks fits memory e =
 -- Every other bit
 
 -- the bit of another place in the byte that is written
-bit_in_byte : (p : Place) (y : ℕ) (v : Bool) (before after : Contents) → y ≢ p.bit → (done : Wrote p width.Bit (λ bytes. byte_with (byte_at bytes p.byte) p.bit v ∷ []) before after)
+bit_in_byte : (p : Place) (y : ℕ) (v : Bool) (before after : Contents) → y ≢ p.bit
+    → (done : Wrote p width.Bit (λ bytes. byte_with (byte_at bytes p.byte) p.bit v ∷ []) before after)
     → bit_of_byte (byte_at (bytes_there (Some p.area) after) p.byte) y ≡ bit_of_byte (byte_at (bytes_there (Some p.area) before) p.byte) y
 bit_in_byte p y v before after apart done =
     let new : List ℕ → List ℕ = λ bytes. byte_with (byte_at bytes p.byte) p.bit v ∷ [] in
     let written : byte_at (bytes_there (Some p.area) after) p.byte ≡ byte_with (byte_at done.passed.bytes p.byte) p.bit v =
     ap (λ o. byte_at (or_none o) p.byte) (area_after p width.Bit new before after done)
-    ∙ new_byte done.passed.bytes p.byte (new done.passed.bytes) 0 p.byte (room_for p width.Bit new before after (bit_wide p v) done) (omega arith) (omega arith) in
+    ∙ new_byte done.passed.bytes p.byte (new done.passed.bytes) 0 p.byte
+    (room_for p width.Bit new before after (bit_wide p v) done) (omega arith) (omega arith) in
     ap (λ b. bit_of_byte b y) written
     ∙ bit_kept (byte_at done.passed.bytes p.byte) p.bit y v apart
     ∙ ap (λ o. bit_of_byte (byte_at (or_none o) p.byte) y) (sym done.passed.there)
@@ -470,21 +501,27 @@ elsewhere p q apart =
     (λ (a : q.area ≡ p.area → ⊥). inl (λ c. absurd (a c)))
     (same_area q.area p.area)
   where
-    same : (a b : Area) (i j x y : ℕ) → a ≡ b → i ≡ j → x ≡ y → ◌≡◌ {A = Place} (record { area = a; byte = i; bit = x }) (record { area = b; byte = j; bit = y })
+    same : (a b : Area) (i j x y : ℕ) → a ≡ b → i ≡ j → x ≡ y
+        → ◌≡◌ {A = Place} (record { area = a; byte = i; bit = x }) (record { area = b; byte = j; bit = y })
     same a b i j x y e f g = rw (e, f, g) refl
 
     sides : (q.byte ≡ p.byte → ⊥) → (q.byte < p.byte) ⊎ (p.byte + 1 ≤ q.byte)
-    sides b = ⊎_elim (λ (e : q.byte ≡ p.byte). absurd (b e)) (⊎_elim (λ (l : q.byte < p.byte). inl l) (λ (l : p.byte < q.byte). inr (omega arith))) (cases_order q.byte p.byte)
+    sides b =
+        ⊎_elim (λ (e : q.byte ≡ p.byte). absurd (b e))
+        (⊎_elim (λ (l : q.byte < p.byte). inl l) (λ (l : p.byte < q.byte). inr (omega arith))) (cases_order q.byte p.byte)
 
 pub bits_leave_bits : OtherBitsStay
 bits_leave_bits p q v before after apart e =
-    read_as (fault_of (aimed q) width.Bit after) (fault_of (aimed q) width.Bit before) (bytes_there (Some q.area) after) (bytes_there (Some q.area) before) (λ bytes. bit_of_byte (byte_at bytes q.byte) q.bit)
-    (faults_after p width.Bit new before after (bit_wide p v) done (aimed q) width.Bit)
+    read_as (fault_of (aim_of_place q) width.Bit after) (fault_of (aim_of_place q) width.Bit before)
+    (bytes_there (Some q.area) after) (bytes_there (Some q.area) before) (λ bytes. bit_of_byte (byte_at bytes q.byte) q.bit)
+    (faults_after p width.Bit new before after (bit_wide p v) done (aim_of_place q) width.Bit)
     (⊎_elim
     (λ (outside : IsOutside p width.Bit q). ap (λ b. bit_of_byte b q.bit) (byte_stays p q width.Bit new before after (bit_wide p v) done outside))
     (λ (inside : (q.area ≡ p.area) × (q.byte ≡ p.byte) × (q.bit ≢ p.bit)).
-    subst (λ (a : Area). bit_of_byte (byte_at (bytes_there (Some a) after) q.byte) q.bit ≡ bit_of_byte (byte_at (bytes_there (Some a) before) q.byte) q.bit) (sym inside.0)
-    (subst (λ i. bit_of_byte (byte_at (bytes_there (Some p.area) after) i) q.bit ≡ bit_of_byte (byte_at (bytes_there (Some p.area) before) i) q.bit) (sym inside.1)
+    subst (λ (a : Area). bit_of_byte (byte_at (bytes_there (Some a) after) q.byte) q.bit ≡ bit_of_byte (byte_at (bytes_there (Some a) before) q.byte) q.bit)
+    (sym inside.0)
+    (subst (λ i. bit_of_byte (byte_at (bytes_there (Some p.area) after) i) q.bit ≡ bit_of_byte (byte_at (bytes_there (Some p.area) before) i) q.bit)
+    (sym inside.1)
     (bit_in_byte p q.bit v before after inside.2 done)))
     (elsewhere p q apart))
   where

@@ -9,9 +9,9 @@ use Rattle.std.specs.List.Sorted.{IsBinarySearchResult}
 use Rattle.std.proofs.lemmas.List.Sorted.{searched}
 use Rattle.std.proofs.lemmas.Bool.Decides.{nat_tests}
 use Rattle.memory_areas.specs.Access.{or_none}
-use Rattle.memory_areas.specs.Areas.{Ascend, Contents, block_of, bytes_in, fresh, no_locals, numbers_of, replaced, with_block}
+use Rattle.memory_areas.specs.Areas.{Ascend, Contents, block_of, bytes_in, fresh, no_locals, numbers_of, overwrite, with_block}
 use Rattle.memory_areas.specs.declared.sizes.TheConstants.{INPUT_BYTES, OUTPUT_BYTES, MARKER_BYTES}
-use Rattle.memory_areas.specs.inner.Stored.{HasRoom, joined, one_further, position_of}
+use Rattle.memory_areas.specs.inner.Stored.{HasRoom, data_blocks_of, one_further, position_of}
 use Rattle.memory_areas.specs.declared.data_block.DataBlock.{DataBlock}
 
 -- Ascending numbers
@@ -55,7 +55,9 @@ position_nowhere n (m ∷ ms) f =
     ∙ ap one_further (position_nowhere n ms (λ k l. f (suc k) (omega arith)))
 
 -- what a search found is the position
-found : (n : ℕ) (ns : List ℕ) → Ascend 1 ns → (r : Result ℕ ℕ) → MatchResult r (λ i. (i < length ns) × (get_or ns i 0 ≡ n)) (λ i. (i ≤ length ns) × ((k : ℕ) → k < i → get_or ns k 0 < n) × ((k : ℕ) → i ≤ k → k < length ns → n < get_or ns k 0))
+found : (n : ℕ) (ns : List ℕ) → Ascend 1 ns → (r : Result ℕ ℕ)
+    → MatchResult r (λ i. (i < length ns) × (get_or ns i 0 ≡ n))
+    (λ i. (i ≤ length ns) × ((k : ℕ) → k < i → get_or ns k 0 < n) × ((k : ℕ) → i ≤ k → k < length ns → n < get_or ns k 0))
     → result_ok r ≡ position_of n ns
 found n ns a (Ok i) h = sym (position_here n ns i h.0 h.1 (λ k l e. let less = rise 1 ns a k i l h.0 in let same = h.1 in omega arith))
 found n ns a (Err i) h = sym (position_nowhere n ns (λ k l e. grind (arith, h.1 k, h.2 k)))
@@ -68,14 +70,15 @@ position_found n ns r a b = found n ns a r (searched ns n r b (never_fall 1 ns a
 -- what stands at a position
 pub record IsAt (n : ℕ) (ns : List ℕ) (bs : List (List ℕ)) (new : List ℕ) (i : ℕ) : Type 0 where
   pub within : i < length bs
-  pub bytes : bytes_in (block_of n (joined ns bs)) ≡ Some (get_or bs i [])
-  pub written : with_block n new (joined ns bs) ≡ joined ns (slice_set bs i new)
+  pub bytes : bytes_in (block_of n (data_blocks_of ns bs)) ≡ Some (get_or bs i [])
+  pub written : with_block n new (data_blocks_of ns bs) ≡ data_blocks_of ns (slice_set bs i new)
 
 behind : (o : Option ℕ) (i : ℕ) → one_further o ≡ Some i → (j : ℕ) × (o ≡ Some j) × (suc j ≡ i)
 behind None i e = cc
 behind (Some j) i e = let next : j + 1 ≡ i = cc in (j, refl, omega arith)
 
-first : (t : Bool) (n m : ℕ) (ms : List ℕ) (b new : List ℕ) (bs : List (List ℕ)) (i : ℕ) → (m == n) ≡ t → (if t then Some 0 else one_further (position_of n ms)) ≡ Some i
+first : (t : Bool) (n m : ℕ) (ms : List ℕ) (b new : List ℕ) (bs : List (List ℕ)) (i : ℕ)
+    → (m == n) ≡ t → (if t then Some 0 else one_further (position_of n ms)) ≡ Some i
     → ((j : ℕ) → position_of n ms ≡ Some j → IsAt n ms bs new j) → IsAt n (m ∷ ms) (b ∷ bs) new i
 first true n m ms b new bs i test e more =
     let block : DataBlock = record { number = m; bytes = b } in
@@ -83,8 +86,8 @@ first true n m ms b new bs i test e more =
     let here : 0 ≡ i = cc in
     subst (λ k. IsAt n (m ∷ ms) (b ∷ bs) new k) here (record {
       within = omega arith;
-      bytes = ap (λ c. bytes_in (cond c (Some block) (block_of n (joined ms bs)))) test;
-      written = ap (λ (c : Bool). if c then changed ∷ joined ms bs else block ∷ with_block n new (joined ms bs)) test;
+      bytes = ap (λ c. bytes_in (cond c (Some block) (block_of n (data_blocks_of ms bs)))) test;
+      written = ap (λ (c : Bool). if c then changed ∷ data_blocks_of ms bs else block ∷ with_block n new (data_blocks_of ms bs)) test;
     })
 first false n m ms b new bs i test e more =
     let block : DataBlock = record { number = m; bytes = b } in
@@ -93,9 +96,9 @@ first false n m ms b new bs i test e more =
     let rest = more further.0 further.1 in
     subst (λ k. IsAt n (m ∷ ms) (b ∷ bs) new k) further.2 (record {
       within = let w = rest.within in omega arith;
-      bytes = ap (λ c. bytes_in (cond c (Some block) (block_of n (joined ms bs)))) test ∙ rest.bytes;
+      bytes = ap (λ c. bytes_in (cond c (Some block) (block_of n (data_blocks_of ms bs)))) test ∙ rest.bytes;
       written =
-          ap (λ (c : Bool). if c then changed ∷ joined ms bs else block ∷ with_block n new (joined ms bs)) test
+          ap (λ (c : Bool). if c then changed ∷ data_blocks_of ms bs else block ∷ with_block n new (data_blocks_of ms bs)) test
           ∙ ap (λ blocks. block ∷ blocks) rest.written;
     })
 
@@ -105,22 +108,22 @@ at_position n (m ∷ ms) [] new i l e = absurd (omega arith)
 at_position n (m ∷ ms) (b ∷ bs) new i l e = first (m == n) n m ms b new bs i refl e (λ j f. at_position n ms bs new j (omega arith) f)
 
 nowhere : (t : Bool) (n m : ℕ) (ms : List ℕ) (b : List ℕ) (bs : List (List ℕ)) → (m == n) ≡ t → (if t then Some 0 else one_further (position_of n ms)) ≡ None
-    → (position_of n ms ≡ None → block_of n (joined ms bs) ≡ None) → block_of n (joined (m ∷ ms) (b ∷ bs)) ≡ None
+    → (position_of n ms ≡ None → block_of n (data_blocks_of ms bs) ≡ None) → block_of n (data_blocks_of (m ∷ ms) (b ∷ bs)) ≡ None
 nowhere true n m ms b bs test e more = cc
 nowhere false n m ms b bs test e more =
     let block : DataBlock = record { number = m; bytes = b } in
-    ap (λ c. cond c (Some block) (block_of n (joined ms bs))) test ∙ more (none_further (position_of n ms) e)
+    ap (λ c. cond c (Some block) (block_of n (data_blocks_of ms bs))) test ∙ more (none_further (position_of n ms) e)
   where
     none_further : (o : Option ℕ) → one_further o ≡ None → o ≡ None
     none_further None f = refl
     none_further (Some j) f = cc
 
-pub not_there : (n : ℕ) (ns : List ℕ) (bs : List (List ℕ)) → length bs ≡ length ns → position_of n ns ≡ None → block_of n (joined ns bs) ≡ None
+pub not_there : (n : ℕ) (ns : List ℕ) (bs : List (List ℕ)) → length bs ≡ length ns → position_of n ns ≡ None → block_of n (data_blocks_of ns bs) ≡ None
 not_there n [] bs l e = refl
 not_there n (m ∷ ms) [] l e = refl
 not_there n (m ∷ ms) (b ∷ bs) l e = nowhere (m == n) n m ms b bs refl e (λ f. not_there n ms bs (omega arith) f)
 
-pub numbers_joined : (ns : List ℕ) (bs : List (List ℕ)) → length bs ≡ length ns → numbers_of (joined ns bs) ≡ ns
+pub numbers_joined : (ns : List ℕ) (bs : List (List ℕ)) → length bs ≡ length ns → numbers_of (data_blocks_of ns bs) ≡ ns
 numbers_joined [] bs l = refl
 numbers_joined (n ∷ ns) [] l = absurd (omega arith)
 numbers_joined (n ∷ ns) (b ∷ bs) l = ap (λ rest. n ∷ rest) (numbers_joined ns bs (omega arith))
@@ -130,15 +133,15 @@ is_there : (n : ℕ) (o : Option DataBlock) (b : List ℕ) → bytes_in o ≡ So
 is_there n None b e = cc
 is_there n (Some x) b e = refl
 
-pub has_position : (n : ℕ) (ns : List ℕ) (bs : List (List ℕ)) → length bs ≡ length ns → is_some (position_of n ns) ≡ is_some (block_of n (joined ns bs))
+pub has_position : (n : ℕ) (ns : List ℕ) (bs : List (List ℕ)) → length bs ≡ length ns → is_some (position_of n ns) ≡ is_some (block_of n (data_blocks_of ns bs))
 has_position n ns bs l = by (position_of n ns) refl
   where
-    by : (o : Option ℕ) → position_of n ns ≡ o → is_some o ≡ is_some (block_of n (joined ns bs))
+    by : (o : Option ℕ) → position_of n ns ≡ o → is_some o ≡ is_some (block_of n (data_blocks_of ns bs))
     by None e = sym (ap is_some (not_there n ns bs l e))
-    by (Some i) e = sym (is_there n (block_of n (joined ns bs)) (get_or bs i []) (at_position n ns bs [] i l e).bytes)
+    by (Some i) e = sym (is_there n (block_of n (data_blocks_of ns bs)) (get_or bs i []) (at_position n ns bs [] i l e).bytes)
 
 -- the blocks that a list was taken apart into
-pub joined_parts : (blocks : List DataBlock) → joined (numbers_of blocks) (map (λ (b : DataBlock). b.bytes) blocks) ≡ blocks
+pub joined_parts : (blocks : List DataBlock) → data_blocks_of (numbers_of blocks) (map (λ (b : DataBlock). b.bytes) blocks) ≡ blocks
 joined_parts [] = refl
 joined_parts (b ∷ bs) = ap (λ rest. b ∷ rest) (joined_parts bs)
 
@@ -153,39 +156,44 @@ within_stored n ns blocks i l e =
     let within = (at_position n ns (items_of blocks) [] i (same ∙ l) e).within in
     omega arith
 
-pub stored_at : (n : ℕ) (ns : List ℕ) (blocks : List (Vec ℕ Global)) (new : List ℕ) (i : ℕ) → length blocks ≡ length ns → position_of n ns ≡ Some i → IsAt n ns (items_of blocks) new i
+pub stored_at : (n : ℕ) (ns : List ℕ) (blocks : List (Vec ℕ Global)) (new : List ℕ) (i : ℕ)
+    → length blocks ≡ length ns → position_of n ns ≡ Some i → IsAt n ns (items_of blocks) new i
 stored_at n ns blocks new i l e = at_position n ns (items_of blocks) new i (length-map blocks (λ (b : Vec ℕ Global). b.items) ∙ l) e
 
-pub not_stored : (n : ℕ) (ns : List ℕ) (blocks : List (Vec ℕ Global)) → length blocks ≡ length ns → position_of n ns ≡ None → block_of n (joined ns (items_of blocks)) ≡ None
+pub not_stored : (n : ℕ) (ns : List ℕ) (blocks : List (Vec ℕ Global)) → length blocks ≡ length ns
+    → position_of n ns ≡ None → block_of n (data_blocks_of ns (items_of blocks)) ≡ None
 not_stored n ns blocks l e = not_there n ns (items_of blocks) (length-map blocks (λ (b : Vec ℕ Global). b.items) ∙ l) e
 
-pub numbers_stored : (ns : List ℕ) (blocks : List (Vec ℕ Global)) → length blocks ≡ length ns → numbers_of (joined ns (items_of blocks)) ≡ ns
+pub numbers_stored : (ns : List ℕ) (blocks : List (Vec ℕ Global)) → length blocks ≡ length ns → numbers_of (data_blocks_of ns (items_of blocks)) ≡ ns
 numbers_stored ns blocks l = numbers_joined ns (items_of blocks) (length-map blocks (λ (b : Vec ℕ Global). b.items) ∙ l)
 
-pub has_stored : (n : ℕ) (ns : List ℕ) (blocks : List (Vec ℕ Global)) → length blocks ≡ length ns → is_some (position_of n ns) ≡ is_some (block_of n (joined ns (items_of blocks)))
+pub has_stored : (n : ℕ) (ns : List ℕ) (blocks : List (Vec ℕ Global)) → length blocks ≡ length ns
+    → is_some (position_of n ns) ≡ is_some (block_of n (data_blocks_of ns (items_of blocks)))
 has_stored n ns blocks l = has_position n ns (items_of blocks) (length-map blocks (λ (b : Vec ℕ Global). b.items) ∙ l)
 
 pub room_stored : (n : ℕ) (ns : List ℕ) (blocks : List (Vec ℕ Global)) (i at count : ℕ) → length blocks ≡ length ns → position_of n ns ≡ Some i
-    → HasRoom (bytes_in (block_of n (joined ns (items_of blocks)))) at count → at + count ≤ length (get_or (items_of blocks) i [])
+    → HasRoom (bytes_in (block_of n (data_blocks_of ns (items_of blocks)))) at count → at + count ≤ length (get_or (items_of blocks) i [])
 room_stored n ns blocks i at count l e room = subst (λ o. HasRoom o at count) (stored_at n ns blocks [] i l e).bytes room
 
 pub no_room : (n : ℕ) (ns : List ℕ) (blocks : List (Vec ℕ Global)) (at count : ℕ) → length blocks ≡ length ns → position_of n ns ≡ None
-    → HasRoom (bytes_in (block_of n (joined ns (items_of blocks)))) at count → ⊥
+    → HasRoom (bytes_in (block_of n (data_blocks_of ns (items_of blocks)))) at count → ⊥
 no_room n ns blocks at count l e room = subst (λ o. HasRoom (bytes_in o) at count) (not_stored n ns blocks l e) room
 
 pub put_stored : (n : ℕ) (ns : List ℕ) (blocks : List (Vec ℕ Global)) (i at : ℕ) (new : List ℕ) → length blocks ≡ length ns → position_of n ns ≡ Some i
-    → joined ns (slice_set (items_of blocks) i (replaced (get_or (items_of blocks) i []) at new))
-    ≡ with_block n (replaced (or_none (bytes_in (block_of n (joined ns (items_of blocks))))) at new) (joined ns (items_of blocks))
+    → data_blocks_of ns (slice_set (items_of blocks) i (overwrite (get_or (items_of blocks) i []) at new))
+    ≡ with_block n (overwrite (or_none (bytes_in (block_of n (data_blocks_of ns (items_of blocks))))) at new) (data_blocks_of ns (items_of blocks))
 put_stored n ns blocks i at new l e =
-    let changed = stored_at n ns blocks (replaced (get_or (items_of blocks) i []) at new) i l e in
+    let changed = stored_at n ns blocks (overwrite (get_or (items_of blocks) i []) at new) i l e in
     sym changed.written
-    ∙ ap (λ bytes. with_block n (replaced bytes at new) (joined ns (items_of blocks))) (sym (ap or_none changed.bytes))
+    ∙ ap (λ bytes. with_block n (overwrite bytes at new) (data_blocks_of ns (items_of blocks))) (sym (ap or_none changed.bytes))
 
 -- a new memory from its parts
 pub assembled : (inputs outputs markers numbers : List ℕ) (bytes locals cells : List (List ℕ)) (blocks : List DataBlock)
     → inputs ≡ replicate INPUT_BYTES 0 → outputs ≡ replicate OUTPUT_BYTES 0 → markers ≡ replicate MARKER_BYTES 0
     → numbers ≡ numbers_of blocks → bytes ≡ map (λ (b : DataBlock). b.bytes) blocks → locals ≡ no_locals → cells ≡ no_locals
-    → ◌≡◌ {A = Contents} (record { areas = record { inputs = inputs; outputs = outputs; markers = markers; blocks = joined numbers bytes }; locals = locals; cells = cells }) (fresh blocks)
+    → ◌≡◌ {A = Contents}
+    (record { areas = record { inputs = inputs; outputs = outputs; markers = markers; blocks = data_blocks_of numbers bytes }; locals = locals; cells = cells })
+    (fresh blocks)
 assembled inputs outputs markers numbers bytes locals cells blocks i q m n b l k =
-    let parts : joined numbers bytes ≡ blocks = rw (n, b) (joined_parts blocks) in
+    let parts : data_blocks_of numbers bytes ≡ blocks = rw (n, b) (joined_parts blocks) in
     rw (i, q, m, parts, l, k) refl

@@ -24,8 +24,16 @@ bit_number b x false e = let apart : b / 2 ^ x % 2 ≢ 1 = grind (arith, nat_tes
 
 -- a byte keeps its value with the bit that it has
 kept : (b x : ℕ) (t : Bool) → x < 8 → bit_of_byte b x ≡ t → byte_with b x t ≡ b
-kept b x true h e = let one = bit_number b x true e in let parts = cut b x h in let same : b / 2 ^ x % 2 * 2 ^ x ≡ 1 * 2 ^ x = ap (λ n. n * 2 ^ x) one in omega arith
-kept b x false h e = let none = bit_number b x false e in let parts = cut b x h in let same : b / 2 ^ x % 2 * 2 ^ x ≡ 0 * 2 ^ x = ap (λ n. n * 2 ^ x) none in omega arith
+kept b x true h e =
+    let one = bit_number b x true e in
+    let parts = cut b x h in
+    let same : b / 2 ^ x % 2 * 2 ^ x ≡ 1 * 2 ^ x = ap (λ n. n * 2 ^ x) one in
+    omega arith
+kept b x false h e =
+    let none = bit_number b x false e in
+    let parts = cut b x h in
+    let same : b / 2 ^ x % 2 * 2 ^ x ≡ 0 * 2 ^ x = ap (λ n. n * 2 ^ x) none in
+    omega arith
 
 -- the weight of a bit fits a byte
 weight : (x : ℕ) → x < 8 → 1 * 2 ^ x % 256 ≡ 2 ^ x

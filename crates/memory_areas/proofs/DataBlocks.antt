@@ -22,23 +22,29 @@ pub begun : (blocks : List DataBlock) → Decides 1 blocks blocks
 begun blocks = record { enough = λ a. a; needed = λ a. a }
 
 -- the next block is left
-left_with : (least : ℕ) (blocks : List DataBlock) (i : ℕ) (block : DataBlock) → i < length blocks → block ≡ get_or blocks i block → Decides least (drop i blocks) blocks
+left_with : (least : ℕ) (blocks : List DataBlock) (i : ℕ) (block : DataBlock)
+    → i < length blocks → block ≡ get_or blocks i block → Decides least (drop i blocks) blocks
     → Decides least (block ∷ drop (i + 1) blocks) blocks
 left_with least blocks i block h is d =
-    subst (λ (b : DataBlock). Decides least (b ∷ drop (i + 1) blocks) blocks) (sym is) (subst (λ (left : List DataBlock). Decides least left blocks) (drop_more blocks i block h) d)
+    subst (λ (b : DataBlock). Decides least (b ∷ drop (i + 1) blocks) blocks) (sym is)
+    (subst (λ (left : List DataBlock). Decides least left blocks) (drop_more blocks i block h) d)
 
 -- one block further
-pub further : (least : ℕ) (blocks : List DataBlock) (i : ℕ) (block : DataBlock) → i < length blocks → block ≡ get_or blocks i block → Decides least (drop i blocks) blocks
+pub further : (least : ℕ) (blocks : List DataBlock) (i : ℕ) (block : DataBlock)
+    → i < length blocks → block ≡ get_or blocks i block → Decides least (drop i blocks) blocks
     → least ≤ block.number → IsSized block → Decides (block.number + 1) (drop (i + 1) blocks) blocks
 further least blocks i block h is d first sized =
     let left = left_with least blocks i block h is d in
     record {
-      enough = λ (a : AreFrom (block.number + 1) (drop (i + 1) blocks)). left.enough (record { ascend = (first, a.ascend); sized = All-cons IsSized block (drop (i + 1) blocks) sized a.sized });
+      enough =
+          λ (a : AreFrom (block.number + 1) (drop (i + 1) blocks)).
+          left.enough (record { ascend = (first, a.ascend); sized = All-cons IsSized block (drop (i + 1) blocks) sized a.sized });
       needed = λ a. let all = left.needed a in record { ascend = all.ascend.1; sized = All-tail IsSized block (drop (i + 1) blocks) all.sized };
     }
 
 -- a block that fails a test
-pub failed : (least : ℕ) (blocks : List DataBlock) (i : ℕ) (block : DataBlock) → i < length blocks → block ≡ get_or blocks i block → Decides least (drop i blocks) blocks
+pub failed : (least : ℕ) (blocks : List DataBlock) (i : ℕ) (block : DataBlock)
+    → i < length blocks → block ≡ get_or blocks i block → Decides least (drop i blocks) blocks
     → AreBlocks blocks → (least ≤ block.number) × IsSized block
 failed least blocks i block h is d a =
     let all = (left_with least blocks i block h is d).needed (record { ascend = a.ascend; sized = a.sized }) in

@@ -10,7 +10,8 @@ use Rattle.memory_areas.specs.declared.sizes.TheConstants.{INPUT_BYTES, OUTPUT_B
 use Rattle.memory_areas.proofs.Blocks.{items_of}
 
 -- the bytes of one block more
-pub stored_more : (blocks : List DataBlock) (i : ℕ) (block : DataBlock) (stored after : List (Vec ℕ Global)) (new : Vec ℕ Global) → i < length blocks → block ≡ get_or blocks i block
+pub stored_more : (blocks : List DataBlock) (i : ℕ) (block : DataBlock) (stored after : List (Vec ℕ Global)) (new : Vec ℕ Global)
+    → i < length blocks → block ≡ get_or blocks i block
     → after ≡ stored ++ new ∷ [] → new.items ≡ block.bytes → items_of stored ≡ map (λ (b : DataBlock). b.bytes) (take i blocks)
     → items_of after ≡ map (λ (b : DataBlock). b.bytes) (take (i + 1) blocks)
 stored_more blocks i block stored after new h is e f g =
@@ -23,7 +24,8 @@ stored_more blocks i block stored after new h is e f g =
     ∙ sym (map-append bytes (take i blocks) (get_or blocks i block ∷ []))
     ∙ ap (map bytes) (sym (take_more blocks i block h))
 
-pub bytes_more : (blocks : List DataBlock) (i : ℕ) (block : DataBlock) → i < length blocks → block ≡ get_or blocks i block → HasBytes block → All HasBytes (take i blocks) → All HasBytes (take (i + 1) blocks)
+pub bytes_more : (blocks : List DataBlock) (i : ℕ) (block : DataBlock) → i < length blocks
+    → block ≡ get_or blocks i block → HasBytes block → All HasBytes (take i blocks) → All HasBytes (take (i + 1) blocks)
 bytes_more blocks i block h is small before = All-more HasBytes blocks i block h before (subst HasBytes is small)
 
 -- numbers of 16 bits, and one more of them

@@ -1,6 +1,6 @@
-mod AccessRows
+mod AccessCases
 mod Accesses
-mod AreaRows
+mod AreaCases
 pub mod AreaLaws
 mod Bits
 mod Blocks

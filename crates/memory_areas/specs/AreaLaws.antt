@@ -37,32 +37,32 @@ OtherBytesStay {V = V} w write =
     (p q : Place) (v : V) (before after : Contents) → IsOutside p w q → write p v before ≡ Ok after
     → read_byte q after ≡ read_byte q before
 
--- each area keeps its length, and each access the fault that it meets
+-- each area keeps its length, and each access its fault
 abbrev pub SizesStay : {V : Type 0} → Writing V → Type 0
 SizesStay {V = V} write =
     (p : Place) (v : V) (before after : Contents) → write p v before ≡ Ok after
     → ((a : Area) → length (bytes_there (Some a) after) ≡ length (bytes_there (Some a) before))
     × ((aim : Aim) (w : Width) → fault_of aim w after ≡ fault_of aim w before)
 
--- a memory of some data blocks stays one, where the value fits its width
+-- after a write, a memory of some data blocks is still one of these, where the value fits its width
 abbrev pub MemoriesStay : {V : Type 0} → (V → Type 0) → Writing V → Type 0
 MemoriesStay {V = V} Fits write =
     (p : Place) (v : V) (before after : Contents) (blocks : List DataBlock) → Fits v
     → IsMemoryOf blocks before.areas → write p v before ≡ Ok after
     → IsMemoryOf blocks after.areas
 
--- what a write of a bit asks of its value: nothing, 0 and 1 both fit
+-- a value fits a bit: both do
 abbrev pub AnyBit : Bool → Type 0
 AnyBit v = Unit {0}
 
--- what a write of a byte asks of its value: 0 to 255, so that a memory keeps bytes alone
+-- a value fits a byte: 0 to 255, so that a memory keeps only bytes
 abbrev pub IsByte : ℕ → Type 0
 IsByte v = v < 2 ^ 8
 
--- what a write of a word asks of its value: 0 to 65,535
+-- a value fits a word: 0 to 65,535
 abbrev pub IsWord : ℕ → Type 0
 IsWord v = v < 2 ^ 16
 
--- what a write of a double word asks of its value: 0 to 4,294,967,295
+-- a value fits a double word: 0 to 4,294,967,295
 abbrev pub IsDword : ℕ → Type 0
 IsDword v = v < 2 ^ 32

@@ -1,12 +1,14 @@
--- What the memory of a controller is seen as: areas, which are lists of bytes.
+-- The memory of a controller, in bytes. It has the inputs, the outputs, the bit memory, the data blocks, and the
+-- local data and constant actuals of each activation. Words and double words have their highest byte first.
+-- Held against: the manual's chapter 'Load and Transfer', and this project's own bounds.
 use Rattle.std.specs.Prelude.{◌≡◌, ℕ, ◌+◌, ◌*◌, ◌/◌, ◌%◌, ◌^◌, ◌<◌, ◌≤◌, Bool, ◌==◌, nat_lt, if◌then◌else◌, List, [], ◌∷◌, ◌++◌, length, map, find, take, drop, get_or, slice_get, slice_set, replicate, All, Option, Some, option_map}
 use Rattle.memory_areas.specs.declared.data_block.DataBlock.{DataBlock}
 use Rattle.memory_areas.specs.declared.place.Area.{Area}
 use Rattle.memory_areas.specs.declared.place.Area.TheVariants as area
 use Rattle.memory_areas.specs.declared.sizes.TheConstants.{INPUT_BYTES, OUTPUT_BYTES, MARKER_BYTES, ACTIVATIONS, LOCAL_BYTES, MOST_BLOCKS, LEAST_BLOCK_BYTES, MOST_BLOCK_BYTES}
 
--- the areas: the process images of the inputs and of the outputs, the bit memory, and the data blocks in
--- ascending order of their numbers
+-- the areas that all activations share: the process images of the inputs and of the outputs, the bit memory, and the
+-- data blocks in ascending order of their numbers
 pub record Areas : Type 0 where
   pub inputs : List ℕ
   pub outputs : List ℕ
@@ -45,7 +47,7 @@ pub record IsArea (size : ℕ) (items : List ℕ) : Type 0 where
   pub sized : length items ≡ size
   pub bytes : All (λ b. b < 256) items
 
--- the blocks of a memory are some given ones: the same numbers with as many bytes each
+-- the blocks of a memory match given ones: the same numbers with as many bytes each
 abbrev pub Match : List DataBlock → List DataBlock → Type 0
 Match [] [] = Unit {0}
 Match [] (given ∷ more) = ⊥
@@ -95,15 +97,15 @@ with_block number bytes (b ∷ bs) =
     if b.number == number then record b { bytes = bytes } ∷ bs else b ∷ with_block number bytes bs
 
 -- data blocks in ascending order of their numbers, and one more, before those that have its number or a greater one
-abbrev pub inserted : DataBlock → List DataBlock → List DataBlock
-inserted b [] = b ∷ []
-inserted b (c ∷ cs) = if nat_lt c.number b.number then c ∷ inserted b cs else b ∷ c ∷ cs
+abbrev pub insert_data_block : DataBlock → List DataBlock → List DataBlock
+insert_data_block b [] = b ∷ []
+insert_data_block b (c ∷ cs) = if nat_lt c.number b.number then c ∷ insert_data_block b cs else b ∷ c ∷ cs
 
--- the bytes of a data block that is there
+-- the bytes of a data block, if it exists
 abbrev pub bytes_in : Option DataBlock → Option (List ℕ)
 bytes_in block = option_map (λ (b : DataBlock). b.bytes) block
 
--- the bytes of an area; none where its data block is not there
+-- the bytes of an area; none where its data block does not exist
 abbrev pub bytes_of : Area → Contents → Option (List ℕ)
 bytes_of area.I m = Some m.areas.inputs
 bytes_of area.Q m = Some m.areas.outputs
@@ -122,12 +124,13 @@ with_bytes (area.Cell d) bytes m = record m { cells = slice_set m.cells d bytes 
 with_bytes (area.Db n) bytes m = record m { areas = record m.areas { blocks = with_block n bytes m.areas.blocks } }
 
 -- the memory with zeros in the local data and the constant actuals of an activation
-abbrev pub cleared : ℕ → Contents → Contents
-cleared d m = record m { locals = slice_set m.locals d zero_locals; cells = slice_set m.cells d zero_locals }
+abbrev pub with_zero_activation : ℕ → Contents → Contents
+with_zero_activation d m =
+    record m { locals = slice_set m.locals d zero_locals; cells = slice_set m.cells d zero_locals }
 
 -- Numbers in bytes: words and double words have their highest byte first
 
--- byte i
+-- byte i of some bytes
 abbrev pub byte_at : List ℕ → ℕ → ℕ
 byte_at bytes i = get_or bytes i 0
 
@@ -156,6 +159,6 @@ bytes_of_word w = w / 256 ∷ w % 256 ∷ []
 abbrev pub bytes_of_dword : ℕ → List ℕ
 bytes_of_dword w = w / 2 ^ 24 ∷ w / 2 ^ 16 % 256 ∷ w / 2 ^ 8 % 256 ∷ w % 256 ∷ []
 
--- the bytes with others in the place of those from byte i on
-abbrev pub replaced : List ℕ → ℕ → List ℕ → List ℕ
-replaced bytes i new = take i bytes ++ new ++ drop (i + length new) bytes
+-- the bytes, of which those from byte i on are replaced by others
+abbrev pub overwrite : List ℕ → ℕ → List ℕ → List ℕ
+overwrite bytes i new = take i bytes ++ new ++ drop (i + length new) bytes

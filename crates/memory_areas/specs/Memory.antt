@@ -17,7 +17,7 @@ IsActivation other = Unit {0}
 abbrev pub HasActivations : Contents → Type 0
 HasActivations m = (length m.locals ≡ ACTIVATIONS) × (length m.cells ≡ ACTIVATIONS)
 
--- an area is a data block that is not there
+-- an area is a data block that does not exist
 abbrev pub IsMissing : Area → Contents → Type 0
 IsMissing (area.Db n) m = block_of n m.areas.blocks ≡ None
 IsMissing other m = ⊥

@@ -28,7 +28,7 @@ pub fn dwords_are_kept()
     ensures bytes { OtherBytesStay Dword write_dword }
 {}
 
-/// A write leaves each area as long as it was, and each access the fault that it meets.
+/// A write keeps the length of each area, and the fault of each access.
 pub fn sizes_stay()
     ensures bit { SizesStay write_bit }
     ensures byte { SizesStay write_byte }
@@ -36,7 +36,7 @@ pub fn sizes_stay()
     ensures dword { SizesStay write_dword }
 {}
 
-/// A write leaves a memory of some data blocks one of these blocks.
+/// After a write, a memory of some data blocks is still one of these blocks.
 pub fn memories_stay()
     ensures bit { MemoriesStay AnyBit write_bit }
     ensures byte { MemoriesStay IsByte write_byte }

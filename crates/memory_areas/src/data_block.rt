@@ -14,9 +14,9 @@ pub struct DataBlock {
     pub bytes: List<u8>,
 }
 
-/// The same bytes in memory of their own. That they are bytes is what their type says, which a clause on a
-/// block does not know.
-pub fn copied(alloc: Global, bytes: &[u8]) -> Result<Vec<u8>, NoMemory>
+/// A copy of some bytes. That they are bytes is what their type says, which a clause on a block does not
+/// know.
+pub fn copy_of_bytes(alloc: Global, bytes: &[u8]) -> Result<Vec<u8>, NoMemory>
     ensures same { IfOk result (λ copy. copy.items ≡ bytes.now) }
     ensures small { OnOk result (All (λ b. b < 256) bytes.now) }
 {
@@ -29,7 +29,7 @@ impl DataBlock {
         ensures same { IfOk result (λ block. block ≡ self.now) }
         ensures bytes { OnOk result (HasBytes self.now) }
     {
-        let bytes = copied(alloc, self.bytes.as_slice())?;
+        let bytes = copy_of_bytes(alloc, self.bytes.as_slice())?;
         Ok(DataBlock {
             number: self.number,
             bytes: List::from_vec(bytes),
@@ -45,7 +45,7 @@ fn is_sized(block: &DataBlock) -> bool
     LEAST_BLOCK_BYTES <= count && count <= MOST_BLOCK_BYTES
 }
 
-/// A memory may have these data blocks.
+/// Whether a memory may have these data blocks.
 pub fn are_blocks(blocks: &[DataBlock]) -> bool
     ensures yes { result ≡ true → AreBlocks blocks.now }
     ensures no { AreBlocks blocks.now → result ≡ true }

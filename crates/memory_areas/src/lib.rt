@@ -1,8 +1,8 @@
 //! The memory of a controller: its areas, the places in them, and the access to a place.
 //!
-//! Stands on `s7_base`. `specs/` has what a memory is seen as, the tests of an access and their order,
-//! and how a run shows the memory at its end; both languages cite them. The sizes of the areas and the
-//! limits of data blocks stand here once.
+//! Uses `s7_base`. `specs/` defines how a memory is seen, the tests of an access and their order, and how a
+//! run shows the memory at its end; both languages use these. The sizes of the areas and the limits of data
+//! blocks are defined here once.
 #![tactic(auto)]
 
 pub use call::{BlockName, Call};

@@ -1,12 +1,12 @@
-//! The memory itself: reads and writes by place. Each step of a run makes some, so they are put into the code
-//! of their callers, where the width is known and no place is copied on its way.
+//! The memory itself: reads and writes by place. Each step of a run makes some, so they are inlined into
+//! their callers, where the width is known and no place is copied.
 ghost use Rattle.std.specs.Prelude.{ℕ, ◌≡◌, ◌+◌, ◌^◌, ◌<◌, ◌≤◌, All, [], length, get_or, slice_get, slice_set, Some, None, Ok, Err, is_some, MatchOption, MatchResult, IfOk, OnOk, map, replicate};
-ghost use Rattle.memory_areas.specs.Access.{aimed, bytes_wide, bytes_there, fault_of, unless, reached, put, read_bit, read_byte, read_word, read_dword, write_bit, write_byte, write_word, write_dword};
-ghost use Rattle.memory_areas.specs.Areas.{AreBlocks, Ascend, IsMemoryOf, block_of, bytes_in, bytes_of, cleared, fresh, no_locals, numbers_of, replaced, with_areas};
+ghost use Rattle.memory_areas.specs.Access.{aim_of_place, bytes_wide, bytes_there, fault_of, unless, bytes_for_access, write_bytes, read_bit, read_byte, read_word, read_dword, write_bit, write_byte, write_word, write_dword};
+ghost use Rattle.memory_areas.specs.Areas.{AreBlocks, Ascend, IsMemoryOf, block_of, bytes_in, bytes_of, with_zero_activation, fresh, no_locals, numbers_of, overwrite, with_areas};
 ghost use Rattle.memory_areas.specs.Memory.{IsActivation, IsMissing, HasBytes, HasActivations, Writes};
-ghost use Rattle.memory_areas.specs.inner.Stored.{HasRoom, joined, position_of};
+ghost use Rattle.memory_areas.specs.inner.Stored.{HasRoom, data_blocks_of, position_of};
 
-use crate::data_block::{DataBlock, copied};
+use crate::data_block::{DataBlock, copy_of_bytes};
 use crate::parts::{
     bit_of_byte, byte_with, bytes_of_dword, bytes_of_word, bytes_wide, dword_at, is_closed,
     is_unaligned, replace, word_at,
@@ -37,7 +37,7 @@ pub struct Memory {
 impl Model for Memory {
     ghost use Rattle.std.specs.Prelude.{◌≡◌, length, map};
     ghost use Rattle.memory_areas.specs.Areas.{Ascend, Contents};
-    ghost use Rattle.memory_areas.specs.inner.Stored.{joined};
+    ghost use Rattle.memory_areas.specs.inner.Stored.{data_blocks_of};
 
     ghost Value = { Contents };
 
@@ -46,7 +46,7 @@ impl Model for Memory {
         inputs = m.inputs.items;
         outputs = m.outputs.items;
         markers = m.markers.items;
-        blocks = joined m.numbers.items (map (λ b. b.items) m.blocks.items);
+        blocks = data_blocks_of m.numbers.items (map (λ b. b.items) m.blocks.items);
       };
       locals = m.locals;
       cells = m.cells;
@@ -69,7 +69,7 @@ fn no_locals() -> [[u8; LOCAL_BYTES]; ACTIVATIONS]
     [[0; LOCAL_BYTES]; ACTIVATIONS]
 }
 
-/// Where a number stands among ascending ones.
+/// The position of a number in ascending ones.
 fn position(numbers: &[u16], number: u16) -> Option<usize>
     requires { Ascend 1 numbers.now }
     ensures { result ≡ position_of number numbers.now }
@@ -81,8 +81,8 @@ fn position(numbers: &[u16], number: u16) -> Option<usize>
 fn block<'a>(numbers: &[u16], blocks: &'a [Vec<u8>], number: u16) -> Option<&'a [u8]>
     requires { Ascend 1 numbers.now × (length blocks.now ≡ length numbers.now) }
     ensures { MatchOption result
-        (block_of number (joined numbers.now (map (λ b. b.items) blocks.now)) ≡ None)
-        (λ bytes. bytes_in (block_of number (joined numbers.now (map (λ b. b.items) blocks.now))) ≡ Some bytes.now) }
+        (block_of number (data_blocks_of numbers.now (map (λ b. b.items) blocks.now)) ≡ None)
+        (λ bytes. bytes_in (block_of number (data_blocks_of numbers.now (map (λ b. b.items) blocks.now))) ≡ Some bytes.now) }
 {
     match position(numbers, number) {
         Some(position) => Some(blocks[position].as_slice()),
@@ -105,7 +105,7 @@ fn replace_in_block(blocks: &mut [Vec<u8>], position: usize, at: usize, new: &[u
     requires within { position < length blocks.old }
     requires room { at + length new.now ≤ length (get_or (map (λ b. b.items) blocks.old) position []) }
     ensures { map (λ b. b.items) blocks.new ≡ slice_set (map (λ b. b.items) blocks.old) position
-        (replaced (get_or (map (λ b. b.items) blocks.old) position []) at new.now) }
+        (overwrite (get_or (map (λ b. b.items) blocks.old) position []) at new.now) }
 {
     replace(&mut blocks[position], at, new);
 }
@@ -120,7 +120,7 @@ fn replace_in_part(
 )
     requires within { activation < ACTIVATIONS }
     requires room { at + length new.now ≤ length (get_or parts.old activation []) }
-    ensures { parts.new ≡ slice_set parts.old activation (replaced (get_or parts.old activation []) at new.now) }
+    ensures { parts.new ≡ slice_set parts.old activation (overwrite (get_or parts.old activation []) at new.now) }
 {
     let part = &mut parts[activation as usize];
     replace(part, at, new);
@@ -147,12 +147,12 @@ fn bytes_of(alloc: Global, blocks: &[DataBlock]) -> Result<Vec<Vec<u8>>, NoMemor
     let mut stored = Vec::with_capacity(alloc, blocks.len())?;
     for block in blocks {
         let bytes = block.bytes.as_slice();
-        stored.push(copied(alloc, bytes)?)?;
+        stored.push(copy_of_bytes(alloc, bytes)?)?;
     }
     Ok(stored)
 }
 
-/// The same bytes in other memory.
+/// Copies of the bytes of some data blocks.
 fn copies_of(alloc: Global, blocks: &[Vec<u8>]) -> Result<Vec<Vec<u8>>, NoMemory>
     ensures { IfOk result (λ copies. map (λ b. b.items) copies.items ≡ map (λ b. b.items) blocks.now) }
 {
@@ -164,7 +164,7 @@ fn copies_of(alloc: Global, blocks: &[Vec<u8>]) -> Result<Vec<Vec<u8>>, NoMemory
 }
 
 impl Memory {
-    /// A memory of zeros with these data blocks, each at its bytes.
+    /// A memory of zeros with these data blocks, which have their own bytes.
     pub fn new(alloc: Global, blocks: &[DataBlock]) -> Result<Memory, NoMemory>
         requires { AreBlocks blocks.now }
         ensures fresh { IfOk result (λ memory. memory ≡ fresh blocks.now) }
@@ -182,7 +182,7 @@ impl Memory {
         })
     }
 
-    /// A memory of the same contents.
+    /// A copy of the memory.
     pub fn copy(&self, alloc: Global) -> Result<Memory, NoMemory>
         ensures { IfOk result (λ memory. memory ≡ self.now) }
     {
@@ -197,7 +197,7 @@ impl Memory {
         })
     }
 
-    /// The data block of this number is there.
+    /// Whether the memory has the data block of this number.
     pub fn has_block(&self, number: u16) -> bool
         ensures { result ≡ is_some (block_of number self.now.areas.blocks) }
     {
@@ -212,7 +212,7 @@ impl Memory {
         self.numbers.as_slice()
     }
 
-    /// The bytes of an area; `None` exactly for a data block that is not there.
+    /// The bytes of an area; `None` exactly for a data block that does not exist.
     #[inline(always)]
     pub fn bytes(&self, area: Area) -> Option<&[u8]>
         requires { IsActivation area }
@@ -231,21 +231,21 @@ impl Memory {
     /// Tests an access to a place, and touches nothing.
     pub fn find(&self, place: Place, width: Width) -> Result<(), Fault>
         requires { IsActivation place.area }
-        ensures { result ≡ unless (fault_of (aimed place) width self.now) tt }
+        ensures { result ≡ unless (fault_of (aim_of_place place) width self.now) tt }
     {
-        self.reached(place, width)?;
+        self.bytes_for_access(place, width)?;
         Ok(())
     }
 
-    /// The bytes of the area that an access to a place reaches. It is no call, so that the place is not
-    /// copied on its way and the width is known.
+    /// The bytes of the area that an access to a place reaches. It is inlined, so that the place is not
+    /// copied and the width is known.
     #[inline(always)]
-    fn reached(&self, place: Place, width: Width) -> Result<&[u8], Fault>
+    fn bytes_for_access(&self, place: Place, width: Width) -> Result<&[u8], Fault>
         requires { IsActivation place.area }
         ensures { MatchResult result
-            (λ bytes. (reached place width self.now ≡ Ok bytes.now)
+            (λ bytes. (bytes_for_access place width self.now ≡ Ok bytes.now)
             × (place.byte + bytes_wide width ≤ length bytes.now))
-            (λ fault. reached place width self.now ≡ Err fault) }
+            (λ fault. bytes_for_access place width self.now ≡ Err fault) }
     {
         if is_closed(place.area) {
             return Err(Fault::DbNotOpen);
@@ -268,7 +268,7 @@ impl Memory {
         requires { IsActivation place.area }
         ensures { result ≡ read_bit place self.now }
     {
-        let bytes = self.reached(place, Width::Bit)?;
+        let bytes = self.bytes_for_access(place, Width::Bit)?;
         Ok(bit_of_byte(bytes[place.byte as usize], place.bit))
     }
 
@@ -278,7 +278,7 @@ impl Memory {
         requires { IsActivation place.area }
         ensures { result ≡ read_byte place self.now }
     {
-        let bytes = self.reached(place, Width::Byte)?;
+        let bytes = self.bytes_for_access(place, Width::Byte)?;
         Ok(bytes[place.byte as usize])
     }
 
@@ -288,7 +288,7 @@ impl Memory {
         requires { IsActivation place.area }
         ensures { result ≡ read_word place self.now }
     {
-        let bytes = self.reached(place, Width::Word)?;
+        let bytes = self.bytes_for_access(place, Width::Word)?;
         Ok(word_at(bytes, place.byte as usize))
     }
 
@@ -298,16 +298,16 @@ impl Memory {
         requires { IsActivation place.area }
         ensures { result ≡ read_dword place self.now }
     {
-        let bytes = self.reached(place, Width::Dword)?;
+        let bytes = self.bytes_for_access(place, Width::Dword)?;
         Ok(dword_at(bytes, place.byte as usize))
     }
 
-    /// Puts bytes into an area that is there and has room for them. It is no call, so that how many bytes
-    /// there are is known where they are stored.
+    /// Puts bytes into an area that exists and has room for them. It is inlined, so that the number of bytes
+    /// is known where they are stored.
     #[inline(always)]
-    fn put(&mut self, place: Place, new: &[u8])
+    fn write_bytes(&mut self, place: Place, new: &[u8])
         requires { HasRoom (bytes_of place.area self.old) place.byte (length new.now) }
-        ensures { self.new ≡ put place (bytes_there (Some place.area) self.old) new.now self.old }
+        ensures { self.new ≡ write_bytes place (bytes_there (Some place.area) self.old) new.now self.old }
     {
         let at = place.byte as usize;
         match place.area {
@@ -330,9 +330,9 @@ impl Memory {
         requires { IsActivation place.area }
         ensures { Writes (write_bit place value self.old) result self.old self.new }
     {
-        let bytes = self.reached(place, Width::Bit)?;
+        let bytes = self.bytes_for_access(place, Width::Bit)?;
         let byte = byte_with(bytes[place.byte as usize], place.bit, value);
-        self.put(place, &[byte]);
+        self.write_bytes(place, &[byte]);
         Ok(())
     }
 
@@ -342,8 +342,8 @@ impl Memory {
         requires { IsActivation place.area }
         ensures { Writes (write_byte place value self.old) result self.old self.new }
     {
-        self.reached(place, Width::Byte)?;
-        self.put(place, &[value]);
+        self.bytes_for_access(place, Width::Byte)?;
+        self.write_bytes(place, &[value]);
         Ok(())
     }
 
@@ -353,8 +353,8 @@ impl Memory {
         requires { IsActivation place.area }
         ensures { Writes (write_word place value self.old) result self.old self.new }
     {
-        self.reached(place, Width::Word)?;
-        self.put(place, &bytes_of_word(value));
+        self.bytes_for_access(place, Width::Word)?;
+        self.write_bytes(place, &bytes_of_word(value));
         Ok(())
     }
 
@@ -365,15 +365,15 @@ impl Memory {
         requires { IsActivation place.area }
         ensures { Writes (write_dword place value self.old) result self.old self.new }
     {
-        self.reached(place, Width::Dword)?;
-        self.put(place, &bytes_of_dword(value));
+        self.bytes_for_access(place, Width::Dword)?;
+        self.write_bytes(place, &bytes_of_dword(value));
         Ok(())
     }
 
     /// Makes the local data and the constant actuals of an activation zero.
     pub fn clear(&mut self, depth: u8)
         requires { depth < ACTIVATIONS }
-        ensures after { self.new ≡ cleared depth self.old }
+        ensures after { self.new ≡ with_zero_activation depth self.old }
         ensures activations { HasActivations self.new }
     {
         self.locals[depth as usize] = [0; LOCAL_BYTES];

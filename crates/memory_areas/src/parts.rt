@@ -1,7 +1,7 @@
 //! Numbers in bytes, and the tests that look at a place alone.
 ghost use Rattle.std.specs.Prelude.{◌≡◌, ◌+◌, ◌<◌, ◌≤◌, Some, length};
 ghost use Rattle.memory_areas.specs.Access.{bytes_wide, is_closed, is_unaligned};
-ghost use Rattle.memory_areas.specs.Areas.{byte_at, word_at, dword_at, bit_of_byte, byte_with, bytes_of_word, bytes_of_dword, replaced};
+ghost use Rattle.memory_areas.specs.Areas.{byte_at, word_at, dword_at, bit_of_byte, byte_with, bytes_of_word, bytes_of_dword, overwrite};
 
 use crate::place::Area;
 use s7_base::Width;
@@ -19,7 +19,7 @@ pub fn bytes_wide(width: Width) -> usize
     }
 }
 
-/// No data block is open.
+/// Whether an area is that of a data block where none is open.
 #[inline(always)]
 pub fn is_closed(area: Area) -> bool
     ensures { result ≡ is_closed (Some area) }
@@ -27,7 +27,7 @@ pub fn is_closed(area: Area) -> bool
     matches!(area, Area::Db(0))
 }
 
-/// The bit number is none that the width has.
+/// Whether a width does not have this bit number.
 #[inline(always)]
 pub fn is_unaligned(width: Width, bit: u8) -> bool
     ensures { result ≡ is_unaligned width bit }
@@ -96,11 +96,11 @@ pub fn bytes_of_dword(word: u32) -> [u8; 4]
     ]
 }
 
-/// Puts other bytes in the place of those from `at` on.
+/// Replaces the bytes from `at` on by others.
 #[inline(always)]
 pub fn replace(bytes: &mut [u8], at: usize, new: &[u8])
     requires { at + length new.now ≤ length bytes.old }
-    ensures { bytes.new ≡ replaced bytes.old at new.now }
+    ensures { bytes.new ≡ overwrite bytes.old at new.now }
 {
     bytes[at..at + new.len()].copy_from_slice(new);
 }

@@ -33,7 +33,7 @@ pub enum AreaName {
 }
 
 impl AreaName {
-    /// The area that the name stands for. `db` and `di` are the numbers in the DB and the DI register, and
+    /// The area that the name means. `db` and `di` are the numbers in the DB and the DI register, and
     /// `activation` is that of the running activation.
     #[inline(always)]
     pub fn area(self, db: u16, di: u16, activation: u8) -> Area
@@ -64,7 +64,7 @@ impl AreaName {
         }
     }
 
-    /// The area that has a code in pointers; no other code has one.
+    /// The area that has a code in pointers; `None` for a code that no area has.
     pub fn of_code(code: u8) -> Option<AreaName>
         ensures { result ≡ name_of_code code }
     {

@@ -1,3 +1,5 @@
+pub mod Firsts
 pub mod Lists
+pub mod PlaceTables
 pub mod Places
 pub mod Tables

@@ -6,8 +6,8 @@ use Rattle.std.specs.Prelude.{IfSome}
 use Rattle.std.proofs.lemmas.Bool.{and_parts}
 use Rattle.std.proofs.lemmas.List.{length-take-le, take_more}
 use Rattle.std.proofs.lemmas.Option.{slice_get_read}
-use Rattle.first_places.specs.Places.{first_place}
-use Rattle.first_places.proofs.Firsts.{name_sound, no_key, same_words, with_key}
+use Rattle.name_tables.specs.Places.{first_place}
+use Rattle.name_tables.proofs.Firsts.{name_sound, no_key, same_words, with_key}
 use Rattle.s7_base.specs.Tokens.{is_same_word}
 use Rattle.s7_base.specs.declared.reason.Reason.{Reason}
 use Rattle.stl_rules.specs.DeclarationRules.{is_named, key_of, with_name}
@@ -101,7 +101,8 @@ and_false false = refl
 abbrev is_at : BlockKind × ℕ → BlockKind × Result ℕ Reason → Bool
 is_at key b = is_block key.0 key.1 b
 
-block_step : (table : List ((BlockKind × ℕ) × ℕ)) (xs : List (BlockKind × Result ℕ Reason)) (kind : BlockKind) (number : Result ℕ Reason) → AreNumberPlaces xs table
+block_step : (table : List ((BlockKind × ℕ) × ℕ)) (xs : List (BlockKind × Result ℕ Reason)) (kind : BlockKind) (number : Result ℕ Reason)
+    → AreNumberPlaces xs table
     → AreNumberPlaces (xs ++ (kind, number) ∷ []) (with_number_place kind number (length xs) table)
 block_step table xs kind (Ok m) h =
     with_key is_same_block block_sound is_at table xs (kind, Ok m) (kind, m) (λ k. ap (λ b. is_same_kind k.0 kind && b) (same_either k.1 m)) h
@@ -153,7 +154,8 @@ named_with key more names = by_tests (is_named more names) refl (pointwise nat_e
   where
     put : (names : List (List ℕ)) → is_named key (names ++ more ∷ []) ≡ (is_named key names || pointwise nat_eq key more)
     put [] = sym (or_false (pointwise nat_eq key more))
-    put (x ∷ names) = ap (λ b. pointwise nat_eq key x || b) (put names) ∙ sym (or_assoc (pointwise nat_eq key x) (is_named key names) (pointwise nat_eq key more))
+    put (x ∷ names) =
+        ap (λ b. pointwise nat_eq key x || b) (put names) ∙ sym (or_assoc (pointwise nat_eq key x) (is_named key names) (pointwise nat_eq key more))
 
     or_true : (b : Bool) → b ≡ true → b ≡ (b || true)
     or_true true h = refl

@@ -2,8 +2,8 @@
 use Rattle.std.proofs.Common.{◌≡◌, ℕ, Bool, true, false, cond, List, [], ◌∷◌, ◌++◌, Some, is_some, nat_eq, ◌&&◌, refl, sym, ap, ◌∙◌}
 use Rattle.std.specs.Map.{lookup}
 use Rattle.indexmap.specs.IndexMap.{insert_entry}
-use Rattle.first_places.specs.Places.{with_place}
-use Rattle.first_places.proofs.Tables.{appended, none}
+use Rattle.name_tables.specs.Places.{with_place}
+use Rattle.name_tables.proofs.PlaceTables.{appended, none}
 use Rattle.name_tables.specs.inner.Places.{is_same_block}
 use Rattle.stl_rules.specs.Names.{is_same_kind}
 use Rattle.stl_tree.specs.contracts.raw.BlockKindPartialEq.TheImpl as kinds

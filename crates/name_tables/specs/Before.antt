@@ -11,14 +11,14 @@ use Rattle.stl_tree.specs.declared.raw.RawBlock.{RawBlock}
 use Rattle.stl_tree.specs.declared.raw.RawData.{RawData}
 use Rattle.stl_tree.specs.declared.raw.SymbolLine.{SymbolLine}
 
--- a data block by its kind and its number, and another block
+-- a data block by its kind and its number, and a block of another kind
 abbrev pub number_of_db : List SymbolLine → RawData → BlockKind × Result ℕ Reason
 number_of_db symbols d = (block.Db, block_number symbols block.Db d.name)
 
 abbrev pub number_of_block : List SymbolLine → RawBlock → BlockKind × Result ℕ Reason
 number_of_block symbols raw = (raw.kind, block_number symbols raw.kind raw.name)
 
--- data blocks by kind and number, and other blocks
+-- some data blocks by kind and number, and some other blocks
 abbrev pub db_numbers : List SymbolLine → List RawData → List (BlockKind × Result ℕ Reason)
 db_numbers symbols dbs = map (number_of_db symbols) dbs
 
@@ -33,7 +33,7 @@ is_block kind n b = is_same_kind kind b.0 && is_number n b.1
 abbrev pub with_block : List (BlockKind × ℕ) → BlockKind × Result ℕ Reason → List (BlockKind × ℕ)
 with_block before b = with_block_number b.0 before b.1
 
--- those of some blocks that have a number
+-- the kinds and numbers of those of some blocks that have a number
 abbrev pub numbers_before : List (BlockKind × Result ℕ Reason) → List (BlockKind × ℕ)
 numbers_before blocks = fold with_block [] blocks
 

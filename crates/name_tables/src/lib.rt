@@ -1,13 +1,15 @@
 //! Tables of the names of a source: its symbols by their names, and its blocks by kind and number.
 //!
-//! Stands on `stl_rules`, which says what names mean, and on `first_places` for tables of names. `Names` has the tables
-//! of a whole text.
+//! The definitions of what names mean are in `stl_rules`. `Names` has the tables of a whole text; `first_places` has tables
+//! from a name to the first place that has it, which are filled place by place, for any list of names.
 #![tactic(auto)]
 
+pub use first_places::{key_of, look_up, put_place};
 pub use names::Names;
 pub use numbers::Numbers;
 pub use symbols::Symbols;
 
+mod first_places;
 mod names;
 mod numbers;
 mod symbols;

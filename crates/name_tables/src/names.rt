@@ -39,7 +39,7 @@ impl<'t> Model for Names<'t> {
         × (n.blocks ≡ block_numbers n.text.now.symbols n.text.now.blocks) };
 }
 
-/// One more block by kind and number.
+/// Adds a block by kind and number.
 fn put_number(
     alloc: Global,
     symbols: &Symbols<'_>,
@@ -69,7 +69,7 @@ fn numbers_of_dbs(
     Ok(numbers)
 }
 
-/// The other blocks by kind and number.
+/// The blocks that are no data blocks by kind and number.
 fn numbers_of_blocks(
     alloc: Global,
     symbols: &Symbols<'_>,
@@ -109,21 +109,21 @@ impl<'t> Names<'t> {
         self.text
     }
 
-    /// Its symbols.
+    /// The symbols of the text.
     pub fn symbols(&self) -> &Symbols<'t>
         ensures { result.now ≡ self.now.symbols }
     {
         &self.symbols
     }
 
-    /// Its data blocks by kind and number.
+    /// The data blocks of the text by kind and number.
     pub fn dbs(&self) -> &Numbers
         ensures { result.now ≡ db_numbers self.now.symbols self.now.dbs }
     {
         &self.dbs
     }
 
-    /// Its other blocks by kind and number.
+    /// The other blocks of the text by kind and number.
     pub fn blocks(&self) -> &Numbers
         ensures { result.now ≡ block_numbers self.now.symbols self.now.blocks }
     {

@@ -1,7 +1,7 @@
 //! The blocks of a text by kind and number.
 ghost use Rattle.std.specs.Prelude.{◌≡◌, ◌<◌, IfOk, IfSome, OnOk, length, slice_get, take};
 ghost use Rattle.std.specs.Map.{lookup};
-ghost use Rattle.first_places.specs.Places.{first_place, with_place};
+ghost use Rattle.name_tables.specs.Places.{first_place, with_place};
 ghost use Rattle.stl_rules.specs.Stages.{is_among};
 ghost use Rattle.name_tables.specs.Before.{is_block, numbers_before};
 ghost use Rattle.name_tables.specs.inner.Places.{AreNumberPlaces, is_same_block, with_number_place};
@@ -46,7 +46,7 @@ fn look_up(
     places.get(&(kind, number)).copied()
 }
 
-/// Keeps the place of a kind and a number that have none.
+/// Keeps the place of a kind and a number that has none.
 #[tactic(auto, using(crate::proofs::Tables::kept_number, crate::proofs::Tables::put_number))]
 fn put_number(
     places: &mut IndexMap<(BlockKind, u32), usize>,
@@ -122,7 +122,7 @@ impl Numbers {
         look_up(&self.places, kind, number)
     }
 
-    /// A block before a place has the kind and the number.
+    /// Whether a block before a place has the kind and the number.
     #[tactic(auto, using(crate::proofs::Places::number_repeated))]
     pub fn is_repeated(&self, kind: BlockKind, number: u32, place: usize) -> bool
         ensures { result ≡ is_among kind number (numbers_before (take place self.now)) }

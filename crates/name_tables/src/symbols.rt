@@ -1,13 +1,13 @@
 //! The symbol table of a text, by names.
 ghost use Rattle.std.specs.Prelude.{◌≡◌, IfOk, map, option_and_then, option_map, slice_get, take};
-ghost use Rattle.first_places.specs.Places.{first_place};
+ghost use Rattle.name_tables.specs.Places.{first_place};
 ghost use Rattle.stl_rules.specs.DeclarationRules.{is_named, key_of};
 ghost use Rattle.stl_rules.specs.Names.{block_number, is_same_kind, number_at, symbol_named};
 ghost use Rattle.name_tables.specs.Before.{names_before};
 ghost use Rattle.name_tables.specs.inner.Places.{AreNamePlaces, has_key};
 ghost use Rattle.stl_tree.specs.declared.raw.SymbolLine.{SymbolLine};
 
-use first_places::{key_of, look_up, put_place};
+use crate::first_places::{key_of, look_up, put_place};
 use indexmap::IndexMap;
 use s7_base::{NoMemory, Reason};
 use std::alloc::Global;
@@ -104,14 +104,18 @@ impl<'t> Symbols<'t> {
 
     /// The address of a name.
     #[tactic(auto, using(crate::proofs::Places::named_at))]
-    pub fn named(&self, alloc: Global, name: &[u8]) -> Result<Option<SymbolAddress>, NoMemory>
+    pub fn address_named(
+        &self,
+        alloc: Global,
+        name: &[u8],
+    ) -> Result<Option<SymbolAddress>, NoMemory>
         ensures { IfOk result (λ address. address ≡ symbol_named self.now name.now) }
     {
         let place = self.place_of(alloc, name)?;
         Ok(address_at(self.lines, place))
     }
 
-    /// A line before a place has the name.
+    /// Whether a line before a place has the name.
     #[tactic(auto, using(crate::proofs::Places::name_repeated))]
     pub fn is_repeated(&self, alloc: Global, place: usize, name: &[u8]) -> Result<bool, NoMemory>
         ensures { IfOk result (λ repeated. repeated ≡ is_named (key_of name.now) (names_before (take place self.now))) }
@@ -122,7 +126,7 @@ impl<'t> Symbols<'t> {
         }
     }
 
-    /// The number of a block of a kind that stands there by a symbol.
+    /// The number of a block of a kind that is written as a symbol.
     pub fn number_named(
         &self,
         alloc: Global,
@@ -131,7 +135,7 @@ impl<'t> Symbols<'t> {
     ) -> Result<Result<u32, Reason>, NoMemory>
         ensures { IfOk result (λ number. number ≡ number_at kind (symbol_named self.now name.now)) }
     {
-        let address = self.named(alloc, name)?;
+        let address = self.address_named(alloc, name)?;
         Ok(number_at(kind, address))
     }
 

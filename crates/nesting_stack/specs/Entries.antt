@@ -1,4 +1,5 @@
--- The entries of open brackets, the last one first.
+-- The entries of open brackets. The last one is first in the list, and at most seven may be open.
+-- Held against: the manual's chapter 'Bit Logic'.
 use Rattle.std.specs.Prelude.{◌≡◌, ℕ, ◌<◌, List, [], ◌∷◌, length, Option, Some, None, Result, Ok, Err}
 use Rattle.s7_base.specs.declared.check.Entry.{Entry}
 use Rattle.nesting_stack.specs.declared.nesting.Full.{Full}

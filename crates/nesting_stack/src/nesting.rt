@@ -8,7 +8,7 @@ use std::marker::Model;
 /// The most brackets that may be open.
 const ROOM: usize = 7;
 
-/// What stands where no bracket is open.
+/// The entry of a free place, where no bracket is open.
 const EMPTY: Entry = Entry {
     check: Check::A,
     rlo: false,
@@ -20,7 +20,7 @@ const EMPTY: Entry = Entry {
 #[derive(Clone, Copy, Debug, PartialEq, Eq)]
 pub struct Full;
 
-/// The open brackets, at most seven. The entries behind the free places are theirs, the last one first.
+/// The open brackets, at most seven. The entries after the free places are theirs, the last one first.
 #[derive(Debug, Drop)]
 pub struct Nesting {
     entries: [Entry; ROOM],

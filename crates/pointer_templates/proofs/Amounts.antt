@@ -5,10 +5,10 @@ use Rattle.std.specs.Int.{int_rem_euclid}
 use Rattle.std.proofs.lemmas.Int.{ints}
 use Rattle.std.proofs.lemmas.Nat.{and_mask, or_shifted}
 use Rattle.std.proofs.lemmas.Nat.Bits.{and_high_mask}
-use Rattle.memory_areas.specs.Pointers.{moved}
-use Rattle.pointer_templates.specs.Pointers.{moved_of}
-use Rattle.row_templates.specs.Builders.{read_of}
-use Rattle.row_templates.proofs.Pointers.{dword}
+use Rattle.memory_areas.specs.Pointers.{pointer_plus}
+use Rattle.pointer_templates.specs.Pointers.{pointer_sum_of}
+use Rattle.template_parts.specs.Builders.{read_of}
+use Rattle.template_parts.proofs.Pointers.{dword}
 use Rattle.s7_base.specs.SignedNumbers.{number, pattern}
 use Rattle.st_tree.proofs.Equations.{value_binary, value_convert, value_literal}
 use Rattle.st_tree.specs.State.{State}
@@ -29,11 +29,11 @@ sum_below : (p : ℕ) (z : ℤ) → pattern 32 (number 32 (p % 2 ^ 32) +ℤ z) %
 sum_below p z = grind (arith, ints)
 
 -- an amount 0 moves nothing
-pub unmoved : (p : ℕ) → moved p (pos 0) ≡ p
+pub unmoved : (p : ℕ) → pointer_plus p (pos 0) ≡ p
 unmoved p = grind (arith, ints)
 
 -- what is moved stays a pointer of 32 bits
-pub moved_below : (p : ℕ) (z : ℤ) → p < 2 ^ 32 → moved p z < 2 ^ 32
+pub moved_below : (p : ℕ) (z : ℤ) → p < 2 ^ 32 → pointer_plus p z < 2 ^ 32
 moved_below p z h = grind (arith, ints)
 
 -- the pattern of the number of a pattern
@@ -42,7 +42,9 @@ same_pattern z = grind (arith, ints)
 
 -- bits of a sum put under an area code
 put_below : (p w : ℕ) → p < 2 ^ 32 → w < 2 ^ 24
-    → pattern 32 (pos (bit_or (pattern 32 (pos (pattern 32 (pos (bit_and (pattern 32 (pos p)) (pattern 32 (pos 4278190080))))))) (pattern 32 (pos (pattern 32 (pos w)))))) ≡ p / 2 ^ 24 * 2 ^ 24 + w
+    → pattern 32
+    (pos (bit_or (pattern 32 (pos (pattern 32 (pos (bit_and (pattern 32 (pos p)) (pattern 32 (pos 4278190080))))))) (pattern 32 (pos (pattern 32 (pos w))))))
+    ≡ p / 2 ^ 24 * 2 ^ 24 + w
 put_below p w h k =
     let high : bit_and p 4278190080 ≡ p / 2 ^ 24 * 2 ^ 24 = and_high_mask 32 24 (omega arith) p h in
     let e : p % 2 ^ 32 ≡ p = omega arith in
@@ -66,7 +68,7 @@ low_bits_below p z = grind (arith, ints)
 
 -- the pointer of an address register with an amount added
 pub moved_worth : (g : List Located) (t : State) (a : Ar) (e : Expr) (p : ℕ) (z : ℤ) → p < 2 ^ 32 → value g (read_of (register_of a)) t ≡ Ok (dword p)
-    → value g e t ≡ Ok (dint z) → value g (moved_of a e) t ≡ Ok (dword (moved p z))
+    → value g e t ≡ Ok (dint z) → value g (pointer_sum_of a e) t ≡ Ok (dword (pointer_plus p z))
 moved_worth g t a e p z small h k =
     let low : unsigned_abs (int_rem_euclid (pos (p % 2 ^ 24) +ℤ z) (pos (2 ^ 24))) < 2 ^ 24 = low_bits_below p z in
     simp (value_binary, value_convert, value_literal, h, k, low_bits, put_below)

@@ -1,8 +1,8 @@
 pub mod Amounts
-pub mod CountRows
-pub mod InstructionRows
-pub mod OperandRows
-pub mod PlainRows
-pub mod PointerRows
+pub mod StatementCounts
+pub mod Serving
+pub mod OperandEffects
+pub mod PlainStatements
+pub mod PointerEffects
 pub mod ReadDwords
-pub mod ReadRows
+pub mod StatementReads

@@ -2,10 +2,10 @@
 use Rattle.std.proofs.Common.{◌≡◌, ℕ, zero, suc, ◌+◌, ◌%◌, ◌^◌, ◌<◌, pos, List, [], ◌∷◌, Option, Some, None, Result, Ok, ap, ◌∙◌, arith}
 use Rattle.std.specs.Prelude.{All}
 use Rattle.std.proofs.lemmas.List.Elements.{All-head, All-tail}
-use Rattle.memory_areas.specs.Access.{HoldsBytes, aimed, and_then, bytes_there, fault_of, read_dword, unless}
+use Rattle.memory_areas.specs.Access.{HoldsBytes, aim_of_place, and_then, bytes_there, fault_of, read_dword, unless}
 use Rattle.memory_areas.specs.Areas.{Contents, byte_at, dword_at}
 use Rattle.memory_areas.specs.declared.place.Place.{Place}
-use Rattle.row_templates.proofs.Pointers.{dword}
+use Rattle.template_parts.proofs.Pointers.{dword}
 use Rattle.s7_base.specs.declared.outcome.Fault.{Fault}
 use Rattle.s7_base.specs.declared.word.Width.TheVariants as width
 use Rattle.st_tree.specs.Values.{typed}
@@ -28,7 +28,7 @@ reached_fits None bytes i v h e = let same : dword_at bytes i ≡ v = cc in omeg
 reached_fits (Some f) bytes i v h e = absurd cc
 
 pub pointer_fits : (p : Place) (m : Contents) (v : ℕ) → HoldsBytes m → read_dword p m ≡ Ok v → v < 2 ^ 32
-pointer_fits p m v h e = reached_fits (fault_of (aimed p) width.Dword m) (bytes_there (Some p.area) m) p.byte v (h p.area) e
+pointer_fits p m v h e = reached_fits (fault_of (aim_of_place p) width.Dword m) (bytes_there (Some p.area) m) p.byte v (h p.area) e
 
 -- and is that as a value
 pub pointer_read : (r : Result ℕ Fault) (v : ℕ) → v < 2 ^ 32 → r ≡ Ok v → and_then r (λ n. Ok (typed type.Dword (pos n))) ≡ Ok (dword v)

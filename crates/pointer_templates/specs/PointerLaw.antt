@@ -1,7 +1,7 @@
 -- What is promised of the statements of the instructions on address registers.
 use Rattle.std.specs.Prelude.{ℕ, [], Option}
 use Rattle.pointer_templates.specs.Pointers.{pointer_exchange_of, pointer_load_of, pointer_move_of, pointer_store_of, types_of_pointer_exchange, types_of_pointer_load, types_of_pointer_store}
-use Rattle.row_templates.specs.Templates.{Serves}
+use Rattle.template_parts.specs.Templates.{Serves}
 use Rattle.stl_tree.specs.Accepted.{HasOperand}
 use Rattle.stl_tree.specs.declared.program.Ar.{Ar}
 use Rattle.stl_tree.specs.declared.program.ArLoad.{ArLoad}

@@ -1,9 +1,9 @@
-//! The statements of the instructions on address registers: LAR1, LAR2, TAR1, TAR2, CAR, +AR1 and +AR2, and the promise
-//! that they do what their instructions do.
+//! The statements of the instructions on address registers: LAR1, LAR2, TAR1, TAR2, CAR, +AR1 and +AR2, and
+//! the promise that they do what their instructions do.
 //!
-//! Stands on `row_templates`. Each function puts the statements of one row behind some steps, as the definition of
-//! that row has them. What takes locals is told the number of the first free one, and has a function for their types.
-//! What is promised of these statements is the contract of `pointers_serve`.
+//! Uses `template_parts`. Each function appends the statements of one instruction to a list, as `specs/`
+//! defines them. Where they take locals, the function gets the number of the first free one, and another
+//! function has their types. What is promised of these statements is the contract of `pointers_serve`.
 #![tactic(auto)]
 
 ghost use Rattle.pointer_templates.specs.PointerLaw.{PointersServe};

@@ -1,39 +1,39 @@
 //! The address registers: loading, storing and exchanging them, and adding to them.
 ghost use Rattle.std.specs.Prelude.{◌≡◌, ◌+◌, ◌++◌, ◌<◌, ◌^◌, IfOk, OnOk};
 ghost use Rattle.stl_tree.specs.Reads.{register_of};
-ghost use Rattle.row_templates.specs.Builders.{read_of};
-ghost use Rattle.pointer_templates.specs.Pointers.{area_code_of, low_number, moved_number_of, moved_of, moved_sum_of, pointed_of, pointer_exchange_of, pointer_load_of, pointer_move_of, pointer_store_of, types_of_pointer_exchange, types_of_pointer_load, types_of_pointer_store};
+ghost use Rattle.template_parts.specs.Builders.{read_of};
+ghost use Rattle.pointer_templates.specs.Pointers.{area_code_of, low_number, moved_number_of, pointer_sum_of, moved_sum_of, pointed_of, pointer_exchange_of, pointer_load_of, pointer_move_of, pointer_store_of, types_of_pointer_exchange, types_of_pointer_load, types_of_pointer_store};
 
-use row_templates::{
-    and, binary, constant, convert, fetched, local, or, push_fetch, push_reach, read, register_of,
-    set, set_local, types_fetched, types_reached, writing,
-};
 use s7_base::{List, NoMemory, Reg, Width};
 use st_tree::{BinaryOp, Expr, StType, Stmt};
 use std::alloc::Global;
 use stl_tree::{Ar, ArLoad, ArStore};
+use template_parts::{
+    and, binary, constant, convert, fetched_value, local, or, push_fetch, push_reach, read,
+    register_of, set_local, set_register, types_fetched, types_reached, writing,
+};
 
 /// The bits of a pointer that have its area code.
 const CODE: i64 = 0xFF00_0000;
 
-/// Those below, to which amounts are added.
+/// The bits of a pointer below its area code, to which amounts are added.
 const NUMBER: i64 = 0x00FF_FFFF;
 
 /// An address register takes a pointer.
 fn push_pointed(steps: &mut List<Stmt>, register: Ar, pointer: Expr) -> Result<(), NoMemory>
     ensures { OnOk result (steps.new ≡ steps.old ++ pointed_of register pointer) }
 {
-    steps.push(set(register_of(register), pointer))
+    steps.push(set_register(register_of(register), pointer))
 }
 
-/// What an address register holds.
-fn held(register: Ar) -> Expr
+/// The value of an address register.
+fn address_register(register: Ar) -> Expr
     ensures { result ≡ read_of (register_of register) }
 {
     read(register_of(register))
 }
 
-/// `LAR1` and `LAR2`, whose first local has this number.
+/// The statements of `LAR1` and `LAR2`, whose locals are those from `first` on.
 pub fn push_pointer_load(
     alloc: Global,
     steps: &mut List<Stmt>,
@@ -49,9 +49,9 @@ pub fn push_pointer_load(
         ArLoad::Constant(pointer) => constant(StType::Dword, i64::from(pointer)),
         ArLoad::At(operand) => {
             push_fetch(alloc, steps, first, &operand, Width::Dword)?;
-            fetched(first, &operand, Width::Dword)
+            fetched_value(first, &operand, Width::Dword)
         }
-        ArLoad::OtherAr => held(register.other()),
+        ArLoad::OtherAr => address_register(register.other()),
     };
     push_pointed(steps, register, pointer)
 }
@@ -66,7 +66,7 @@ pub fn types_of_pointer_load(from: ArLoad) -> &'static [StType]
     }
 }
 
-/// `TAR1` and `TAR2`, whose first local has this number.
+/// The statements of `TAR1` and `TAR2`, whose locals are those from `first` on.
 pub fn push_pointer_store(
     alloc: Global,
     steps: &mut List<Stmt>,
@@ -79,15 +79,21 @@ pub fn push_pointer_store(
 {
     match to {
         ArStore::Accu1 => {
-            steps.push(set(Reg::Accu2, read(Reg::Accu1)))?;
-            steps.push(set(Reg::Accu1, held(register)))
+            steps.push(set_register(Reg::Accu2, read(Reg::Accu1)))?;
+            steps.push(set_register(Reg::Accu1, address_register(register)))
         }
         ArStore::At(operand) => {
             push_reach(alloc, steps, first, &operand)?;
-            let step = writing(alloc, first, &operand, Width::Dword, held(register))?;
+            let step = writing(
+                alloc,
+                first,
+                &operand,
+                Width::Dword,
+                address_register(register),
+            )?;
             steps.push(step)
         }
-        ArStore::OtherAr => push_pointed(steps, register.other(), held(register)),
+        ArStore::OtherAr => push_pointed(steps, register.other(), address_register(register)),
     }
 }
 
@@ -101,7 +107,7 @@ pub fn types_of_pointer_store(to: ArStore) -> &'static [StType]
     }
 }
 
-/// `CAR`.
+/// The statements of `CAR`.
 pub fn push_pointer_exchange(steps: &mut List<Stmt>, first: u32) -> Result<(), NoMemory>
     ensures { OnOk result (steps.new ≡ steps.old ++ pointer_exchange_of first) }
 {
@@ -117,7 +123,8 @@ pub fn types_of_pointer_exchange() -> &'static [StType]
     &[StType::Dword]
 }
 
-/// `+AR1` and `+AR2`. An offset 0 reads nothing, so that the address register may be unset there.
+/// The statements of `+AR1` and `+AR2`. An offset 0 reads nothing, so that the address register may be unset
+/// there.
 pub fn push_pointer_move(
     alloc: Global,
     steps: &mut List<Stmt>,
@@ -146,10 +153,10 @@ fn push_moved(
     register: Ar,
     amount: Expr,
 ) -> Result<(), NoMemory>
-    ensures { OnOk result (steps.new ≡ steps.old ++ pointed_of register (moved_of register amount)) }
+    ensures { OnOk result (steps.new ≡ steps.old ++ pointed_of register (pointer_sum_of register amount)) }
 {
-    let moved = moved(alloc, register, amount)?;
-    push_pointed(steps, register, moved)
+    let pointer_sum = pointer_sum(alloc, register, amount)?;
+    push_pointed(steps, register, pointer_sum)
 }
 
 /// The low word of ACCU1 with its sign, as a DINT.
@@ -160,9 +167,9 @@ fn low_number(alloc: Global) -> Result<Expr, NoMemory>
     convert(alloc, StType::Int, StType::Dint, word)
 }
 
-/// The pointer of an address register with an amount added, which leaves its area code.
-fn moved(alloc: Global, register: Ar, amount: Expr) -> Result<Expr, NoMemory>
-    ensures { IfOk result (λ value. value ≡ moved_of register amount) }
+/// The pointer of an address register with an amount added, which does not change its area code.
+fn pointer_sum(alloc: Global, register: Ar, amount: Expr) -> Result<Expr, NoMemory>
+    ensures { IfOk result (λ value. value ≡ pointer_sum_of register amount) }
 {
     let number = moved_number(alloc, register, amount)?;
     let code = area_code(alloc, register)?;
@@ -173,10 +180,14 @@ fn moved(alloc: Global, register: Ar, amount: Expr) -> Result<Expr, NoMemory>
 fn area_code(alloc: Global, register: Ar) -> Result<Expr, NoMemory>
     ensures { IfOk result (λ value. value ≡ area_code_of register) }
 {
-    and(alloc, held(register), constant(StType::Dword, CODE))
+    and(
+        alloc,
+        address_register(register),
+        constant(StType::Dword, CODE),
+    )
 }
 
-/// What stands below the area code, with an amount added.
+/// The bits below the area code of an address register, with an amount added.
 fn moved_number(alloc: Global, register: Ar, amount: Expr) -> Result<Expr, NoMemory>
     ensures { IfOk result (λ value. value ≡ moved_number_of register amount) }
 {
@@ -189,6 +200,11 @@ fn moved_number(alloc: Global, register: Ar, amount: Expr) -> Result<Expr, NoMem
 fn moved_sum(alloc: Global, register: Ar, amount: Expr) -> Result<Expr, NoMemory>
     ensures { IfOk result (λ value. value ≡ moved_sum_of register amount) }
 {
-    let whole = convert(alloc, StType::Dword, StType::Dint, held(register))?;
+    let whole = convert(
+        alloc,
+        StType::Dword,
+        StType::Dint,
+        address_register(register),
+    )?;
     binary(alloc, BinaryOp::Add, whole, amount)
 }

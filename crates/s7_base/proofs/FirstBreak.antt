@@ -6,7 +6,7 @@ use Rattle.s7_base.specs.declared.reason.Reason.{Reason}
 use Rattle.s7_base.specs.declared.reason.Reason.TheVariants as reason
 use Rattle.s7_base.specs.Broken.{comes_before, first_of_all, rule_number, sooner}
 use Rattle.s7_base.specs.BrokenLaws.{FirstOfAll, IsFirst}
-use Rattle.s7_base.specs.declared.broken.Break.{Break}
+use Rattle.s7_base.specs.declared.rule_break.Break.{Break}
 
 pub few : (r : Reason) → rule_number r < 32
 few reason.BadToken = omega arith
@@ -46,7 +46,8 @@ least [] a b h =
     record { among = inl (sym same); first = omega (arith, ap rank same); others = λ k c q. absurd cc }
 least (x ∷ bs) a b h = by_test (comes_before x a) refl (λ d. least bs d b) h
   where
-    by_test : (t : Bool) → comes_before x a ≡ t → ((d : Break) → fold sooner (Some d) bs ≡ Some b → Least d bs b) → fold sooner (cond t (Some x) (Some a)) bs ≡ Some b
+    by_test : (t : Bool) → comes_before x a ≡ t → ((d : Break) → fold sooner (Some d) bs ≡ Some b → Least d bs b)
+        → fold sooner (cond t (Some x) (Some a)) bs ≡ Some b
         → Least a (x ∷ bs) b
     by_test true e more q =
         let l = more x q in
@@ -57,7 +58,8 @@ least (x ∷ bs) a b h = by_test (comes_before x a) refl (λ d. least bs d b) h
         put (inl s) = (0, ap (λ (y : Break). Some y) (sym s))
         put (inr s) = (suc s.0, s.1)
 
-        other : rank b ≤ rank x → ((k : ℕ) (c : Break) → slice_get bs k ≡ Some c → rank b ≤ rank c) → (k : ℕ) (c : Break) → slice_get (x ∷ bs) k ≡ Some c → rank b ≤ rank c
+        other : rank b ≤ rank x → ((k : ℕ) (c : Break) → slice_get bs k ≡ Some c → rank b ≤ rank c)
+            → (k : ℕ) (c : Break) → slice_get (x ∷ bs) k ≡ Some c → rank b ≤ rank c
         other f o zero c s = let same : x ≡ c = cc in omega (arith, f, ap rank same)
         other f o (suc k) c s = o k c s
     by_test false e more q =
@@ -69,7 +71,8 @@ least (x ∷ bs) a b h = by_test (comes_before x a) refl (λ d. least bs d b) h
         put (inl s) = inl s
         put (inr s) = inr (suc s.0, s.1)
 
-        other : rank b ≤ rank x → ((k : ℕ) (c : Break) → slice_get bs k ≡ Some c → rank b ≤ rank c) → (k : ℕ) (c : Break) → slice_get (x ∷ bs) k ≡ Some c → rank b ≤ rank c
+        other : rank b ≤ rank x → ((k : ℕ) (c : Break) → slice_get bs k ≡ Some c → rank b ≤ rank c)
+            → (k : ℕ) (c : Break) → slice_get (x ∷ bs) k ≡ Some c → rank b ≤ rank c
         other f o zero c s = let same : x ≡ c = cc in omega (arith, f, ap rank same)
         other f o (suc k) c s = o k c s
 

@@ -1,3 +1,3 @@
 pub mod FirstBreak
 pub mod Sets
-mod TokenRows
+mod TokenCases

@@ -16,7 +16,9 @@ place_fits r = grind arith
 
 -- the registers in the order of their places
 abbrev reg_at : ℕ → Reg
-reg_at n = get_or (reg.Accu1 ∷ reg.Accu2 ∷ reg.Ar1 ∷ reg.Ar2 ∷ reg.DbNo ∷ reg.DiNo ∷ reg.Nfc ∷ reg.Rlo ∷ reg.Sta ∷ reg.Orb ∷ reg.Os ∷ reg.Ov ∷ reg.Cc0 ∷ reg.Cc1 ∷ reg.Br ∷ []) n reg.Accu1
+reg_at n =
+    get_or (reg.Accu1 ∷ reg.Accu2 ∷ reg.Ar1 ∷ reg.Ar2 ∷ reg.DbNo ∷ reg.DiNo ∷ reg.Nfc ∷ reg.Rlo
+    ∷ reg.Sta ∷ reg.Orb ∷ reg.Os ∷ reg.Ov ∷ reg.Cc0 ∷ reg.Cc1 ∷ reg.Br ∷ []) n reg.Accu1
 
 reg_at-place : (r : Reg) → reg_at (place r) ≡ r
 reg_at-place r = grind arith
@@ -94,4 +96,4 @@ same_set m n h k e =
 pub same_sets : SameRegistersAreEqual
 same_sets s t same = same_set s.bits t.bits s.within t.within (same_bits s.bits t.bits s.within t.within same)
 
-pub ruleset set_lemmas = (has_bit-set_same, has_bit-set_other, has_bit-clear_same, has_bit-clear_other, has_bit-union, set_within, clear_within, union_within)
+pub ruleset set_laws = (has_bit-set_same, has_bit-set_other, has_bit-clear_same, has_bit-clear_other, has_bit-union, set_within, clear_within, union_within)

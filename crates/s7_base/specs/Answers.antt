@@ -11,7 +11,7 @@ Answers (Ok x) defined = defined ≡ Ok x
 Answers (Err (Refused line reason)) defined = defined ≡ Err (Refused line reason)
 Answers (Err NoMemory) defined = Unit {0}
 
--- what holds of a refusal's line and reason; memory may run out at any time
+-- a property of a refusal's line and reason; memory may run out at any time
 abbrev pub IfRefused : {X : Type 0} → Result X Rejection → (Line → Reason → Type 0) → Type 0
 IfRefused (Ok x) P = Unit {0}
 IfRefused (Err (Refused line reason)) P = P line reason

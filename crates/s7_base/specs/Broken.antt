@@ -1,7 +1,9 @@
--- Broken rules, and which of them is named.
+-- Broken rules, and which of them is named. That is the first by line, and on one line the one whose rule has the
+-- least number.
+-- Held against: this project's own reasons.
 use Rattle.std.specs.Prelude.{ℕ, Bool, ◌&&◌, ◌||◌, ◌==◌, nat_lt, if◌then◌else◌, List, [], ◌∷◌, Option, Some, None}
 use Rattle.std.specs.List.{fold}
-use Rattle.s7_base.specs.declared.broken.Break.{Break}
+use Rattle.s7_base.specs.declared.rule_break.Break.{Break}
 use Rattle.s7_base.specs.declared.reason.Line.{Line}
 use Rattle.s7_base.specs.declared.reason.Reason.{Reason}
 use Rattle.s7_base.specs.declared.reason.Reason.TheVariants as reason
@@ -36,9 +38,10 @@ rule_number reason.TypeMismatch = 25
 
 -- a broken rule comes before another: on a line before, or with a lesser number on one line
 abbrev pub comes_before : Break → Break → Bool
-comes_before a b = nat_lt a.line.0 b.line.0 || (a.line.0 == b.line.0 && nat_lt (rule_number a.rule) (rule_number b.rule))
+comes_before a b =
+    nat_lt a.line.0 b.line.0 || (a.line.0 == b.line.0 && nat_lt (rule_number a.rule) (rule_number b.rule))
 
--- the first of a broken rule, if there is one, and another
+-- the first of some broken rules, after one more is considered
 abbrev pub sooner : Option Break → Break → Option Break
 sooner None b = Some b
 sooner (Some a) b = if comes_before b a then Some b else Some a
@@ -48,5 +51,5 @@ abbrev pub first_of_all : List Break → Option Break
 first_of_all breaks = fold sooner None breaks
 
 -- a rule that is broken on a line
-abbrev pub broken : Line → Reason → List Break
-broken line rule = record { line = line; rule = rule } ∷ []
+abbrev pub rule_break : Line → Reason → List Break
+rule_break line rule = record { line = line; rule = rule } ∷ []

@@ -1,3 +1,5 @@
+-- The names of broken rules in refusals. A form that is not supported also has the name of its kind.
+-- Held against: this project's own reasons.
 use Rattle.std.specs.Prelude.{ℕ, List, ◌++◌, codes}
 use Rattle.s7_base.specs.declared.reason.Reason.{Reason}
 use Rattle.s7_base.specs.declared.reason.Reason.TheVariants as reason

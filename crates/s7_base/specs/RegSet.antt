@@ -1,3 +1,5 @@
+-- The numbers of registers. A set of registers is a number too, in which each register has the bit of its own number.
+-- Held against: this project's own register variables.
 use Rattle.std.specs.Prelude.{◌≡◌, ℕ, Bool, ◌==◌}
 use Rattle.std.specs.Int.{bit_at}
 use Rattle.s7_base.specs.declared.register.Reg.{Reg}
@@ -26,7 +28,7 @@ place reg.Br = 14
 unfoldable pub has_bit : ℕ → Reg → Bool
 has_bit bits r = bit_at bits (place r) == 1
 
--- whether a set holds a register
+-- whether a set has a register
 abbrev pub has_reg : RegSet → Reg → Bool
 has_reg s r = has_bit s.bits r
 

@@ -1,6 +1,7 @@
--- The tokens of a source text. Lines end with LF; blanks are space, TAB and CR. A text is cut into
--- pieces, each standing at the front of what the pieces before it leave: ends of lines, gaps (a
--- blank, a comment, an attribute, a title) and tokens. Where no piece stands is a bad token.
+-- The tokens of an STL source. Lines end with LF; blanks are space, TAB and CR. A text is cut into pieces, each at
+-- the front of what the pieces before it leave: ends of lines, gaps (a blank, a comment, an attribute, a title) and
+-- tokens. Where there is no piece is a bad token.
+-- Held against: this project's own source form.
 use Rattle.std.specs.Prelude.{ℕ, suc, zero, ◌+◌, ◌-◌, ◌^◌, min, Bool, false, not, ◌==◌, ◌&&◌, ◌||◌, nat_le, if◌then◌else◌, List, [], ◌∷◌, ◌++◌, length, take, drop, count_by, codes, Option, Some, None, option_map, Result, Ok, Err}
 use Rattle.std.specs.List.{prefix_len, list_any}
 use Rattle.std.specs.Str.{str_eq_ignore_ascii_case}
@@ -16,11 +17,11 @@ use Rattle.s7_base.specs.declared.token.TokenKind.TheVariants.{Word, Quoted, Tex
 abbrev pub is_between : ℕ → ℕ → ℕ → Bool
 is_between low high b = nat_le low b && nat_le b high
 
--- space, TAB and CR
+-- a byte is a space, TAB or CR
 abbrev pub is_blank : ℕ → Bool
 is_blank b = b == 32 || b == 9 || b == 13
 
--- letters, digits and `_`
+-- a byte is a letter, a digit or `_`
 abbrev pub is_word_byte : ℕ → Bool
 is_word_byte b = is_between 48 57 b || is_between 65 90 b || is_between 97 122 b || b == 95
 
@@ -32,7 +33,7 @@ is_same_word word entry = str_eq_ignore_ascii_case word entry
 abbrev pub is_among : List (List ℕ) → List ℕ → Bool
 is_among table word = list_any (λ entry. is_same_word word entry) table
 
--- a sign of one character
+-- a byte is a sign of one character
 abbrev pub is_sign : ℕ → Bool
 is_sign b = list_any (λ sign. sign == b) (codes ":;,.()[]=+-*/<>#")
 
@@ -51,7 +52,7 @@ begins_with b (first ∷ rest) = first == b
 abbrev pub after_blanks : List ℕ → List ℕ
 after_blanks bytes = drop (prefix_len is_blank bytes) bytes
 
--- how many bytes stand before the end of the line
+-- how many bytes come before the end of the line
 abbrev pub line_size : List ℕ → ℕ
 line_size bytes = prefix_len (λ b. not (b == 10)) bytes
 
@@ -67,7 +68,7 @@ piece_size line_end = 1
 piece_size (gap size) = size
 piece_size (token kind size) = size
 
--- what an opening byte begins goes on to the closing byte on the same line: its size with both
+-- the size of a piece from its opening byte to the closing byte on the same line, with both
 abbrev pub closed_size : ℕ → List ℕ → Option ℕ
 closed_size close rest =
     let inside = prefix_len (λ b. not (b == close || b == 10)) rest in
@@ -81,7 +82,7 @@ word_piece bytes =
     then gap (size + line_size (drop size bytes))
     else token Word size
 
--- a longest sign
+-- a longest sign of one or two characters
 abbrev pub sign_piece : ℕ → List ℕ → Option Piece
 sign_piece first [] = if is_sign first then Some (token Sign 1) else None
 sign_piece first (second ∷ rest) =
@@ -116,7 +117,7 @@ token_text Sign bytes = bytes
 token_text Quoted bytes = take (length bytes - 2) (drop 1 bytes)
 token_text Text bytes = take (length bytes - 2) (drop 1 bytes)
 
--- the line after a line; one past the greatest number is kept as that number
+-- the line after a line; after line 4,294,967,295 it is that line
 abbrev pub line_after : ℕ → ℕ
 line_after line = min (line + 1) (2 ^ 32 - 1)
 
@@ -143,12 +144,12 @@ token_of (token kind size) bytes line before =
       glued = not (is_blank before);
     } ∷ []
 
--- tokens before others
+-- tokens before those of an answer, or its refusal
 abbrev pub prepend_tokens : List Token → Result (List Token) Rejection → Result (List Token) Rejection
 prepend_tokens tokens (Ok more) = Ok (tokens ++ more)
 prepend_tokens tokens (Err refused) = Err refused
 
--- a piece and what comes of it, or the bad token
+-- the tokens by a piece, or the line of the bad token where there is no piece
 abbrev pub with_piece : Option Piece → ℕ → (Piece → Result (List Token) Rejection) → Result (List Token) Rejection
 with_piece None line next = Err (Refused (record { 0 = line }) BadToken)
 with_piece (Some piece) line next = next piece

@@ -83,7 +83,7 @@ impl<T: Drop> List<T> {
 }
 
 impl List<u8> {
-    /// A list of the same bytes.
+    /// A copy of a list of bytes.
     pub fn copy(&self, alloc: Global) -> Result<List<u8>, NoMemory>
         ensures { IfOk result (λ list. list ≡ self.now) }
     {

@@ -1,4 +1,4 @@
-//! How a run of a program stands, on either side of the translation.
+//! How a run of a program ends, or that it has not ended, on either side of the translation.
 
 /// What ends a run before its block ends.
 #[derive(Clone, Copy, Debug, PartialEq, Eq)]
@@ -6,7 +6,7 @@ pub enum Fault {
     /// A data block is accessed and none is open.
     DbNotOpen,
 
-    /// The data block is not there.
+    /// The data block does not exist.
     DbMissing,
 
     /// The area code of a pointer names no area.

@@ -20,7 +20,7 @@ pub enum Rejection {
     NoMemory,
 }
 
-/// A rule that a text may break. Of two on one line the one that stands first here counts.
+/// A rule that a text may break. Of two on one line the one that is listed first here counts.
 #[derive(Clone, Copy, Debug, PartialEq, Eq)]
 pub enum Reason {
     /// Characters form no token; in Structured Text also a literal outside its type's range.
@@ -58,7 +58,7 @@ pub enum Reason {
     /// A data block, an interface or local data has too many bytes, or there are too many data blocks.
     TooLarge,
 
-    /// A label stands twice in a body.
+    /// A body has the same label twice.
     DuplicateLabel,
 
     /// A jump leads to a label that its body lacks.
@@ -120,7 +120,7 @@ pub enum Kind {
     /// System functions and system function blocks: SFC, SFB.
     SystemCall,
 
-    /// `UC` or `CC` of a function block, or of a block whose number stands in memory.
+    /// `UC` or `CC` of a function block, or of a block whose number is in memory.
     IndirectBlock,
 
     /// An instance inside an instance: `CALL #name`, a variable of type `FB 1`.
@@ -193,7 +193,7 @@ impl Reason {
 }
 
 impl Kind {
-    /// The name that a refusal's line shows.
+    /// The name that the line of a refusal shows for the kind.
     pub fn name(self) -> &'static str
         ensures { result.now ≡ kind_name_of self }
     {

@@ -70,7 +70,7 @@ pub struct RegSet {
     ghost within: { bits < 2 ^ 15 },
 }
 
-#[tactic(auto, using(crate::proofs::Sets::set_lemmas), unfolding(crate::specs::RegSet::has_bit))]
+#[tactic(auto, using(crate::proofs::Sets::set_laws), unfolding(crate::specs::RegSet::has_bit))]
 impl RegSet {
     ghost use Rattle.std.specs.Prelude.{◌≡◌, ◌≢◌, ◌||◌, true, false};
     ghost use Rattle.s7_base.specs.declared.register.Reg.{Reg};
@@ -110,7 +110,7 @@ impl RegSet {
         self.bits >> r.place() & 1 == 1
     }
 
-    /// The registers of either set.
+    /// The registers that are in one of the two sets, or in both.
     pub fn union(self, other: RegSet) -> RegSet
         ensures { (q : Reg) → has_reg result q ≡ (has_reg self q || has_reg other q) }
     {

@@ -15,7 +15,7 @@ const ROOM: usize = 14;
 /// Where the bytes of a text are.
 #[derive(Debug, Drop)]
 enum Bytes {
-    /// The first ones of these.
+    /// The number of bytes, and the bytes, at the front of the array.
     Here(u8, [u8; ROOM]),
 
     There(Boxed<List<u8>>),

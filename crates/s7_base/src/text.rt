@@ -2,7 +2,7 @@
 ghost use Rattle.std.specs.Prelude.{◌≡◌, take, drop};
 ghost use Rattle.s7_base.specs.Tokens.{is_word_byte, is_same_word, begins_with};
 
-/// What is left of a list behind its first items; nothing if there are fewer.
+/// The rest of a list after its first items; empty if there are fewer.
 pub fn rest_after<T>(list: &[T], size: usize) -> &[T]
     ensures { result.now ≡ drop size list.now }
 {
@@ -16,7 +16,7 @@ pub fn front_of<T>(list: &[T], size: usize) -> &[T]
     list.get(..size).unwrap_or(list)
 }
 
-/// The bytes begin with this one.
+/// Whether the bytes begin with this one.
 pub fn begins_with(b: u8, bytes: &[u8]) -> bool
     ensures { result ≡ begins_with b bytes.now }
 {
@@ -26,14 +26,14 @@ pub fn begins_with(b: u8, bytes: &[u8]) -> bool
     }
 }
 
-/// The two are the same word, in any case.
+/// Whether the two are the same word, in any case.
 pub fn is_same_word(word: &[u8], entry: &str) -> bool
     ensures { result ≡ is_same_word word.now entry.now }
 {
     word.eq_ignore_ascii_case(entry.as_bytes())
 }
 
-/// A letter, a digit or `_`.
+/// Whether a byte is a letter, a digit or `_`.
 pub fn is_word_byte(b: u8) -> bool
     ensures { result ≡ is_word_byte b }
 {

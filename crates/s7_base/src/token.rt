@@ -9,18 +9,18 @@ pub enum TokenKind {
     /// A longest run of letters, digits and `_`.
     Word,
 
-    /// What stands between two `"` on one line.
+    /// The characters between two `"` on one line.
     Quoted,
 
-    /// What stands between two `'` on one line.
+    /// The characters between two `'` on one line.
     Text,
 
     /// A sign of one or two characters.
     Sign,
 }
 
-/// A token: its characters as they are written, without the quotes of a `Quoted` or a `Text`, and the
-/// line on which it stands. It is `glued` where no blank stands directly before it.
+/// A token: its characters as they are written, without the quotes of a `Quoted` or a `Text`, and its line.
+/// It is `glued` where no blank comes directly before it.
 #[derive(Debug, Drop)]
 pub struct Token {
     pub text: SmallText,

@@ -1,2 +1,2 @@
-pub mod SourceLemmas
-pub mod SinkLemmas
+pub mod SourceLaws
+pub mod SinkLaws

@@ -1,4 +1,5 @@
--- How often a source or a sink has failed.
+-- Counts of failed reads and writes. A count stays at its greatest value.
+-- Held against: this project's own streams.
 use Rattle.std.specs.Prelude.{◌≡◌, ℕ, ◌+◌, ◌-◌, ◌^◌, ◌<◌, ◌⊎◌, min, List, Contains, Result, Ok, Err}
 
 -- the greatest count of faults, at which it stays
@@ -9,7 +10,7 @@ most_faults = 2 ^ 64 - 1
 abbrev pub one_more : ℕ → ℕ
 one_more count = min (count + 1) most_faults
 
--- the count grew, or stands at its greatest value and can't grow
+-- the count grew, or it is at its greatest value and can't grow
 abbrev pub Rose : ℕ → ℕ → Type 0
 Rose before after = (before < after) ⊎ (after ≡ most_faults)
 
@@ -24,7 +25,7 @@ pub record Plan : Type 0 where
   pub calls : ℕ
   pub faults : ℕ
 
--- the plan as a call begins; a number past the greatest stays there, and stands in no list
+-- the plan as a call begins; a number past the greatest stays there, and is in no list
 abbrev pub with_call : Plan → Plan
 with_call plan = record plan { calls = one_more plan.calls }
 

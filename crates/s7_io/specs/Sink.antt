@@ -1,4 +1,5 @@
--- What a sink has taken, where it tells the bytes that it took.
+-- The bytes that a sink has taken. A sink is an output; one that tells no bytes is not judged by them.
+-- Held against: this project's own streams.
 use Rattle.std.specs.Prelude.{◌≡◌, ℕ, ◌-◌, ◌<◌, min, List, ◌++◌, length, take, Option, None, Some}
 use Rattle.s7_io.specs.Faults.{Plan}
 

@@ -1,4 +1,6 @@
--- What a source has given, where it tells the bytes that are still to come.
+-- The bytes that a source has given. A source is an input; one that does not tell the bytes to come is not judged by
+-- them.
+-- Held against: this project's own streams.
 use Rattle.std.specs.Prelude.{◌≡◌, ℕ, ◌≤◌, min, List, [], ◌++◌, length, Option, None, Some}
 use Rattle.s7_io.specs.Faults.{Plan}
 
@@ -9,7 +11,7 @@ Gave None (Some after) bytes = ⊥
 Gave (Some before) None bytes = ⊥
 Gave (Some before) (Some after) bytes = before ≡ bytes ++ after
 
--- nothing is to come any more
+-- no byte is to come any more
 abbrev pub IsAtEnd : Option (List ℕ) → Type 0
 IsAtEnd None = Unit {0}
 IsAtEnd (Some left) = left ≡ []

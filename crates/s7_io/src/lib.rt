@@ -1,9 +1,9 @@
-//! Where bytes come from and where they go: sources and sinks, in memory for tests and over std's
-//! readers and writers for the program.
+//! Where bytes come from and where they go: sources and sinks, in memory for tests and over std's readers and
+//! writers for the program.
 //!
-//! Stands on `s7_base` for `NoMemory`. A source may tell the bytes that are still to come, and a
-//! sink those that it took. Each counts its faults, so that a fault which is answered can be traced
-//! to the object handed in. `read_all` and `write_all` say in every case what became of the bytes.
+//! Uses `s7_base` for `NoMemory`. A source may tell the bytes that are still to come, and a sink those that
+//! it took. Each counts its faults, so that a fault which is answered can be traced to the object that was
+//! given. `read_all` and `write_all` say in every case what became of the bytes.
 #![tactic(auto)]
 
 pub use mem_sink::MemSink;

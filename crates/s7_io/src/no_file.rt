@@ -1,4 +1,4 @@
-//! The source that stands for a file which is not there.
+//! A source for a file that does not exist.
 ghost use Rattle.std.specs.Prelude.{◌≡◌, ◌≤◌, IsErr};
 ghost use Rattle.s7_io.specs.Faults.{one_more};
 

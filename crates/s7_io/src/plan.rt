@@ -7,7 +7,7 @@ use s7_base::NoMemory;
 use std::alloc::Global;
 use std::marker::Model;
 
-/// Counts calls from 1, and fails those whose numbers stand in a list.
+/// Counts calls from 1, and fails those whose numbers are in a list.
 #[derive(Debug, Drop)]
 pub(crate) struct FailPlan {
     fails: Vec<u32>,
@@ -54,7 +54,7 @@ impl FailPlan {
         Ok(())
     }
 
-    /// Counts a fault, and hands out the answer for it.
+    /// Counts a fault, and returns the answer for it.
     pub(crate) fn fail(&mut self) -> Failed
         ensures fault { self.new ≡ with_fault self.old }
         ensures later { self.old.faults ≤ self.new.faults }

@@ -32,10 +32,10 @@ impl From<AllocError> for ReadRefusal {
     }
 }
 
-/// Reads a source to its end, which may stand at most `limit` bytes away.
+/// Reads a source to its end, which comes after at most `limit` bytes.
 ///
-/// Each read asks for at most 4,096 bytes, and no read asks for more than one byte past the limit:
-/// that byte shows that the input is too long. After a refusal the bytes read so far are lost.
+/// Each read asks for at most 4,096 bytes, and no read asks for more than one byte past the limit: that byte
+/// shows that the input is too long. After a refusal the bytes read so far are lost.
 pub fn read_all<S: Source>(alloc: Global, src: &mut S, limit: usize) -> Result<Vec<u8>, ReadRefusal>
     ensures whole { IfOk result (λ bytes. GaveAll (S.left src.old) (S.left src.new) bytes.items) }
     ensures within { IfOk result (λ bytes. length bytes.items ≤ limit) }

@@ -5,7 +5,7 @@ ghost use Rattle.s7_io.specs.Faults.{Rose};
 
 use crate::source::Failed;
 
-/// A place that takes bytes in pieces.
+/// An object that takes bytes in pieces.
 pub trait Sink {
     /// The bytes taken so far, where the sink tells them.
     ghost taken: { Self → Option (List ℕ) };

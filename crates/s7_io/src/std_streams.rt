@@ -1,6 +1,6 @@
 //! The edge to the outside: std's readers and writers as a source and a sink.
 //!
-//! What a file or a terminal holds can't be told, so neither tells its bytes. Both count what failed.
+//! What a file or a terminal holds is not known, so neither tells its bytes. Both count what failed.
 ghost use Rattle.std.specs.Prelude.{◌≡◌, ◌<◌, ◌≤◌, length, IfOk};
 ghost use Rattle.std.specs.Io.KnownBytes.{ReadConsumes, WriteAppends};
 ghost use Rattle.s7_io.specs.Faults.{CountsFault};

@@ -6,16 +6,16 @@ use Rattle.std.proofs.Math.Nat.{mod-eq_of_lt}
 use Rattle.std.proofs.lemmas.Bool.Decides.{nat_tests}
 use Rattle.std.proofs.lemmas.Int.{ints}
 use Rattle.std.proofs.lemmas.Nat.{and_mask}
-use Rattle.row_templates.proofs.Numbers.{put_low}
-use Rattle.row_templates.proofs.Truths.{and_worth, not_worth}
-use Rattle.row_templates.specs.Builders.{and_of, binary_of, constant_of, convert_of, not_of, read_of, select_of, shift_of}
+use Rattle.template_parts.proofs.Numbers.{put_low}
+use Rattle.template_parts.proofs.Truths.{and_worth, not_worth}
+use Rattle.template_parts.specs.Builders.{and_of, binary_of, constant_of, convert_of, not_of, read_of, select_of, shift_of}
 use Rattle.s7_base.specs.declared.register.Reg.TheVariants as reg
 use Rattle.s7_base.specs.declared.word.Width.{Width}
 use Rattle.s7_base.specs.declared.word.Width.TheVariants as width
 use Rattle.shift_templates.proofs.Patterns.{Counts, Fits, IsShifted, Moves, bottom_shown, inverted, masked, moved, moves_keep, of_width, right_moves, signed_chosen, top_shown}
 use Rattle.shift_templates.specs.ShiftParts.{accu1_with, count_in_accu2, count_of, has_bit, one_less, operand_of, signed_shift, top_bit}
 use Rattle.st_tree.proofs.Equations.{value_binary, value_convert, value_literal, value_select, value_shift, value_unary}
-use Rattle.st_tree.specs.Operators.{binary_value, chosen, shift_value, unary_value}
+use Rattle.st_tree.specs.Operators.{binary_value, selected_value, shift_value, unary_value}
 use Rattle.st_tree.specs.State.{State}
 use Rattle.st_tree.specs.Value.{value}
 use Rattle.st_tree.specs.Values.{flag, number, pattern, type_of_width, typed}
@@ -58,7 +58,7 @@ lowest_byte b = byte_number b (bit_and (b % 2 ^ 32) 255) (and_mask (b % 2 ^ 32) 
 is_step : (n : ℕ) → not (int_eq (pos n) (pos 0)) ≡ not (n == 0)
 is_step n = grind (arith, ints, nat_tests)
 
-pub chosen_flags : (gate a b : Bool) → chosen (flag gate) (flag a) (flag b) ≡ flag (if gate then b else a)
+pub chosen_flags : (gate a b : Bool) → selected_value (flag gate) (flag a) (flag b) ≡ flag (if gate then b else a)
 chosen_flags true a b = refl
 chosen_flags false a b = refl
 
@@ -87,7 +87,7 @@ module _ (g : List Located) (t : State) where
   shift_gives : (op : ShiftOp) (e f : Expr) (v u : Value) → Gives e v → Gives f u → Gives (shift_of op e f) (shift_value op v u)
   shift_gives op e f v u h k = value_shift g op e f t ∙ (rw (h, k) refl)
 
-  pub select_gives : (e f d : Expr) (v u x : Value) → Gives e v → Gives f u → Gives d x → Gives (select_of e f d) (chosen v u x)
+  pub select_gives : (e f d : Expr) (v u x : Value) → Gives e v → Gives f u → Gives d x → Gives (select_of e f d) (selected_value v u x)
   select_gives e f d v u x h k m = value_select g e f d t ∙ (rw (h, k, m) refl)
 
   inverted_gives : (e : Expr) (v : Value) → Gives e v → value g (not_of e) t ≡ unary_value unary.Not v
@@ -102,7 +102,8 @@ module _ (g : List Located) (t : State) where
   accu2_gives b h =
       let mask : Expr = constant_of type.Dword (pos 255) in
       value_convert g type.Dword type.Int (and_of (read_of reg.Accu2) mask) t
-      ∙ (rw (joined_gives binary.And (read_of reg.Accu2) mask (of_width width.Dword b) (of_width width.Dword 255) h (value_literal g type.Dword (pos 255) t)) refl)
+      ∙ (rw (joined_gives binary.And (read_of reg.Accu2) mask (of_width width.Dword b) (of_width width.Dword 255) h (value_literal g type.Dword (pos 255) t))
+      refl)
       ∙ ap (λ n. Ok (record { ty = type.Int; n = n })) (lowest_byte b)
 
   pub step_gives : (e : Expr) (n : ℕ) → Gives e (count n) → Gives (binary_of binary.Ne e (count_of 0)) (flag (not (n == 0)))
@@ -121,12 +122,14 @@ module _ (g : List Located) (t : State) where
     moved_gives op f moves e d p n u fits counts h k =
         shift_gives op e d (of_width w p) u h k ∙ ap Ok (moved op w f moves p n u fits counts)
 
-    pub bit_gives : (b : ℕ) (e : Expr) (p : ℕ) → Fits w b → Fits w p → Gives e (of_width w p) → Gives (has_bit w b e) (flag (not (int_eq (pos (bit_and p b)) (pos 0))))
+    pub bit_gives : (b : ℕ) (e : Expr) (p : ℕ) → Fits w b → Fits w p → Gives e (of_width w p)
+        → Gives (has_bit w b e) (flag (not (int_eq (pos (bit_and p b)) (pos 0))))
     bit_gives b e p small fits h =
         let mask : Expr = constant_of (type_of_width w) (pos b) in
         let and_gives : Gives (and_of e mask) (of_width w (bit_and p b)) =
         joined_gives binary.And e mask (of_width w p) (of_width w b) h (value_literal g (type_of_width w) (pos b) t) ∙ masked w p b fits small in
-        joined_gives binary.Ne (and_of e mask) (constant_of (type_of_width w) (pos 0)) (of_width w (bit_and p b)) (of_width w 0) and_gives (value_literal g (type_of_width w) (pos 0) t)
+        joined_gives binary.Ne (and_of e mask) (constant_of (type_of_width w) (pos 0))
+        (of_width w (bit_and p b)) (of_width w 0) and_gives (value_literal g (type_of_width w) (pos 0) t)
 
     pub top_gives : (e : Expr) (p : ℕ) → Fits w p → Gives e (of_width w p) → Gives (has_bit w (top_bit w) e) (flag (top (bits_wide w) p))
     top_gives e p fits h = bit_gives (top_bit w) e p (top_fits w wide) fits h ∙ ap (λ b. Ok (flag b)) (top_shown w wide p fits)
@@ -134,7 +137,8 @@ module _ (g : List Located) (t : State) where
     pub bottom_gives : (e : Expr) (p : ℕ) → Fits w p → Gives e (of_width w p) → Gives (has_bit w 1 e) (flag (bottom p))
     bottom_gives e p fits h = bit_gives 1 e p (one_fits w wide) fits h ∙ ap (λ b. Ok (flag b)) (bottom_shown p)
 
-    pub signed_gives : (sign e d : Expr) (p n : ℕ) (u : Value) → Fits w p → Counts u n → Gives sign (flag (top (bits_wide w) p)) → Gives e (of_width w p) → Gives d u
+    pub signed_gives : (sign e d : Expr) (p n : ℕ) (u : Value) → Fits w p → Counts u n
+        → Gives sign (flag (top (bits_wide w) p)) → Gives e (of_width w p) → Gives d u
         → Gives (signed_shift sign e d) (of_width w (times n (right_signed (bits_wide w)) p))
     signed_gives sign e d p n u fits counts s h k =
         let q : ℕ = 2 ^ bits_wide w - 1 - p in
@@ -151,20 +155,23 @@ module _ (g : List Located) (t : State) where
         (of_width w (2 ^ bits_wide w - 1 - times n right q)) s plain back
         ∙ ap Ok (signed_chosen w wide p n fits)
 
-  pub operand_gives : (w : Width) → IsShifted w → (a : ℕ) → a < 2 ^ 32 → Gives (read_of reg.Accu1) (of_width width.Dword a) → Gives (operand_of w) (of_width w (part w a))
+  pub operand_gives : (w : Width) → IsShifted w → (a : ℕ) → a < 2 ^ 32
+      → Gives (read_of reg.Accu1) (of_width width.Dword a) → Gives (operand_of w) (of_width w (part w a))
   operand_gives width.Bit wide a range h = elim wide [ ]
   operand_gives width.Byte wide a range h = elim wide [ ]
   operand_gives width.Word wide a range h = value_convert g type.Dword type.Word (read_of reg.Accu1) t ∙ (rw h refl)
   operand_gives width.Dword wide a range h = h ∙ ap (λ x. Ok (of_width width.Dword x)) (sym (mod-eq_of_lt range))
 
-  pub accu1_gives : (w : Width) → IsShifted w → (e : Expr) (a x : ℕ) → a < 2 ^ 32 → Fits w x → Gives (read_of reg.Accu1) (of_width width.Dword a) → Gives e (of_width w x)
+  pub accu1_gives : (w : Width) → IsShifted w → (e : Expr) (a x : ℕ) → a < 2 ^ 32 → Fits w x
+      → Gives (read_of reg.Accu1) (of_width width.Dword a) → Gives e (of_width w x)
       → Gives (accu1_with w e) (of_width width.Dword (with_part w a x))
   accu1_gives width.Bit wide e a x range fits h k = elim wide [ ]
   accu1_gives width.Byte wide e a x range fits h k = elim wide [ ]
   accu1_gives width.Word wide e a x range fits h k =
       let mask : Expr = constant_of type.Dword (pos 0xFFFF0000) in
       let high : value g (and_of (read_of reg.Accu1) mask) t ≡ binary_value binary.And (of_width width.Dword a) (of_width width.Dword 0xFFFF0000) =
-      joined_gives binary.And (read_of reg.Accu1) mask (of_width width.Dword a) (of_width width.Dword 0xFFFF0000) h (value_literal g type.Dword (pos 0xFFFF0000) t) in
+      joined_gives binary.And (read_of reg.Accu1) mask (of_width width.Dword a)
+      (of_width width.Dword 0xFFFF0000) h (value_literal g type.Dword (pos 0xFFFF0000) t) in
       let low : Gives (convert_of type.Word type.Dword e) (typed type.Dword (pos x)) = value_convert g type.Word type.Dword e t ∙ (rw k refl) in
       value_binary g binary.Or (and_of (read_of reg.Accu1) mask) (convert_of type.Word type.Dword e) t
       ∙ (rw (high, low) refl)
@@ -176,7 +183,8 @@ module _ (g : List Located) (t : State) where
   -- Flags
 
   -- CC1, where a gate is TRUE what left last
-  pub gate_gives : (gate e d : Expr) (x a b : Bool) → Gives gate (flag x) → Gives e (flag a) → Gives d (flag b) → Gives (select_of gate e d) (flag (if x then b else a))
+  pub gate_gives : (gate e d : Expr) (x a b : Bool) → Gives gate (flag x) → Gives e (flag a)
+      → Gives d (flag b) → Gives (select_of gate e d) (flag (if x then b else a))
   gate_gives gate e d x a b h k m = select_gives gate e d (flag x) (flag a) (flag b) h k m ∙ ap Ok (chosen_flags x a b)
 
   -- CC0 and OV, cleared where it is

@@ -1,10 +1,10 @@
-pub mod Accu2Rows
-pub mod CarryRows
-pub mod ConstantRows
+pub mod Accu2Effects
+pub mod CarryEffects
+pub mod ConstantEffects
 pub mod Expressions
 pub mod Patterns
 pub mod PlainShifts
 pub mod ReadByShifts
-pub mod ShiftRows
+pub mod ShiftEffects
 pub mod ShiftSizes
 pub mod StepKinds

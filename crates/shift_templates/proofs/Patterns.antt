@@ -11,7 +11,7 @@ use Rattle.std.proofs.lemmas.Nat.Bits.{and_pow}
 use Rattle.s7_base.specs.declared.word.Width.{Width}
 use Rattle.s7_base.specs.declared.word.Width.TheVariants as width
 use Rattle.shift_templates.specs.ShiftParts.{top_bit}
-use Rattle.st_tree.specs.Operators.{binary_value, chosen, shift_value, shifted, unary_value}
+use Rattle.st_tree.specs.Operators.{binary_value, selected_value, shift_value, shift_result, unary_value}
 use Rattle.st_tree.specs.Values.{bits_of, flag, of_bits, type_of_width, width_of}
 use Rattle.st_tree.specs.declared.expr.BinaryOp.TheVariants as binary
 use Rattle.st_tree.specs.declared.expr.ShiftOp.{ShiftOp}
@@ -57,7 +57,7 @@ bits_in w p h = ap (λ k. p % 2 ^ k) (same_width w) ∙ mod-eq_of_lt h
 
 -- a shift of so many bits by a count makes so many steps
 abbrev pub Moves : ShiftOp → ℕ → (ℕ → ℕ) → Type 0
-Moves op k f = (n p : ℕ) → p < 2 ^ k → shifted op k p n % 2 ^ k ≡ times n f p
+Moves op k f = (n p : ℕ) → p < 2 ^ k → shift_result op k p n % 2 ^ k ≡ times n f p
 
 pub left_moves : (k : ℕ) → Moves shift.Shl k (left k)
 left_moves k n p h = by (nat_lt n k) refl
@@ -96,7 +96,7 @@ around_right_moves n p h =
 
 -- the steps of a shift leave a pattern in its width
 pub moves_keep : (op : ShiftOp) (k : ℕ) (f : ℕ → ℕ) → Moves op k f → (n p : ℕ) → p < 2 ^ k → times n f p < 2 ^ k
-moves_keep op k f moves n p h = subst (λ x. x < 2 ^ k) (moves n p h) (mod-lt (shifted op k p n) (pow_pos k))
+moves_keep op k f moves n p h = subst (λ x. x < 2 ^ k) (moves n p h) (mod-lt (shift_result op k p n) (pow_pos k))
 
 -- Counts
 
@@ -114,14 +114,16 @@ no_step f p n e = ap (λ m. times m f p) (sym e)
 pub moved : (op : ShiftOp) (w : Width) (f : ℕ → ℕ) → Moves op (bits_wide w) f → (p n : ℕ) (u : Value) → Fits w p → Counts u n
     → shift_value op (of_width w p) u ≡ of_width w (times n f p)
 moved op w f moves p n u h (inl e) =
-    ap (λ z. if int_lt z (pos 0) then of_width w p else of_bits (type_of_width w) (shifted op (width_of (type_of_width w)) (bits_of (of_width w p)) (unsigned_abs z))) e
-    ∙ ap (λ b. if b then of_width w p else of_bits (type_of_width w) (shifted op (width_of (type_of_width w)) (bits_of (of_width w p)) n)) (not_below n)
-    ∙ ap (λ k. of_bits (type_of_width w) (shifted op k (bits_of (of_width w p)) n)) (same_width w)
-    ∙ ap (λ q. of_bits (type_of_width w) (shifted op (bits_wide w) q n)) (bits_in w p h)
-    ∙ left_in w (shifted op (bits_wide w) p n)
+    ap (λ z. if int_lt z (pos 0) then of_width w p
+    else of_bits (type_of_width w) (shift_result op (width_of (type_of_width w)) (bits_of (of_width w p)) (unsigned_abs z))) e
+    ∙ ap (λ b. if b then of_width w p else of_bits (type_of_width w) (shift_result op (width_of (type_of_width w)) (bits_of (of_width w p)) n)) (not_below n)
+    ∙ ap (λ k. of_bits (type_of_width w) (shift_result op k (bits_of (of_width w p)) n)) (same_width w)
+    ∙ ap (λ q. of_bits (type_of_width w) (shift_result op (bits_wide w) q n)) (bits_in w p h)
+    ∙ left_in w (shift_result op (bits_wide w) p n)
     ∙ ap (of_width w) (moves n p h)
 moved op w f moves p n u h (inr e) =
-    ap (λ z. if int_lt z (pos 0) then of_width w p else of_bits (type_of_width w) (shifted op (width_of (type_of_width w)) (bits_of (of_width w p)) (unsigned_abs z))) e.0
+    ap (λ z. if int_lt z (pos 0) then of_width w p
+    else of_bits (type_of_width w) (shift_result op (width_of (type_of_width w)) (bits_of (of_width w p)) (unsigned_abs z))) e.0
     ∙ ap (of_width w) (no_step f p n e.1)
 
 -- Bits
@@ -156,7 +158,7 @@ inverted w p h =
 
 -- of a pattern and its inverse, shifted with zeros, the sign chooses
 pub signed_chosen : (w : Width) → IsShifted w → (p n : ℕ) → Fits w p
-    → chosen (flag (top (bits_wide w) p)) (of_width w (times n right p)) (of_width w (2 ^ bits_wide w - 1 - times n right (2 ^ bits_wide w - 1 - p)))
+    → selected_value (flag (top (bits_wide w) p)) (of_width w (times n right p)) (of_width w (2 ^ bits_wide w - 1 - times n right (2 ^ bits_wide w - 1 - p)))
     ≡ of_width w (times n (right_signed (bits_wide w)) p)
 signed_chosen w wide p n h = by (top (bits_wide w) p) refl
   where
@@ -170,7 +172,7 @@ signed_chosen w wide p n h = by (top (bits_wide w) p) refl
         at width.Dword wide = omega arith
 
     by : (b : Bool) → top (bits_wide w) p ≡ b
-        → chosen (flag b) (of_width w (times n right p)) (of_width w (2 ^ bits_wide w - 1 - times n right (2 ^ bits_wide w - 1 - p)))
+        → selected_value (flag b) (of_width w (times n right p)) (of_width w (2 ^ bits_wide w - 1 - times n right (2 ^ bits_wide w - 1 - p)))
         ≡ of_width w (times n (right_signed (bits_wide w)) p)
     by true e =
         let above : 2 ^ (bits_wide w - 1) ≤ p = grind (arith, nat_tests, e) in

@@ -1,18 +1,18 @@
 -- The statements of shifts and rotations are well typed, for locals of their types, and low.
 use Rattle.std.proofs.Common.{◌≡◌, ℕ, ◌+◌, ◌-◌, ◌^◌, ◌<◌, ◌≤◌, ◌==◌, max, pos, Bool, true, false, if◌then◌else◌, List, [], ◌++◌, Option, Some, None, refl, ap, ◌∙◌, arith}
 use Rattle.std.proofs.lemmas.Int.{ints}
-use Rattle.row_templates.specs.Templates.{AreTyped, IsPlainBody}
-use Rattle.row_templates.proofs.Typing.{IsBool, IsOf, and_is, binary_is, constant_is, convert_is, literal_is, local_is, local_plain, more, not_is, register_is, select_is, set_plain, shift_is, unary_is}
-use Rattle.row_templates.specs.Builders.{or_of, read_of, select_of, shift_of}
+use Rattle.template_parts.specs.Templates.{AreTyped, IsPlainBody}
+use Rattle.template_parts.proofs.Typing.{IsBool, IsOf, and_is, binary_is, constant_is, convert_is, literal_is, local_is, local_plain, more, not_is, register_is, select_is, set_plain, shift_is, unary_is}
+use Rattle.template_parts.specs.Builders.{or_of, read_of, select_of, shift_of}
 use Rattle.s7_base.specs.declared.register.Reg.TheVariants as reg
 use Rattle.s7_base.specs.declared.word.Width.{Width}
 use Rattle.s7_base.specs.declared.word.Width.TheVariants as width
 use Rattle.shift_templates.proofs.Patterns.{IsShifted}
-use Rattle.shift_templates.specs.ShiftParts.{accu1_with, count_of, counted, flags_set, flags_set_where, has_bit, one_less, operand_of, shown_bit, signed_shift, top_bit}
+use Rattle.shift_templates.specs.ShiftParts.{accu1_with, count_of, count_locals, flags_set, flags_set_where, has_bit, one_less, operand_of, shown_bit, signed_shift, top_bit}
 use Rattle.shift_templates.specs.ShiftTemplates.{by_accu2, by_constant, rlda_template, rrda_template, shift_by_accu2, shift_by_constant, shift_template, signed_by_accu2, signed_by_constant, through_cc1, turn_by_accu2, turn_by_constant, types_by_accu2, types_by_constant, types_of_shift, types_through_cc1}
 use Rattle.st_tree.specs.TypeRules.{has_bits, type_of_unary, type_on_equals}
 use Rattle.st_tree.specs.Values.{type_of_width}
-use Rattle.st_tree.specs.WellTyped.{Sight, is_value, variable_type}
+use Rattle.st_tree.specs.WellTyped.{UnitScope, is_value, variable_type}
 use Rattle.st_tree.specs.declared.expr.BinaryOp.TheVariants as binary
 use Rattle.st_tree.specs.declared.expr.Expr.{Expr}
 use Rattle.st_tree.specs.declared.expr.ShiftOp.{ShiftOp}
@@ -74,7 +74,7 @@ shown_value shift.Ror w wide = top_value w wide
 int_value : (n : ℕ) → n < 2 ^ 15 → is_value type.Int (pos n) ≡ true
 int_value n h = grind (arith, ints)
 
-module _ (sight : Sight) where
+module _ (sight : UnitScope) where
   -- Parts
 
   operand_is : (w : Width) → IsShifted w → IsOf sight (type_of_width w) 2 (operand_of w)
@@ -129,8 +129,9 @@ module _ (sight : Sight) where
       (set_plain sight _ _ _ (omega arith) (and_is sight (register_is sight reg.Cc0) (not_is sight s))
       (set_plain sight _ _ _ (omega arith) (and_is sight (register_is sight reg.Ov) (not_is sight s)) plain))
 
-  counted_plain : (used : ℕ) (rest : List Stmt) → variable_type sight (var.Local used) ≡ Some type.Int → variable_type sight (var.Local (used + 1)) ≡ Some type.Bool
-      → IsPlainBody sight rest → IsPlainBody sight (counted used ++ rest)
+  counted_plain : (used : ℕ) (rest : List Stmt) → variable_type sight (var.Local used) ≡ Some type.Int
+      → variable_type sight (var.Local (used + 1)) ≡ Some type.Bool
+      → IsPlainBody sight rest → IsPlainBody sight (count_locals used ++ rest)
   counted_plain used rest first second plain =
       local_plain sight _ _ _ (omega arith) first
       (convert_is sight refl (binary_is sight binary.And tt refl (register_is sight reg.Accu2) (constant_is sight refl)))
@@ -217,12 +218,18 @@ module _ (sight : Sight) where
     constant_plain row.Rrd n small h = turn_plain n small shift.Ror (at_first (h 0 type.Dword refl))
 
     accu2_plain : (i : ShiftRow) → AreTyped sight used (types_by_accu2 i) → IsPlainBody sight (by_accu2 i used ++ rest)
-    accu2_plain row.Slw h = shift_where_plain (at_first (h 0 type.Int refl)) (h 1 type.Bool refl) shift.Shl width.Word tt (h 2 type.Word refl) (h 3 type.Word refl)
-    accu2_plain row.Srw h = shift_where_plain (at_first (h 0 type.Int refl)) (h 1 type.Bool refl) shift.Shr width.Word tt (h 2 type.Word refl) (h 3 type.Word refl)
-    accu2_plain row.Ssi h = signed_where_plain (at_first (h 0 type.Int refl)) (h 1 type.Bool refl) width.Word tt (h 2 type.Word refl) (h 3 type.Bool refl) (h 4 type.Word refl)
-    accu2_plain row.Sld h = shift_where_plain (at_first (h 0 type.Int refl)) (h 1 type.Bool refl) shift.Shl width.Dword tt (h 2 type.Dword refl) (h 3 type.Dword refl)
-    accu2_plain row.Srd h = shift_where_plain (at_first (h 0 type.Int refl)) (h 1 type.Bool refl) shift.Shr width.Dword tt (h 2 type.Dword refl) (h 3 type.Dword refl)
-    accu2_plain row.Ssd h = signed_where_plain (at_first (h 0 type.Int refl)) (h 1 type.Bool refl) width.Dword tt (h 2 type.Dword refl) (h 3 type.Bool refl) (h 4 type.Dword refl)
+    accu2_plain row.Slw h =
+        shift_where_plain (at_first (h 0 type.Int refl)) (h 1 type.Bool refl) shift.Shl width.Word tt (h 2 type.Word refl) (h 3 type.Word refl)
+    accu2_plain row.Srw h =
+        shift_where_plain (at_first (h 0 type.Int refl)) (h 1 type.Bool refl) shift.Shr width.Word tt (h 2 type.Word refl) (h 3 type.Word refl)
+    accu2_plain row.Ssi h =
+        signed_where_plain (at_first (h 0 type.Int refl)) (h 1 type.Bool refl) width.Word tt (h 2 type.Word refl) (h 3 type.Bool refl) (h 4 type.Word refl)
+    accu2_plain row.Sld h =
+        shift_where_plain (at_first (h 0 type.Int refl)) (h 1 type.Bool refl) shift.Shl width.Dword tt (h 2 type.Dword refl) (h 3 type.Dword refl)
+    accu2_plain row.Srd h =
+        shift_where_plain (at_first (h 0 type.Int refl)) (h 1 type.Bool refl) shift.Shr width.Dword tt (h 2 type.Dword refl) (h 3 type.Dword refl)
+    accu2_plain row.Ssd h =
+        signed_where_plain (at_first (h 0 type.Int refl)) (h 1 type.Bool refl) width.Dword tt (h 2 type.Dword refl) (h 3 type.Bool refl) (h 4 type.Dword refl)
     accu2_plain row.Rld h = turn_where_plain (at_first (h 0 type.Int refl)) (h 1 type.Bool refl) shift.Rol (h 2 type.Dword refl)
     accu2_plain row.Rrd h = turn_where_plain (at_first (h 0 type.Int refl)) (h 1 type.Bool refl) shift.Ror (h 2 type.Dword refl)
 
@@ -236,14 +243,16 @@ module _ (sight : Sight) where
     most_few row.Rld = omega arith
     most_few row.Rrd = omega arith
 
-    pub any_shift_plain : (i : ShiftRow) (by : Option ℕ) → IsCount i by → AreTyped sight used (types_of_shift i by) → IsPlainBody sight (shift_template used i by ++ rest)
+    pub any_shift_plain : (i : ShiftRow) (by : Option ℕ) → IsCount i by
+        → AreTyped sight used (types_of_shift i by) → IsPlainBody sight (shift_template used i by ++ rest)
     any_shift_plain i None count h = accu2_plain i h
     any_shift_plain i (Some n) count h = at (n == 0) h
       where
         small : n < 2 ^ 15
         small = omega (arith, most_few i, count)
 
-        at : (none : Bool) → AreTyped sight used (if none then [] else types_by_constant i) → IsPlainBody sight ((if none then [] else by_constant i n used) ++ rest)
+        at : (none : Bool) → AreTyped sight used (if none then [] else types_by_constant i)
+            → IsPlainBody sight ((if none then [] else by_constant i n used) ++ rest)
         at true h = plain
         at false h = constant_plain i n small h
 

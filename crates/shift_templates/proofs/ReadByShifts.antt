@@ -1,6 +1,6 @@
 -- The statements of shifts and rotations read the registers that their rows read.
 use Rattle.std.proofs.Common.{ℕ, ◌==◌, Bool, true, false, if◌then◌else◌, List, [], ◌∷◌, ◌++◌, Option, Some, None, inl, inr, refl}
-use Rattle.row_templates.proofs.ReadRegisters.{AllRead, Has, variables_read}
+use Rattle.template_parts.proofs.ReadRegisters.{AllRead, Has, variables_read}
 use Rattle.s7_base.specs.declared.register.Reg.{Reg}
 use Rattle.s7_base.specs.declared.register.Reg.TheVariants as reg
 use Rattle.shift_templates.specs.ShiftTemplates.{by_accu2, by_constant, rlda_template, rrda_template, shift_template}

@@ -1,14 +1,14 @@
 -- The statements of shifts and rotations are assignments, few, of few nodes, and set their locals in order.
 use Rattle.std.proofs.Common.{◌≡◌, ℕ, suc, ◌+◌, ◌==◌, Bool, true, false, if◌then◌else◌, List, [], ◌∷◌, ◌++◌, Option, Some, None, refl, ◌∙◌, arith}
 use Rattle.graph_rules.proofs.Runs.{disorder, order_equations}
-use Rattle.row_templates.proofs.Obligations.{HasSizes, with_sizes}
-use Rattle.row_templates.proofs.FetchOrder.{misses}
-use Rattle.row_templates.proofs.Sizes.{counts}
-use Rattle.row_templates.specs.Builders.{set_local_of, set_of}
+use Rattle.template_parts.proofs.Obligations.{HasSizes, with_sizes}
+use Rattle.template_parts.proofs.FetchOrder.{misses}
+use Rattle.template_parts.proofs.Sizes.{counts}
+use Rattle.template_parts.specs.Builders.{set_local_of, set_of}
 use Rattle.s7_base.specs.declared.register.Reg.{Reg}
 use Rattle.s7_base.specs.declared.word.Width.{Width}
 use Rattle.s7_base.specs.declared.word.Width.TheVariants as width
-use Rattle.shift_templates.specs.ShiftParts.{accu1_with, counted, flags_set_where, operand_of}
+use Rattle.shift_templates.specs.ShiftParts.{accu1_with, count_locals, flags_set_where, operand_of}
 use Rattle.shift_templates.specs.ShiftTemplates.{by_accu2, by_constant, rlda_template, rrda_template, shift_by_accu2, shift_template, signed_by_accu2, signed_by_constant, turn_by_accu2, types_by_accu2, types_by_constant, types_of_shift, types_through_cc1}
 use Rattle.st_tree.specs.declared.expr.Expr.{Expr}
 use Rattle.st_tree.specs.declared.expr.ShiftOp.{ShiftOp}
@@ -40,13 +40,14 @@ accu1_misses : (n : ℕ) (w : Width) (e : Expr) → misses n (accu1_with w e) �
 accu1_misses n width.Word e = simp order_equations (omega arith)
 accu1_misses n w e = refl
 
-where_next : {w : ℕ} (stepped out : Expr) {rest : List Stmt} → misses w stepped ≡ 0 → misses w out ≡ 0 → IsNext w rest → IsNext w (flags_set_where stepped out ++ rest)
+where_next : {w : ℕ} (stepped out : Expr) {rest : List Stmt} → misses w stepped ≡ 0
+    → misses w out ≡ 0 → IsNext w rest → IsNext w (flags_set_where stepped out ++ rest)
 where_next stepped out h k more =
     register_next (simp order_equations (omega (arith, h, k)))
     (register_next (simp order_equations (omega (arith, h))) (register_next (simp order_equations (omega (arith, h))) more))
 
 module _ (used : ℕ) where
-  counted_next : {rest : List Stmt} → IsNext (suc (suc used)) rest → IsNext used (counted used ++ rest)
+  counted_next : {rest : List Stmt} → IsNext (suc (suc used)) rest → IsNext used (count_locals used ++ rest)
   counted_next more = local_next refl (simp order_equations) (local_next (omega arith) (simp order_equations (omega arith)) more)
 
   signed_order : (w : Width) (n : ℕ) → IsNext used (signed_by_constant w n used)
@@ -85,21 +86,33 @@ module _ (used : ℕ) where
   -- Sizes
 
   constant_sizes : (i : ShiftRow) (n : ℕ) → HasSizes used (types_by_constant i) (by_constant i n used)
-  constant_sizes row.Slw n = with_sizes (by_constant row.Slw n used) 5 19 tt refl (simp counts) (omega arith) (omega arith) (simp order_equations (omega arith)) refl
-  constant_sizes row.Srw n = with_sizes (by_constant row.Srw n used) 5 19 tt refl (simp counts) (omega arith) (omega arith) (simp order_equations (omega arith)) refl
-  constant_sizes row.Ssi n = with_sizes (by_constant row.Ssi n used) 7 39 tt refl (simp counts) (omega arith) (omega arith) (signed_order width.Word n).none refl
-  constant_sizes row.Sld n = with_sizes (by_constant row.Sld n used) 5 13 tt refl (simp counts) (omega arith) (omega arith) (simp order_equations (omega arith)) refl
-  constant_sizes row.Srd n = with_sizes (by_constant row.Srd n used) 5 13 tt refl (simp counts) (omega arith) (omega arith) (simp order_equations (omega arith)) refl
-  constant_sizes row.Ssd n = with_sizes (by_constant row.Ssd n used) 7 33 tt refl (simp counts) (omega arith) (omega arith) (signed_order width.Dword n).none refl
-  constant_sizes row.Rld n = with_sizes (by_constant row.Rld n used) 5 11 tt refl (simp counts) (omega arith) (omega arith) (simp order_equations (omega arith)) refl
-  constant_sizes row.Rrd n = with_sizes (by_constant row.Rrd n used) 5 11 tt refl (simp counts) (omega arith) (omega arith) (simp order_equations (omega arith)) refl
+  constant_sizes row.Slw n =
+      with_sizes (by_constant row.Slw n used) 5 19 tt refl (simp counts) (omega arith) (omega arith) (simp order_equations (omega arith)) refl
+  constant_sizes row.Srw n =
+      with_sizes (by_constant row.Srw n used) 5 19 tt refl (simp counts) (omega arith) (omega arith) (simp order_equations (omega arith)) refl
+  constant_sizes row.Ssi n =
+      with_sizes (by_constant row.Ssi n used) 7 39 tt refl (simp counts) (omega arith) (omega arith) (signed_order width.Word n).none refl
+  constant_sizes row.Sld n =
+      with_sizes (by_constant row.Sld n used) 5 13 tt refl (simp counts) (omega arith) (omega arith) (simp order_equations (omega arith)) refl
+  constant_sizes row.Srd n =
+      with_sizes (by_constant row.Srd n used) 5 13 tt refl (simp counts) (omega arith) (omega arith) (simp order_equations (omega arith)) refl
+  constant_sizes row.Ssd n =
+      with_sizes (by_constant row.Ssd n used) 7 33 tt refl (simp counts) (omega arith) (omega arith) (signed_order width.Dword n).none refl
+  constant_sizes row.Rld n =
+      with_sizes (by_constant row.Rld n used) 5 11 tt refl (simp counts) (omega arith) (omega arith) (simp order_equations (omega arith)) refl
+  constant_sizes row.Rrd n =
+      with_sizes (by_constant row.Rrd n used) 5 11 tt refl (simp counts) (omega arith) (omega arith) (simp order_equations (omega arith)) refl
 
   accu2_sizes : (i : ShiftRow) → HasSizes used (types_by_accu2 i) (by_accu2 i used)
-  accu2_sizes row.Slw = with_sizes (by_accu2 row.Slw used) 8 38 tt refl (simp counts) (omega arith) (omega arith) (shift_where_order shift.Shl width.Word).none refl
-  accu2_sizes row.Srw = with_sizes (by_accu2 row.Srw used) 8 38 tt refl (simp counts) (omega arith) (omega arith) (shift_where_order shift.Shr width.Word).none refl
+  accu2_sizes row.Slw =
+      with_sizes (by_accu2 row.Slw used) 8 38 tt refl (simp counts) (omega arith) (omega arith) (shift_where_order shift.Shl width.Word).none refl
+  accu2_sizes row.Srw =
+      with_sizes (by_accu2 row.Srw used) 8 38 tt refl (simp counts) (omega arith) (omega arith) (shift_where_order shift.Shr width.Word).none refl
   accu2_sizes row.Ssi = with_sizes (by_accu2 row.Ssi used) 9 59 tt refl (simp counts) (omega arith) (omega arith) (signed_where_order width.Word).none refl
-  accu2_sizes row.Sld = with_sizes (by_accu2 row.Sld used) 8 32 tt refl (simp counts) (omega arith) (omega arith) (shift_where_order shift.Shl width.Dword).none refl
-  accu2_sizes row.Srd = with_sizes (by_accu2 row.Srd used) 8 32 tt refl (simp counts) (omega arith) (omega arith) (shift_where_order shift.Shr width.Dword).none refl
+  accu2_sizes row.Sld =
+      with_sizes (by_accu2 row.Sld used) 8 32 tt refl (simp counts) (omega arith) (omega arith) (shift_where_order shift.Shl width.Dword).none refl
+  accu2_sizes row.Srd =
+      with_sizes (by_accu2 row.Srd used) 8 32 tt refl (simp counts) (omega arith) (omega arith) (shift_where_order shift.Shr width.Dword).none refl
   accu2_sizes row.Ssd = with_sizes (by_accu2 row.Ssd used) 9 53 tt refl (simp counts) (omega arith) (omega arith) (signed_where_order width.Dword).none refl
   accu2_sizes row.Rld = with_sizes (by_accu2 row.Rld used) 7 27 tt refl (simp counts) (omega arith) (omega arith) (turn_where_order shift.Rol).none refl
   accu2_sizes row.Rrd = with_sizes (by_accu2 row.Rrd used) 7 27 tt refl (simp counts) (omega arith) (omega arith) (turn_where_order shift.Ror).none refl

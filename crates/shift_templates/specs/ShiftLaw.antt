@@ -1,6 +1,6 @@
 -- What is promised of the statements of shifts and rotations.
 use Rattle.std.specs.Prelude.{ℕ, Option}
-use Rattle.row_templates.specs.Templates.{Serves}
+use Rattle.template_parts.specs.Templates.{Serves}
 use Rattle.shift_templates.specs.ShiftTemplates.{rlda_template, rrda_template, shift_template, types_of_shift, types_through_cc1}
 use Rattle.stl_tree.specs.Accepted.{HasOperand}
 use Rattle.stl_tree.specs.declared.accumulator.ShiftRow.{ShiftRow}

@@ -1,6 +1,6 @@
 -- The parts of which the statements of shifts and rotations are made.
 use Rattle.std.specs.Prelude.{ℕ, ◌+◌, pos, false, List, [], ◌∷◌, ◌++◌}
-use Rattle.row_templates.specs.Builders.{and_of, binary_of, constant_of, convert_of, literal_of, local_of, not_of, or_of, read_of, select_of, set_local_of, set_of, shift_of}
+use Rattle.template_parts.specs.Builders.{and_of, binary_of, constant_of, convert_of, literal_of, local_of, not_of, or_of, read_of, select_of, set_local_of, set_of, shift_of}
 use Rattle.s7_base.specs.declared.register.Reg.{Reg}
 use Rattle.s7_base.specs.declared.register.Reg.TheVariants as reg
 use Rattle.s7_base.specs.declared.word.Width.{Width}
@@ -31,7 +31,8 @@ abbrev pub top_bit : Width → ℕ
 top_bit width.Word = 0x8000
 top_bit other = 0x80000000
 
--- the bit that shows what left last: a shift has it at that end before its last step, a rotation at the other one behind it
+-- the bit that shows what was shifted out last: a shift has it at that end before its last step, a rotation at the
+-- other end after it
 abbrev pub shown_bit : ShiftOp → Width → ℕ
 shown_bit shift.Shl w = top_bit w
 shown_bit shift.Shr w = 1
@@ -43,7 +44,7 @@ abbrev pub has_bit : Width → ℕ → Expr → Expr
 has_bit w bit e =
     binary_of binary.Ne (and_of e (constant_of (type_of_width w) (pos bit))) (constant_of (type_of_width w) (pos 0))
 
--- a pattern shifted to the right with its sign: a negative one has its bits inverted before and behind it
+-- a pattern shifted to the right with its sign: a negative one has its bits inverted before and after it
 abbrev pub signed_shift : Expr → Expr → Expr → Expr
 signed_shift sign e count = select_of sign (shift_of shift.Shr e count) (not_of (shift_of shift.Shr (not_of e) count))
 
@@ -64,13 +65,13 @@ one_less count = binary_of binary.Sub count (count_of 1)
 -- Statements
 
 -- a local takes the count, and the next one whether there is a step
-abbrev pub counted : ℕ → List Stmt
-counted first =
+abbrev pub count_locals : ℕ → List Stmt
+count_locals first =
     set_local_of first count_in_accu2
     ∷ set_local_of (first + 1) (binary_of binary.Ne (local_of first) (count_of 0))
     ∷ []
 
--- the flags show what left last
+-- the flags show what was shifted out last
 abbrev pub flags_set : Expr → List Stmt
 flags_set out = set_of reg.Cc1 out ∷ set_of reg.Cc0 (literal_of false) ∷ set_of reg.Ov (literal_of false) ∷ []
 
@@ -78,7 +79,7 @@ flags_set out = set_of reg.Cc1 out ∷ set_of reg.Cc0 (literal_of false) ∷ set
 abbrev pub cleared_where : Expr → Reg → List Stmt
 cleared_where stepped flag = set_of flag (and_of (read_of flag) (not_of stepped)) ∷ []
 
--- they do where there is a step, and else stay as they are
+-- the flags show what was shifted out last where there is a step, and else stay as they are
 abbrev pub flags_set_where : Expr → Expr → List Stmt
 flags_set_where stepped out =
     set_of reg.Cc1 (select_of stepped (read_of reg.Cc1) out)

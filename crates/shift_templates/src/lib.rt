@@ -1,7 +1,7 @@
 //! The statements of shifts and rotations, and the promise that they do what their instructions do.
 //!
-//! Stands on `row_templates`. By a constant or by ACCU2, `push_shift`; through CC1, `push_rlda` and `push_rrda`. What is
-//! promised of their statements is the contract of `shifts_serve`.
+//! Uses `template_parts`. `push_shift` has those by a constant or by ACCU2, `push_rlda` and `push_rrda` those
+//! through CC1. What is promised of their statements is the contract of `shifts_serve`.
 #![tactic(auto)]
 
 ghost use Rattle.shift_templates.specs.ShiftLaw.{ShiftsServe};

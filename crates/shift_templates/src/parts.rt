@@ -1,16 +1,16 @@
-//! The parts of which the statements are made.
+//! The parts of the statements of shifts and rotations.
 ghost use Rattle.std.specs.Prelude.{◌≡◌, ◌<◌, ◌+◌, ◌^◌, ◌++◌, IfOk, OnOk};
-ghost use Rattle.row_templates.specs.Builders.{local_of, not_of, shift_of};
-ghost use Rattle.shift_templates.specs.ShiftParts.{accu1_with, cleared_where, count_in_accu2, count_of, counted, flags_set, flags_set_where, has_bit, one_less, operand_of, shown_bit, signed_shift, top_bit};
+ghost use Rattle.template_parts.specs.Builders.{local_of, not_of, shift_of};
+ghost use Rattle.shift_templates.specs.ShiftParts.{accu1_with, cleared_where, count_in_accu2, count_of, count_locals, flags_set, flags_set_where, has_bit, one_less, operand_of, shown_bit, signed_shift, top_bit};
 ghost use Rattle.st_tree.specs.declared.expr.ShiftOp.TheVariants as shift;
 
-use row_templates::{
-    and, binary, constant, convert, literal, local, not, read, select, set, set_local, shift,
-    with_low,
-};
 use s7_base::{List, NoMemory, Reg, Width};
 use st_tree::{BinaryOp, Expr, ShiftOp, StType, Stmt, type_of_width};
 use std::alloc::Global;
+use template_parts::{
+    and, binary, constant, convert, literal, local, not, read, select, set_local, set_register,
+    shift, with_low,
+};
 
 /// What is shifted: the low word of ACCU1, or the whole of it.
 pub fn operand(alloc: Global, width: Width) -> Result<Expr, NoMemory>
@@ -32,7 +32,7 @@ pub fn accu1_with(alloc: Global, width: Width, pattern: Expr) -> Result<Expr, No
     }
 }
 
-/// The highest bit of a width.
+/// The number of the highest bit of a width.
 pub fn top_bit(width: Width) -> u32
     ensures { result ≡ top_bit width }
 {
@@ -42,7 +42,7 @@ pub fn top_bit(width: Width) -> u32
     }
 }
 
-/// The bit that shows what left last.
+/// The number of the bit that shows what was shifted out last.
 pub fn shown_bit(op: ShiftOp, width: Width) -> u32
     ensures { result ≡ shown_bit op width }
 {
@@ -52,7 +52,7 @@ pub fn shown_bit(op: ShiftOp, width: Width) -> u32
     }
 }
 
-/// A pattern of a width has this bit.
+/// Whether a pattern of a width has this bit.
 pub fn has_bit(alloc: Global, width: Width, bit: u32, pattern: Expr) -> Result<Expr, NoMemory>
     ensures { IfOk result (λ e. e ≡ has_bit width bit pattern) }
 {
@@ -61,7 +61,7 @@ pub fn has_bit(alloc: Global, width: Width, bit: u32, pattern: Expr) -> Result<E
     binary(alloc, BinaryOp::Ne, masked, constant(ty, 0))
 }
 
-/// A local's pattern, shifted to the right behind zeros.
+/// A local's pattern, shifted to the right, with zeros shifted in.
 fn plain_shift(alloc: Global, pattern: u32, count: &Expr) -> Result<Expr, NoMemory>
     ensures { IfOk result (λ e. e ≡ shift_of shift.Shr (local_of pattern) count.now) }
 {
@@ -69,7 +69,7 @@ fn plain_shift(alloc: Global, pattern: u32, count: &Expr) -> Result<Expr, NoMemo
     shift(alloc, ShiftOp::Shr, local(pattern), count)
 }
 
-/// A local's pattern, shifted to the right behind ones.
+/// A local's pattern, shifted to the right, with ones shifted in.
 fn inverted_shift(alloc: Global, pattern: u32, count: &Expr) -> Result<Expr, NoMemory>
     ensures { IfOk result (λ e. e ≡ not_of (shift_of shift.Shr (not_of (local_of pattern)) count.now)) }
 {
@@ -88,7 +88,8 @@ fn shift_with_sign(alloc: Global, sign: u32, pattern: u32, count: &Expr) -> Resu
     select(alloc, local(sign), plain, back)
 }
 
-/// The same, with a count that is given up: who calls this owns nothing where memory may run out.
+/// A local's pattern, shifted to the right with its sign. The count is given up: who calls this owns nothing
+/// where memory may run out.
 pub fn signed_shift(alloc: Global, sign: u32, pattern: u32, count: Expr) -> Result<Expr, NoMemory>
     ensures { IfOk result (λ e. e ≡ signed_shift (local_of sign) (local_of pattern) count) }
 {
@@ -120,7 +121,7 @@ pub fn one_less(alloc: Global, count_less: Expr) -> Result<Expr, NoMemory>
 /// A local takes the count, and the next one whether there is a step.
 pub fn push_counted(alloc: Global, steps: &mut List<Stmt>, first: u32) -> Result<(), NoMemory>
     requires { first + 8 < 2 ^ 32 }
-    ensures { OnOk result (steps.new ≡ steps.old ++ counted first) }
+    ensures { OnOk result (steps.new ≡ steps.old ++ count_locals first) }
 {
     let steps_wanted = count_in_accu2(alloc)?;
     steps.push(set_local(first, steps_wanted))?;
@@ -128,13 +129,13 @@ pub fn push_counted(alloc: Global, steps: &mut List<Stmt>, first: u32) -> Result
     steps.push(set_local(first + 1, is_stepped))
 }
 
-/// The flags show what left last.
+/// The flags show the bit that was shifted out last.
 pub fn push_flags(steps: &mut List<Stmt>, out: Expr) -> Result<(), NoMemory>
     ensures { OnOk result (steps.new ≡ steps.old ++ flags_set out) }
 {
-    steps.push(set(Reg::Cc1, out))?;
-    steps.push(set(Reg::Cc0, literal(false)))?;
-    steps.push(set(Reg::Ov, literal(false)))
+    steps.push(set_register(Reg::Cc1, out))?;
+    steps.push(set_register(Reg::Cc0, literal(false)))?;
+    steps.push(set_register(Reg::Ov, literal(false)))
 }
 
 /// A flag is cleared where a local says that there is a step.
@@ -148,10 +149,11 @@ fn push_cleared_where(
 {
     let stays = not(alloc, local(stepped))?;
     let kept = and(alloc, read(flag), stays)?;
-    steps.push(set(flag, kept))
+    steps.push(set_register(flag, kept))
 }
 
-/// They do where a local says that there is a step, and else stay as they are.
+/// The flags show the bit that was shifted out last where a local says that there is a step, and else stay as
+/// they are.
 pub fn push_flags_where(
     alloc: Global,
     steps: &mut List<Stmt>,
@@ -161,7 +163,7 @@ pub fn push_flags_where(
     ensures { OnOk result (steps.new ≡ steps.old ++ flags_set_where (local_of stepped) out) }
 {
     let shown = select(alloc, local(stepped), read(Reg::Cc1), out)?;
-    steps.push(set(Reg::Cc1, shown))?;
+    steps.push(set_register(Reg::Cc1, shown))?;
     push_cleared_where(alloc, steps, stepped, Reg::Cc0)?;
     push_cleared_where(alloc, steps, stepped, Reg::Ov)
 }

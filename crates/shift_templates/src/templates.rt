@@ -1,19 +1,19 @@
-//! The statements of each row.
+//! The statements of each shift and rotation.
 ghost use Rattle.std.specs.Prelude.{◌≡◌, ◌≢◌, ◌<◌, ◌+◌, ◌^◌, ◌++◌, OnOk};
 ghost use Rattle.shift_templates.specs.ShiftParts.{signed_operand, signed_result};
-ghost use Rattle.shift_templates.specs.ShiftTemplates.{by_accu2, by_constant, entered, leaving, rlda_template, rrda_template, shift_by_accu2, shift_by_constant, shift_template, signed_by_accu2, signed_by_constant, turn_by_accu2, turn_by_constant, types_by_accu2, types_by_constant, types_of_shift, types_through_cc1};
+ghost use Rattle.shift_templates.specs.ShiftTemplates.{by_accu2, by_constant, step_with_entry, leaving, rlda_template, rrda_template, shift_by_accu2, shift_by_constant, shift_template, signed_by_accu2, signed_by_constant, turn_by_accu2, turn_by_constant, types_by_accu2, types_by_constant, types_of_shift, types_through_cc1};
 
 use crate::parts::{
     accu1_with, count, has_bit, one_less, operand, push_counted, push_flags, push_flags_where,
     shown_bit, signed_shift, top_bit,
 };
-use row_templates::{constant, convert, local, or, read, select, set, set_local, shift};
 use s7_base::{List, NoMemory, Reg, Width};
 use st_tree::{Expr, ShiftOp, StType, Stmt};
 use std::alloc::Global;
 use stl_tree::ShiftRow;
+use template_parts::{constant, convert, local, or, read, select, set_local, set_register, shift};
 
-/// SLW, SRW, SLD, SRD by a constant.
+/// The statements of SLW, SRW, SLD and SRD by a constant.
 fn push_shift_by_constant(
     alloc: Global,
     steps: &mut List<Stmt>,
@@ -32,7 +32,7 @@ fn push_shift_by_constant(
     push_flags(steps, out)?;
     let shifted = shift(alloc, op, local(first), count(1))?;
     let whole = accu1_with(alloc, width, shifted)?;
-    steps.push(set(Reg::Accu1, whole))
+    steps.push(set_register(Reg::Accu1, whole))
 }
 
 /// Locals take what is shifted and its sign.
@@ -64,10 +64,10 @@ fn push_signed_result(
 {
     let shifted = signed_shift(alloc, sign, pattern, count)?;
     let whole = accu1_with(alloc, width, shifted)?;
-    steps.push(set(Reg::Accu1, whole))
+    steps.push(set_register(Reg::Accu1, whole))
 }
 
-/// SSI, SSD by a constant.
+/// The statements of SSI and SSD by a constant.
 fn push_signed_by_constant(
     alloc: Global,
     steps: &mut List<Stmt>,
@@ -87,7 +87,7 @@ fn push_signed_by_constant(
     push_signed_result(alloc, steps, first + 2, first + 1, width, count(1))
 }
 
-/// RLD, RRD by a constant.
+/// The statements of RLD and RRD by a constant.
 fn push_turn_by_constant(
     alloc: Global,
     steps: &mut List<Stmt>,
@@ -106,10 +106,10 @@ fn push_turn_by_constant(
         local(first),
     )?;
     push_flags(steps, out)?;
-    steps.push(set(Reg::Accu1, local(first)))
+    steps.push(set_register(Reg::Accu1, local(first)))
 }
 
-/// SLW, SRW, SLD, SRD by ACCU2.
+/// The statements of SLW, SRW, SLD and SRD by ACCU2.
 fn push_shift_by_accu2(
     alloc: Global,
     steps: &mut List<Stmt>,
@@ -130,10 +130,10 @@ fn push_shift_by_accu2(
     push_flags_where(alloc, steps, first + 1, out)?;
     let shifted = shift(alloc, op, local(first + 2), local(first))?;
     let whole = accu1_with(alloc, width, shifted)?;
-    steps.push(set(Reg::Accu1, whole))
+    steps.push(set_register(Reg::Accu1, whole))
 }
 
-/// SSI, SSD by ACCU2.
+/// The statements of SSI and SSD by ACCU2.
 fn push_signed_by_accu2(
     alloc: Global,
     steps: &mut List<Stmt>,
@@ -153,7 +153,7 @@ fn push_signed_by_accu2(
     push_signed_result(alloc, steps, first + 2, first + 3, width, local(first))
 }
 
-/// RLD, RRD by ACCU2.
+/// The statements of RLD and RRD by ACCU2.
 fn push_turn_by_accu2(
     alloc: Global,
     steps: &mut List<Stmt>,
@@ -173,10 +173,10 @@ fn push_turn_by_accu2(
         local(first + 2),
     )?;
     push_flags_where(alloc, steps, first + 1, out)?;
-    steps.push(set(Reg::Accu1, local(first + 2)))
+    steps.push(set_register(Reg::Accu1, local(first + 2)))
 }
 
-/// By a constant.
+/// The statements of a shift or a rotation by a constant.
 fn push_by_constant(
     alloc: Global,
     steps: &mut List<Stmt>,
@@ -200,7 +200,7 @@ fn push_by_constant(
     }
 }
 
-/// By ACCU2.
+/// The statements of a shift or a rotation by ACCU2.
 fn push_by_accu2(
     alloc: Global,
     steps: &mut List<Stmt>,
@@ -222,7 +222,7 @@ fn push_by_accu2(
     }
 }
 
-/// A shift or a rotation, whose first local has this number.
+/// The statements of a shift or a rotation, whose locals are those from `first` on.
 pub fn push_shift(
     alloc: Global,
     steps: &mut List<Stmt>,
@@ -263,21 +263,21 @@ fn push_leaving(
     push_flags(steps, out)
 }
 
-/// ACCU1 takes its pattern behind one step, with what enters it.
+/// ACCU1 takes its pattern after one step, with the bit that enters it.
 fn push_entered(
     alloc: Global,
     steps: &mut List<Stmt>,
     op: ShiftOp,
     entering: Expr,
 ) -> Result<(), NoMemory>
-    ensures { OnOk result (steps.new ≡ steps.old ++ entered op entering) }
+    ensures { OnOk result (steps.new ≡ steps.old ++ step_with_entry op entering) }
 {
     let shifted = shift(alloc, op, read(Reg::Accu1), count(1))?;
     let whole = or(alloc, shifted, entering)?;
-    steps.push(set(Reg::Accu1, whole))
+    steps.push(set_register(Reg::Accu1, whole))
 }
 
-/// `RLDA`, whose first local has this number.
+/// The statements of `RLDA`, whose locals are those from `first` on.
 pub fn push_rlda(alloc: Global, steps: &mut List<Stmt>, first: u32) -> Result<(), NoMemory>
     ensures { OnOk result (steps.new ≡ steps.old ++ rlda_template first) }
 {
@@ -286,7 +286,7 @@ pub fn push_rlda(alloc: Global, steps: &mut List<Stmt>, first: u32) -> Result<()
     push_entered(alloc, steps, ShiftOp::Shl, entering)
 }
 
-/// `RRDA`, whose first local has this number.
+/// The statements of `RRDA`, whose locals are those from `first` on.
 pub fn push_rrda(alloc: Global, steps: &mut List<Stmt>, first: u32) -> Result<(), NoMemory>
     ensures { OnOk result (steps.new ≡ steps.old ++ rrda_template first) }
 {

@@ -8,7 +8,7 @@ use Rattle.std.specs.Char.{to_ascii_lowercase, to_ascii_uppercase}
 use Rattle.std.specs.List.{list_all, prefix_len}
 use Rattle.std.specs.Prelude.{codes, nat_le}
 use Rattle.std.specs.Str.{bytes_eq, str_to_ascii_lowercase}
-use Rattle.digit_texts.specs.Digits.{are_digits, digits_size, is_digit, kept, kept_number, written_from}
+use Rattle.digit_texts.specs.Digits.{are_digits, digits_size, is_digit, capped_number, kept_number, written_from}
 use Rattle.memory_areas.specs.declared.place.AreaName.{AreaName}
 use Rattle.memory_areas.specs.declared.place.AreaName.TheVariants as area
 use Rattle.s7_base.specs.Tokens.{after_blanks, is_between, is_blank, is_same_word}
@@ -52,7 +52,10 @@ blank_no_letter : (b : ℕ) → is_blank b ≡ true → is_letter b ≡ false
 blank_no_letter b h = let small = blank_small b h in or_from _ _ (below 65 90 b (omega (arith, small))) (below 97 122 b (omega (arith, small)))
 
 digit_no_letter : (b : ℕ) → is_digit b ≡ true → is_letter b ≡ false
-digit_no_letter b h = let p = bounds 48 57 b h in let high : b ≤ 57 = p.1 in or_from _ _ (below 65 90 b (omega (arith, high))) (below 97 122 b (omega (arith, high)))
+digit_no_letter b h =
+    let p = bounds 48 57 b h in
+    let high : b ≤ 57 = p.1 in
+    or_from _ _ (below 65 90 b (omega (arith, high))) (below 97 122 b (omega (arith, high)))
 
 digit_no_blank : (b : ℕ) → is_digit b ≡ true → is_blank b ≡ false
 digit_no_blank b h = by (is_blank b) refl
@@ -85,7 +88,8 @@ all_letters (x ∷ xs) h =
     let p = and_parts (is_between 97 122 (to_ascii_lowercase x)) (list_all (λ b. is_between 97 122 b) (str_to_ascii_lowercase xs)) h in
     and_from (is_letter x) (list_all is_letter xs) (small_letter x p.0) (all_letters xs p.1)
 
-same_are_letters : (xs word : List ℕ) → is_same_word xs word ≡ true → list_all (λ b. is_between 97 122 b) (str_to_ascii_lowercase word) ≡ true → list_all is_letter xs ≡ true
+same_are_letters : (xs word : List ℕ) → is_same_word xs word ≡ true
+    → list_all (λ b. is_between 97 122 b) (str_to_ascii_lowercase word) ≡ true → list_all is_letter xs ≡ true
 same_are_letters xs word same letters = all_letters xs (ap (λ (low : List ℕ). list_all (λ b. is_between 97 122 b) low) (same_letters xs word same) ∙ letters)
 
 kind_are_letters : (kind : BlockKind) → list_all (λ b. is_between 97 122 b) (str_to_ascii_lowercase (kind_word kind)) ≡ true
@@ -170,7 +174,7 @@ starts_digit [] = false
 starts_digit (d ∷ ds) = is_digit d
 
 digits_start : (digits : List ℕ) (n : ℕ) → kept_number digits ≡ Some n → are_digits digits ≡ true
-digits_start digits n e = (taken (are_digits digits) (Some (kept (written_from 0 digits))) n e).0
+digits_start digits n e = (taken (are_digits digits) (Some (capped_number (written_from 0 digits))) n e).0
 
 number_starts : (digits more : List ℕ) (n : ℕ) → kept_number digits ≡ Some n → starts_digit (digits ++ more) ≡ true
 number_starts digits more n e = by digits (digits_start digits n e)
@@ -200,7 +204,8 @@ split_given letters blanks digits all blank starts =
     let size : prefix_len is_letter field ≡ length letters = prefix_all is_letter letters (blanks ++ digits) all (blanks_head blanks digits blank starts) in
     let front : take (length letters) field ≡ letters = take-append_seam letters (blanks ++ digits) in
     let behind : drop (length letters) field ≡ blanks ++ digits = drop-append_seam letters (blanks ++ digits) in
-    let blanks_size : prefix_len is_blank (blanks ++ digits) ≡ length blanks = prefix_all is_blank blanks digits blank (digit_heads is_blank digit_no_blank digits starts) in
+    let blanks_size : prefix_len is_blank (blanks ++ digits) ≡ length blanks =
+    prefix_all is_blank blanks digits blank (digit_heads is_blank digit_no_blank digits starts) in
     let text : after_blanks (blanks ++ digits) ≡ digits = ap (λ (n : ℕ). drop n (blanks ++ digits)) blanks_size ∙ drop-append_seam blanks digits in
     ap (λ (n : ℕ). named_address (kind_of (take n field)) (take n field) (after_blanks (drop n field))) size
     ∙ ap (λ (xs : List ℕ). named_address (kind_of xs) xs (after_blanks (drop (length letters) field))) front
@@ -278,8 +283,9 @@ wide_is next more w e =
     so : (its : Width) → Some its ≡ Some w → IsWide next more its → IsWide next more w
     so its e is = let same : its ≡ w = cc in subst (λ (x : Width). IsWide next more x) same is
 
-    by : (a : Bool) → is_same_word (next ∷ more) (codes "B") ≡ a → (b : Bool) → is_same_word (next ∷ more) (codes "W") ≡ b → (c : Bool) → is_same_word (next ∷ more) (codes "D") ≡ c →
-        (if a then Some width.Byte else if b then Some width.Word else if c then Some width.Dword else None) ≡ Some w → IsWide next more w
+    by : (a : Bool) → is_same_word (next ∷ more) (codes "B") ≡ a → (b : Bool)
+        → is_same_word (next ∷ more) (codes "W") ≡ b → (c : Bool) → is_same_word (next ∷ more) (codes "D") ≡ c
+        → (if a then Some width.Byte else if b then Some width.Word else if c then Some width.Dword else None) ≡ Some w → IsWide next more w
     by true is b is_b c is_c e = so width.Byte e (byte is)
     by false no_a true is c is_c e = so width.Word e (word is)
     by false no_a false no_b true is e = so width.Dword e (dword is)
@@ -310,7 +316,8 @@ given_read field its (form.wide letter next more blanks digits name w byte is wi
 given_read field its (form.bit letter blanks front back name byte x is blank number behind) =
     let text = front ++ (46 ∷ back) in
     let size : digits_size text ≡ length front = prefix_all is_digit front (46 ∷ back) (all_digits front (digits_start front byte number)) refl in
-    split_given (letter ∷ []) blanks text (and_from (is_letter letter) true (area_is_letter letter (area_letter letter name is)) refl) blank (number_starts front (46 ∷ back) byte number)
+    split_given (letter ∷ []) blanks text (and_from (is_letter letter) true (area_is_letter letter (area_letter letter name is)) refl) blank
+    (number_starts front (46 ∷ back) byte number)
     ∙ area_reads letter [] text name is
     ∙ ap (λ (n : ℕ). bit_with name (drop n text) (kept_number (take n text))) size
     ∙ ap (λ (xs : List ℕ). bit_with name xs (kept_number (take (length front) text))) (drop-append_seam front (46 ∷ back))
@@ -330,7 +337,10 @@ IsGiven field (Some its) = IsWrittenAddress field its
 
 no_width : (more : List ℕ) → width_by more ≡ Some width.Bit → more ≡ []
 no_width [] e = refl
-no_width (next ∷ more) e = let of = wide_is next more width.Bit e in let odd : None ≡ Some (place_of area.I width.Bit 0 0) = of.reads area.I (codes "0") in absurd cc
+no_width (next ∷ more) e =
+    let of = wide_is next more width.Bit e in
+    let odd : None ≡ Some (place_of area.I width.Bit 0 0) = of.reads area.I (codes "0") in
+    absurd cc
 
 digits_are : (letters blanks digits : List ℕ) (kind : BlockKind) → kind_of letters ≡ Some kind → list_all is_blank blanks ≡ true →
     IsGiven (letters ++ (blanks ++ digits)) (option_map (address.Block kind) (kept_number digits))
@@ -340,10 +350,12 @@ digits_are letters blanks digits kind is blank = by (kept_number digits) refl
     by None number = tt
     by (Some n) number = form.block letters blanks digits kind n (kind_word_is letters kind is) blank number
 
-bytes_are : (letter next : ℕ) (more blanks digits : List ℕ) (name : AreaName) (w : Width) → area_by (to_ascii_uppercase letter) ≡ Some name → width_by (next ∷ more) ≡ Some w →
-    list_all is_blank blanks ≡ true → IsGiven (letter ∷ (next ∷ (more ++ (blanks ++ digits)))) (place_address (Some name) (Some w) digits)
+bytes_are : (letter next : ℕ) (more blanks digits : List ℕ) (name : AreaName) (w : Width)
+    → area_by (to_ascii_uppercase letter) ≡ Some name → width_by (next ∷ more) ≡ Some w
+    → list_all is_blank blanks ≡ true → IsGiven (letter ∷ (next ∷ (more ++ (blanks ++ digits)))) (place_address (Some name) (Some w) digits)
 bytes_are letter next more blanks digits name w is wide blank =
-    subst (λ (o : Option SymbolAddress). IsGiven (letter ∷ (next ∷ (more ++ (blanks ++ digits)))) o) (sym ((wide_is next more w wide).reads name digits)) (by (kept_number digits) refl)
+    subst (λ (o : Option SymbolAddress). IsGiven (letter ∷ (next ∷ (more ++ (blanks ++ digits)))) o)
+    (sym ((wide_is next more w wide).reads name digits)) (by (kept_number digits) refl)
   where
     by : (o : Option ℕ) → kept_number digits ≡ o → IsGiven (letter ∷ (next ∷ (more ++ (blanks ++ digits)))) (option_map (λ byte. place_of name w byte 0) o)
     by None number = tt
@@ -355,8 +367,10 @@ bits_are letter blanks text name is blank =
     subst (λ (xs : List ℕ). IsGiven (letter ∷ (blanks ++ xs)) (bit_address name text)) (take-append-drop (digits_size text) text)
     (by (kept_number (take (digits_size text) text)) refl (drop (digits_size text) text))
   where
-    at : (byte : ℕ) → kept_number (take (digits_size text) text) ≡ Some byte → (point : ℕ) (back : List ℕ) (b : Bool) → (point == 46) ≡ b → (o : Option ℕ) → kept_number back ≡ o →
-        IsGiven (letter ∷ (blanks ++ (take (digits_size text) text ++ (point ∷ back)))) (option_map (λ x. place_of name width.Bit byte x) (if b then o else None))
+    at : (byte : ℕ) → kept_number (take (digits_size text) text) ≡ Some byte
+        → (point : ℕ) (back : List ℕ) (b : Bool) → (point == 46) ≡ b → (o : Option ℕ) → kept_number back ≡ o
+        → IsGiven (letter ∷ (blanks ++ (take (digits_size text) text ++ (point ∷ back))))
+        (option_map (λ x. place_of name width.Bit byte x) (if b then o else None))
     at byte number point back false other o behind = tt
     at byte number point back true same None behind = tt
     at byte number point back true same (Some x) behind =
@@ -386,7 +400,8 @@ places_are letter more blanks text blank = by (area_by (to_ascii_uppercase lette
     by None is = tt
     by (Some name) is = wide name is more (width_by more) refl
 
-named_are : (letters blanks text : List ℕ) → list_all is_blank blanks ≡ true → IsGiven (letters ++ (blanks ++ text)) (named_address (kind_of letters) letters text)
+named_are : (letters blanks text : List ℕ) → list_all is_blank blanks ≡ true
+    → IsGiven (letters ++ (blanks ++ text)) (named_address (kind_of letters) letters text)
 named_are letters blanks text blank = by (kind_of letters) refl letters refl
   where
     other : (its : List ℕ) → IsGiven (its ++ (blanks ++ text)) (address_by its text)
@@ -402,7 +417,8 @@ given_is field =
     let size = prefix_len is_letter field in
     let rest = drop size field in
     let blanks = take (prefix_len is_blank rest) rest in
-    let base : IsGiven (take size field ++ (blanks ++ after_blanks rest)) (given field) = named_are (take size field) blanks (after_blanks rest) (prefix_passes is_blank rest) in
+    let base : IsGiven (take size field ++ (blanks ++ after_blanks rest)) (given field) =
+    named_are (take size field) blanks (after_blanks rest) (prefix_passes is_blank rest) in
     let one : IsGiven (take size field ++ rest) (given field) =
     subst (λ (xs : List ℕ). IsGiven (take size field ++ xs) (given field)) (take-append-drop (prefix_len is_blank rest) rest) base in
     subst (λ (xs : List ℕ). IsGiven xs (given field)) (take-append-drop size field) one

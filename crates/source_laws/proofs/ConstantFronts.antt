@@ -17,18 +17,18 @@ use Rattle.stl_constants.proofs.ConstantLaws.{IsNoConstant, constant_all, consta
 use Rattle.stl_constants.proofs.Reading.{AllOf, alike, if_false, if_true, joined_sign, mapped, no_sign, no_word, or_no, or_this, other_sign, other_word, same_letters, sign_no_text, taken, word_no_text}
 use Rattle.stl_constants.proofs.Tables.{found_among, found_apart, found_passes, none_at, none_found}
 use Rattle.source_laws.proofs.Outs.{OutOf, as_out, fitting_out, or_left, or_out, weaker_out}
-use Rattle.stl_statements.specs.Lists.{begins_with_sign}
+use Rattle.stl_statement_grammar.specs.Lists.{begins_with_sign}
 use Rattle.stl_grammar.specs.InitialForms.{LeavesOutBehind, LeavesOutValue, always, name, with_prefix, real}
 use Rattle.stl_places.proofs.Fronts.{FrontOf, as_front, fitting_front, or_front}
-use Rattle.stl_statements.specs.ConstantForms.{IsAmong, IsConstant, IsNumberIn, IsPrefixed, IsSigned}
-use Rattle.stl_statements.specs.ConstantForms as form
-use Rattle.stl_statements.specs.Constants.{Prefixed, begins_glued, begins_real, behind_prefix, binary_behind, binary_of, constant, constant_at, four_behind, four_bytes, half, has_prefix, hex_behind, hex_of, is_real, long_behind, marked_at, name_behind, negative, negative_behind, pair_of, plain, plain_at, prefixed_at, prefixed_by, prefixes, real_at, signed_at, text_at, text_in, text_of, two_behind, two_bytes}
-use Rattle.stl_statements.specs.Readers.{fitting, number_in, or_else, read_as}
-use Rattle.stl_statements.specs.Words.{is_joined, is_sign, is_text_kind, is_word, is_word_kind}
-use Rattle.stl_statements.specs.declared.mnemonic.Prefix.{Prefix}
-use Rattle.stl_statements.specs.declared.mnemonic.Prefix.TheVariants as prefix
-use Rattle.stl_statements.specs.declared.mnemonic.Read.{Read}
-use Rattle.stl_statements.specs.declared.mnemonic.Read.TheVariants.{Fits, LeftOut, No}
+use Rattle.stl_statement_grammar.specs.ConstantForms.{IsAmong, IsConstant, IsNumberIn, IsPrefixed, IsSigned}
+use Rattle.stl_statement_grammar.specs.ConstantForms as form
+use Rattle.stl_statement_grammar.specs.Constants.{Prefixed, begins_glued, begins_real, behind_prefix, binary_behind, binary_of, constant, constant_at, four_behind, four_bytes, half, has_prefix, hex_behind, hex_of, is_real, long_behind, marked_at, name_behind, negative, negative_behind, pair_of, plain, plain_at, prefixed_at, prefixed_by, prefixes, real_at, signed_at, text_at, text_in, text_of, two_behind, two_bytes}
+use Rattle.stl_statement_grammar.specs.Readers.{fitting, number_in, or_else, read_as}
+use Rattle.stl_statement_grammar.specs.Words.{is_joined, is_sign, is_text_kind, is_word, is_word_kind}
+use Rattle.stl_statement_grammar.specs.declared.mnemonic.Prefix.{Prefix}
+use Rattle.stl_statement_grammar.specs.declared.mnemonic.Prefix.TheVariants as prefix
+use Rattle.stl_statement_grammar.specs.declared.mnemonic.Read.{Read}
+use Rattle.stl_statement_grammar.specs.declared.mnemonic.Read.TheVariants.{Fits, LeftOut, No}
 use Rattle.stl_tree.specs.declared.raw.Constant.{Constant}
 
 -- What ends a value
@@ -85,7 +85,8 @@ signed_front w (first ∷ rest) = by rest (is_sign (codes "-") first) refl
 
 plain_front : (tokens : List Token) → FrontOf tokens IsConstant (plain_at tokens)
 plain_front tokens =
-    as_front tokens plain (IsSigned width.Word) IsConstant (λ front rest v at is. form.number front v is) (signed_at 0 width.Word tokens) (signed_front width.Word tokens)
+    as_front tokens plain (IsSigned width.Word) IsConstant (λ front rest v at is. form.number front v is)
+    (signed_at 0 width.Word tokens) (signed_front width.Word tokens)
 
 text_front : (tokens : List Token) → FrontOf tokens IsConstant (text_at tokens)
 text_front [] = tt
@@ -108,7 +109,8 @@ CutOf what more No = Unit {0}
 CutOf what more (LeftOut kind) = Unit {0}
 CutOf what more (Fits c size) = Cut what more c size
 
-fitting_cut : (what : Prefix) (more : List Token) (size : ℕ) (o : Option Constant) → ((c : Constant) → o ≡ Some c → Cut what more c size) → CutOf what more (fitting size o)
+fitting_cut : (what : Prefix) (more : List Token) (size : ℕ) (o : Option Constant)
+    → ((c : Constant) → o ≡ Some c → Cut what more c size) → CutOf what more (fitting size o)
 fitting_cut what more size None make = tt
 fitting_cut what more size (Some c) make = make c refl
 
@@ -126,7 +128,9 @@ long_cut (first ∷ rest) = by rest first.glued refl (is_sign (codes "-") first)
 
     by : (rest : List Token) (g : Bool) → first.glued ≡ g → (m : Bool) → is_sign (codes "-") first ≡ m →
         CutOf prefix.Long (first ∷ rest)
-        (if g then read_as (constant width.Dword) (if m then fitting 4 (negative_behind width.Dword rest) else fitting 3 (number_in (half width.Dword - 1) first)) else No)
+        (if g
+        then read_as (constant width.Dword) (if m then fitting 4 (negative_behind width.Dword rest) else fitting 3 (number_in (half width.Dword - 1) first))
+        else No)
     by rest false glued m sign = tt
     by [] true glued true sign = tt
     by (word ∷ left) true glued true sign =
@@ -178,14 +182,17 @@ one_cut a b c rest k e =
       holds = or_this (hex_behind width.Byte (a ∷ b ∷ c ∷ [])) _ k 5 (ap (fitting 5) e);
     }
 
-two_cut : (a b c d f : Token) (rest : List Token) (k : Constant) → hex_of width.Byte a b c ≡ None → two_bytes a b c d f ≡ Some k → Cut prefix.Bytes (a ∷ b ∷ c ∷ d ∷ f ∷ rest) k 7
+two_cut : (a b c d f : Token) (rest : List Token) (k : Constant) → hex_of width.Byte a b c ≡ None
+    → two_bytes a b c d f ≡ Some k → Cut prefix.Bytes (a ∷ b ∷ c ∷ d ∷ f ∷ rest) k 7
 two_cut a b c d f rest k no_one e =
     record {
       front = a ∷ b ∷ c ∷ d ∷ f ∷ [];
       rest = rest;
       is = refl;
       size_is = refl;
-      holds = or_no (hex_behind width.Byte (a ∷ b ∷ c ∷ d ∷ f ∷ [])) _ (ap (fitting 5) no_one) ∙ or_this (two_behind (a ∷ b ∷ c ∷ d ∷ f ∷ [])) _ k 7 (ap (fitting 7) e);
+      holds =
+          or_no (hex_behind width.Byte (a ∷ b ∷ c ∷ d ∷ f ∷ [])) _ (ap (fitting 5) no_one)
+          ∙ or_this (two_behind (a ∷ b ∷ c ∷ d ∷ f ∷ [])) _ k 7 (ap (fitting 7) e);
     }
 
 four_cut : (a b c d f g h i j : Token) (rest : List Token) (k : Constant) → hex_of width.Byte a b c ≡ None → two_bytes a b c d f ≡ None →
@@ -259,8 +266,9 @@ word_kind : (word : List ℕ) (token : Token) → is_word word token ≡ true �
 word_kind word token h = (and_parts (is_word_kind token.kind) (is_same_word token.text word) h).0
 
 -- a constant with a prefix, by what is read behind the prefix
-prefix_read : (first hash : Token) (rest : List Token) (o : Option Prefixed) (c : Constant) (size : ℕ) → is_word_kind first.kind ≡ true → find (has_prefix (first ∷ hash ∷ rest)) prefixes ≡ o →
-    prefixed_by o (first ∷ hash ∷ rest) ≡ Fits c size → constant_at (first ∷ hash ∷ rest) ≡ Fits c size
+prefix_read : (first hash : Token) (rest : List Token) (o : Option Prefixed) (c : Constant) (size : ℕ)
+    → is_word_kind first.kind ≡ true → find (has_prefix (first ∷ hash ∷ rest)) prefixes ≡ o
+    → prefixed_by o (first ∷ hash ∷ rest) ≡ Fits c size → constant_at (first ∷ hash ∷ rest) ≡ Fits c size
 prefix_read first hash rest o c size word found e =
     let all = first ∷ hash ∷ rest in
     or_no (text_at all) _ (no_text first (hash ∷ rest) (word_no_text first word))
@@ -272,7 +280,8 @@ prefixed_front [] = tt
 prefixed_front (first ∷ []) = tt
 prefixed_front (first ∷ hash ∷ more) = by (find (has_prefix (first ∷ hash ∷ more)) prefixes) refl
   where
-    at : (row : Prefixed) → find (has_prefix (first ∷ hash ∷ more)) prefixes ≡ Some row → (r : Read Constant) → CutOf row.what more r → FrontOf (first ∷ hash ∷ more) IsConstant r
+    at : (row : Prefixed) → find (has_prefix (first ∷ hash ∷ more)) prefixes ≡ Some row
+        → (r : Read Constant) → CutOf row.what more r → FrontOf (first ∷ hash ∷ more) IsConstant r
     at row found No cut = tt
     at row found (LeftOut kind) cut = tt
     at row found (Fits c size) cut =
@@ -288,7 +297,8 @@ prefixed_front (first ∷ hash ∷ more) = by (find (has_prefix (first ∷ hash 
               (cut.holds ∙ ap (λ (n : ℕ). Fits c n) (sym whole)));
         }
 
-    by : (o : Option Prefixed) → find (has_prefix (first ∷ hash ∷ more)) prefixes ≡ o → FrontOf (first ∷ hash ∷ more) IsConstant (prefixed_by o (first ∷ hash ∷ more))
+    by : (o : Option Prefixed) → find (has_prefix (first ∷ hash ∷ more)) prefixes ≡ o
+        → FrontOf (first ∷ hash ∷ more) IsConstant (prefixed_by o (first ∷ hash ∷ more))
     by None found = tt
     by (Some row) found = at row found (behind_prefix row.what more) (behind_cut row.what more)
 
@@ -314,7 +324,8 @@ signed_read : (w : Width) (tokens : List Token) (v : ℕ) → IsSigned w tokens 
 signed_read w tokens v (form.positive u word n is) rest =
     if_false (is_sign (codes "-") word) _ _ (no_sign (codes "-") word is.kind) ∙ ap (fitting 1) (number_read (half u - 1) word n is)
 signed_read w tokens v (form.minus u sign word n minus glued is) rest =
-    if_true (is_sign (codes "-") sign) _ _ minus ∙ ap (fitting 2) (if_true word.glued _ None glued ∙ ap (option_map (negative u)) (number_read (half u) word n is))
+    if_true (is_sign (codes "-") sign) _ _ minus
+    ∙ ap (fitting 2) (if_true word.glued _ None glued ∙ ap (option_map (negative u)) (number_read (half u) word n is))
 
 -- a number before something else than a point is no real one
 no_point : (word stop : Token) (more : List Token) → is_sign (codes ".") stop ≡ false → is_real (word ∷ stop ∷ more) ≡ false
@@ -323,7 +334,8 @@ no_point word stop (part ∷ more) h = and_left _ _ (and_left _ _ (and_right _ _
 
 no_mark : (tokens : List Token) → ((row : Prefixed) → has_prefix tokens row ≡ false) → begins_real tokens ≡ false → marked_at prefixes tokens ≡ No
 no_mark tokens no_prefix no_real =
-    or_no (prefixed_at prefixes tokens) (real_at tokens) (ap (λ (o : Option Prefixed). prefixed_by o tokens) (none_found (has_prefix tokens) prefixes no_prefix))
+    or_no (prefixed_at prefixes tokens) (real_at tokens)
+    (ap (λ (o : Option Prefixed). prefixed_by o tokens) (none_found (has_prefix tokens) prefixes no_prefix))
     ∙ if_false (begins_real tokens) _ _ no_real
 
 signed_unmarked : (w : Width) (tokens : List Token) (v : ℕ) → IsSigned w tokens v → (rest : List Token) → Stops rest → marked_at prefixes (tokens ++ rest) ≡ No
@@ -351,9 +363,11 @@ grown : (what : Prefix) (rest more : List Token) (c : Constant) (n : ℕ) → be
 grown prefix.Long [] more c n e = absurd cc
 grown prefix.Long (first ∷ []) more c n e = by first.glued (is_sign (codes "-") first) e
   where
-    by : (g m : Bool) →
-        (if g then read_as (constant width.Dword) (if m then fitting 4 None else fitting 3 (number_in (half width.Dword - 1) first)) else No) ≡ Fits c n →
-        (if g then read_as (constant width.Dword) (if m then fitting 4 (negative_behind width.Dword more) else fitting 3 (number_in (half width.Dword - 1) first)) else No) ≡ Fits c n
+    by : (g m : Bool)
+        → (if g then read_as (constant width.Dword) (if m then fitting 4 None else fitting 3 (number_in (half width.Dword - 1) first)) else No) ≡ Fits c n
+        → (if g
+        then read_as (constant width.Dword) (if m then fitting 4 (negative_behind width.Dword more) else fitting 3 (number_in (half width.Dword - 1) first))
+        else No) ≡ Fits c n
     by false m e = absurd cc
     by true true e = absurd cc
     by true false e = e
@@ -384,12 +398,14 @@ grown prefix.Pointer (hash ∷ rest) more c n e = e
 grown (prefix.LeftOut kind) rest more c n e = e
 
 -- a constant that begins with a word and a second token, both of it, has a prefix
-prefix_there : (first hash : Token) (rest : List Token) (c : Constant) → is_word_kind first.kind ≡ true → constant_at (first ∷ hash ∷ rest) ≡ Fits c (length (first ∷ hash ∷ rest)) →
-    prefixed_at prefixes (first ∷ hash ∷ rest) ≡ Fits c (length (first ∷ hash ∷ rest))
+prefix_there : (first hash : Token) (rest : List Token) (c : Constant) → is_word_kind first.kind ≡ true
+    → constant_at (first ∷ hash ∷ rest) ≡ Fits c (length (first ∷ hash ∷ rest))
+    → prefixed_at prefixes (first ∷ hash ∷ rest) ≡ Fits c (length (first ∷ hash ∷ rest))
 prefix_there first hash rest c word e =
     by (prefixed_at prefixes all) (begins_real all) (number_in (half width.Word - 1) first)
     (sym (or_no (text_at all) _ (no_text first (hash ∷ rest) (word_no_text first word))
-    ∙ ap (λ (r : Read Constant). or_else (marked_at prefixes all) r) (ap (read_as plain) (if_false (is_sign (codes "-") first) _ _ (no_sign (codes "-") first word)))) ∙ e)
+    ∙ ap (λ (r : Read Constant). or_else (marked_at prefixes all) r)
+    (ap (read_as plain) (if_false (is_sign (codes "-") first) _ _ (no_sign (codes "-") first word)))) ∙ e)
   where
     all : List Token
     all = first ∷ hash ∷ rest
@@ -410,18 +426,21 @@ prefixed_before tokens c (form.behind t row first hash rest k among is joined be
     word : is_word_kind first.kind ≡ true
     word = word_kind row.word first is
 
-    by : (o : Option Prefixed) → find (has_prefix (first ∷ hash ∷ rest)) prefixes ≡ o → prefixed_by o (first ∷ hash ∷ rest) ≡ Fits k (length (first ∷ hash ∷ rest)) →
-        constant_at (first ∷ hash ∷ (rest ++ more)) ≡ Fits k (length (first ∷ hash ∷ rest))
+    by : (o : Option Prefixed) → find (has_prefix (first ∷ hash ∷ rest)) prefixes ≡ o
+        → prefixed_by o (first ∷ hash ∷ rest) ≡ Fits k (length (first ∷ hash ∷ rest))
+        → constant_at (first ∷ hash ∷ (rest ++ more)) ≡ Fits k (length (first ∷ hash ∷ rest))
     by None found h = absurd cc
     by (Some other) found h =
-        prefix_read first hash (rest ++ more) (Some other) k (length (first ∷ hash ∷ rest)) word found (grown other.what rest more k (length (first ∷ hash ∷ rest)) h)
+        prefix_read first hash (rest ++ more) (Some other) k (length (first ∷ hash ∷ rest)) word found
+        (grown other.what rest more k (length (first ∷ hash ∷ rest)) h)
 
-pub constant_before : (tokens : List Token) (c : Constant) → IsConstant tokens c → (rest : List Token) → Stops rest → constant_at (tokens ++ rest) ≡ Fits c (length tokens)
+pub constant_before : (tokens : List Token) (c : Constant) → IsConstant tokens c
+    → (rest : List Token) → Stops rest → constant_at (tokens ++ rest) ≡ Fits c (length tokens)
 constant_before tokens c (form.number ts v is) rest stop =
     or_no (text_at (ts ++ rest)) _ (signed_no_text width.Word ts v is rest)
     ∙ or_no (marked_at prefixes (ts ++ rest)) _ (signed_unmarked width.Word ts v is rest stop)
     ∙ ap (read_as plain) (signed_read width.Word ts v is rest)
-constant_before tokens c (form.prefixed ts k is) rest stop = prefixed_before ts k is (constant_read ts k (form.prefixed ts k is)) rest
+constant_before tokens c (form.prefixed_word ts k is) rest stop = prefixed_before ts k is (constant_read ts k (form.prefixed_word ts k is)) rest
 constant_before tokens c (form.text token k is of) rest stop =
     or_this (text_at (token ∷ rest)) _ k 1 (ap (fitting 1) (if_true (is_text_kind token.kind) _ None is ∙ of))
 
@@ -454,14 +473,16 @@ two_out Q (before ∷ a ∷ comma ∷ b ∷ behind ∷ rest) = fitting_out Q 7 (
 two_out Q fewer = tt
 
 four_out : (Q : Kind → Type 0) (rest : List Token) → OutOf Q (four_behind rest)
-four_out Q (before ∷ a ∷ comma ∷ b ∷ second ∷ c ∷ third ∷ d ∷ behind ∷ rest) = fitting_out Q 11 (four_bytes before (pair_of a comma b) second (pair_of c third d) behind)
+four_out Q (before ∷ a ∷ comma ∷ b ∷ second ∷ c ∷ third ∷ d ∷ behind ∷ rest) =
+    fitting_out Q 11 (four_bytes before (pair_of a comma b) second (pair_of c third d) behind)
 four_out Q fewer = tt
 
 name_out : (rest : List Token) → OutOf (λ k. LeavesOutBehind prefix.Pointer rest k) (name_behind rest)
 name_out [] = tt
 name_out (hash ∷ rest) = by (is_joined (codes "#") hash) refl
   where
-    by : (b : Bool) → is_joined (codes "#") hash ≡ b → OutOf {A = Constant} (λ k. LeavesOutBehind prefix.Pointer (hash ∷ rest) k) (if b then LeftOut kind.NamePointer else No)
+    by : (b : Bool) → is_joined (codes "#") hash ≡ b
+        → OutOf {A = Constant} (λ k. LeavesOutBehind prefix.Pointer (hash ∷ rest) k) (if b then LeftOut kind.NamePointer else No)
     by true joined = name hash rest joined
     by false joined = tt
 
@@ -484,12 +505,14 @@ prefixed_out [] = tt
 prefixed_out (first ∷ []) = tt
 prefixed_out (first ∷ hash ∷ rest) = by (find (has_prefix (first ∷ hash ∷ rest)) prefixes) refl
   where
-    by : (o : Option Prefixed) → find (has_prefix (first ∷ hash ∷ rest)) prefixes ≡ o → OutOf (λ k. LeavesOutValue (first ∷ hash ∷ rest) k) (prefixed_by o (first ∷ hash ∷ rest))
+    by : (o : Option Prefixed) → find (has_prefix (first ∷ hash ∷ rest)) prefixes ≡ o
+        → OutOf (λ k. LeavesOutValue (first ∷ hash ∷ rest) k) (prefixed_by o (first ∷ hash ∷ rest))
     by None found = tt
     by (Some row) found =
         let p = and_parts (is_word row.word first) (is_joined (codes "#") hash) (found_passes (has_prefix (first ∷ hash ∷ rest)) prefixes row found) in
         let among = found_among (has_prefix (first ∷ hash ∷ rest)) prefixes row found in
-        weaker_out (λ k. LeavesOutBehind row.what rest k) (λ k. LeavesOutValue (first ∷ hash ∷ rest) k) (λ k is. with_prefix row first hash rest k among p.0 p.1 is)
+        weaker_out (λ k. LeavesOutBehind row.what rest k) (λ k. LeavesOutValue (first ∷ hash ∷ rest) k)
+        (λ k is. with_prefix row first hash rest k among p.0 p.1 is)
         (behind_prefix row.what rest) (behind_out row.what rest)
 
 real_out : (tokens : List Token) → OutOf (λ k. LeavesOutValue tokens k) (real_at tokens)
@@ -515,14 +538,16 @@ constant_out tokens =
 abbrev clash : Prefixed → Prefixed → Bool
 clash a b = is_same_word b.word a.word
 
-both_there : (first hash : Token) (rest : List Token) (a b : Prefixed) → has_prefix (first ∷ hash ∷ rest) a ≡ true → has_prefix (first ∷ hash ∷ rest) b ≡ true → clash a b ≡ true
+both_there : (first hash : Token) (rest : List Token) (a b : Prefixed)
+    → has_prefix (first ∷ hash ∷ rest) a ≡ true → has_prefix (first ∷ hash ∷ rest) b ≡ true → clash a b ≡ true
 both_there first hash rest a b p q =
     let one = and_parts (is_word a.word first) (is_joined (codes "#") hash) p in
     let two = and_parts (is_word b.word first) (is_joined (codes "#") hash) q in
-    alike first.text a.word b.word (and_parts (is_word_kind first.kind) (is_same_word first.text a.word) one.0).1 (and_parts (is_word_kind first.kind) (is_same_word first.text b.word) two.0).1
+    alike first.text a.word b.word (and_parts (is_word_kind first.kind) (is_same_word first.text a.word) one.0).1
+    (and_parts (is_word_kind first.kind) (is_same_word first.text b.word) two.0).1
 
-row_found : (first hash : Token) (rest : List Token) (row : Prefixed) → IsAmong row prefixes → is_word row.word first ≡ true → is_joined (codes "#") hash ≡ true →
-    find (has_prefix (first ∷ hash ∷ rest)) prefixes ≡ Some row
+row_found : (first hash : Token) (rest : List Token) (row : Prefixed) → IsAmong row prefixes → is_word row.word first ≡ true → is_joined (codes "#") hash ≡ true
+    → find (has_prefix (first ∷ hash ∷ rest)) prefixes ≡ Some row
 row_found first hash rest row among word joined =
     found_apart (has_prefix (first ∷ hash ∷ rest)) clash prefixes row refl (both_there first hash rest) among (and_from _ _ word joined)
 
@@ -589,7 +614,8 @@ digits_no_word first word digits late = and_right _ _ (by (is_same_word first.te
 
 -- a value that is left out begins with no other word, and no bracket stands behind its first token
 
-begins_no_word : (first : Token) (rest : List Token) (word : List ℕ) → BeginsReal first rest → starts_late (str_to_ascii_lowercase word) ≡ true → is_word word first ≡ false
+begins_no_word : (first : Token) (rest : List Token) (word : List ℕ) → BeginsReal first rest
+    → starts_late (str_to_ascii_lowercase word) ≡ true → is_word word first ≡ false
 begins_no_word first rest word (after_minus sign is) late = and_left _ _ (no_word (codes "-") first sign)
 begins_no_word first rest word (at_digits sign is) late = digits_no_word first word is.digits late
 
@@ -605,10 +631,14 @@ begins_no_bracket first (next ∷ rest) (after_minus sign is) = no_sign (codes "
 begins_no_bracket first (next ∷ rest) (at_digits sign is) = by is.behind
   where
     by : next ∷ rest ≡ is.point ∷ is.more → is_sign (codes "(") next ≡ false
-    by e = let same : next ≡ is.point = cc in subst (λ (t : Token). is_sign (codes "(") t ≡ false) (sym same) (other_sign (codes ".") (codes "(") is.point (joined_sign (codes ".") is.point is.joined) refl)
+    by e =
+        let same : next ≡ is.point = cc in
+        subst (λ (t : Token). is_sign (codes "(") t ≡ false) (sym same)
+        (other_sign (codes ".") (codes "(") is.point (joined_sign (codes ".") is.point is.joined) refl)
 
 pub left_no_bracket : (first : Token) (rest : List Token) (k : Kind) → LeavesOutValue (first ∷ rest) k → begins_with_sign (codes "(") rest ≡ false
-left_no_bracket first rest k (with_prefix row its hash more kind among is joined behind) = other_sign (codes "#") (codes "(") hash (joined_sign (codes "#") hash joined) refl
+left_no_bracket first rest k (with_prefix row its hash more kind among is joined behind) =
+    other_sign (codes "#") (codes "(") hash (joined_sign (codes "#") hash joined) refl
 left_no_bracket first rest k (real tokens is) = begins_no_bracket first rest (real_begins first rest is)
 
 -- From what is left out to what is read of it
@@ -625,7 +655,8 @@ begins_no_prefix first (next ∷ rest) (at_digits sign is) row = and_right _ _ (
     by : next ∷ rest ≡ is.point ∷ is.more → is_joined (codes "#") next ≡ false
     by e =
         let same : next ≡ is.point = cc in
-        subst (λ (t : Token). is_joined (codes "#") t ≡ false) (sym same) (and_left _ _ (other_sign (codes ".") (codes "#") is.point (joined_sign (codes ".") is.point is.joined) refl))
+        subst (λ (t : Token). is_joined (codes "#") t ≡ false) (sym same)
+        (and_left _ _ (other_sign (codes ".") (codes "#") is.point (joined_sign (codes ".") is.point is.joined) refl))
 
 real_left : (first : Token) (rest : List Token) → begins_real (first ∷ rest) ≡ true → constant_at (first ∷ rest) ≡ LeftOut kind.Real
 real_left first rest is =

@@ -19,35 +19,37 @@ use Rattle.source_laws.proofs.Outs.{OutOf, as_out, dropped, fitting_out, further
 use Rattle.stl_grammar.specs.DeclarationForms.{AreDims, HasEnd, IsBounds, IsDeclaration, BeginsDeclaration, IsType, LeavesOutDeclaration, LeavesOutType, elem_word}
 use Rattle.stl_grammar.specs.DeclarationForms as form
 use Rattle.stl_grammar.specs.Declarations.{alone, array_at, array_with, before_of, begins_with_number, bounds_at, closed_behind, closed_by, declaration_at, dims_at, has_number, in_array, is_user_type, left_out_type, one_word_at, pointer_types, small_or_other, small_type, time_types, type_at, type_kind, upper_at, upper_behind, wide_or_left_out, wide_type, with_array, with_initial}
-use Rattle.stl_statements.specs.Lists.{begins_with_word}
+use Rattle.stl_statement_grammar.specs.Lists.{begins_with_word}
 use Rattle.stl_grammar.specs.InitialForms.{IsEnding, LeavesOutEnding}
 use Rattle.stl_grammar.specs.Initials.{ending_at}
-use Rattle.stl_statements.specs.ListForms.{AreElements}
+use Rattle.stl_statement_grammar.specs.ListForms.{AreElements}
 use Rattle.stl_grammar.specs.declared.declaration.Innermost.{Innermost}
 use Rattle.stl_grammar.specs.declared.declaration.Innermost.TheVariants as inner
 use Rattle.stl_grammar.specs.Sections.{takes_dates}
 use Rattle.stl_grammar.specs.declared.declaration.Section.{Section}
 use Rattle.stl_grammar.specs.declared.declaration.Written.{Written}
 use Rattle.stl_places.proofs.Fronts.{Front, FrontOf, as_front, fitting_front, further_front}
-use Rattle.stl_statements.specs.ConstantForms.{IsAmong}
-use Rattle.stl_statements.specs.PathForms.{IsWhole}
-use Rattle.stl_statements.specs.PathForms as path_form
-use Rattle.stl_statements.specs.Paths.{minus_number, number_word, plain_number, whole_at}
-use Rattle.stl_statements.specs.Readers.{fitting, further, read_as}
-use Rattle.stl_statements.specs.Statements.{is_numbered}
-use Rattle.stl_statements.specs.Words.{is_sign, is_word, is_word_among, is_word_kind}
-use Rattle.stl_statements.specs.declared.mnemonic.Read.{Read}
-use Rattle.stl_statements.specs.declared.mnemonic.Read.TheVariants.{Fits, LeftOut, No}
+use Rattle.stl_statement_grammar.specs.ConstantForms.{IsAmong}
+use Rattle.stl_statement_grammar.specs.PathForms.{IsWhole}
+use Rattle.stl_statement_grammar.specs.PathForms as path_form
+use Rattle.stl_statement_grammar.specs.Paths.{minus_number, number_word, plain_number, whole_at}
+use Rattle.stl_statement_grammar.specs.Readers.{fitting, further, read_as}
+use Rattle.stl_statement_grammar.specs.Statements.{is_numbered}
+use Rattle.stl_statement_grammar.specs.Words.{is_sign, is_word, is_word_among, is_word_kind}
+use Rattle.stl_statement_grammar.specs.declared.mnemonic.Read.{Read}
+use Rattle.stl_statement_grammar.specs.declared.mnemonic.Read.TheVariants.{Fits, LeftOut, No}
 use Rattle.stl_tree.specs.declared.raw.ElemType.{ElemType}
 use Rattle.stl_tree.specs.declared.raw.ElemType.TheVariants as elem
 use Rattle.stl_tree.specs.declared.raw.InitialItem.{InitialItem}
 
 -- what stands behind what was read of the tokens in front
-behind_at : {B : Type 0} (tokens : List Token) (size : ℕ) (P : List Token → Type 0) (f : Front tokens size P) (Q : List Token → B → Type 0) (next : List Token → Read B) →
-    FrontOf f.rest (λ more b. Q (f.front ++ more) b) (next f.rest) → FrontOf tokens Q (further size (next (drop size tokens)))
+behind_at : {B : Type 0} (tokens : List Token) (size : ℕ) (P : List Token → Type 0)
+    (f : Front tokens size P) (Q : List Token → B → Type 0) (next : List Token → Read B)
+    → FrontOf f.rest (λ more b. Q (f.front ++ more) b) (next f.rest) → FrontOf tokens Q (further size (next (drop size tokens)))
 behind_at {B = B} tokens size P f Q next reads =
     let base : FrontOf (f.front ++ f.rest) Q (further (length f.front) (next f.rest)) = further_front f.front f.rest Q (next f.rest) reads in
-    let one : FrontOf tokens Q (further (length f.front) (next f.rest)) = subst (λ (ts : List Token). FrontOf ts Q (further (length f.front) (next f.rest))) f.is base in
+    let one : FrontOf tokens Q (further (length f.front) (next f.rest)) =
+    subst (λ (ts : List Token). FrontOf ts Q (further (length f.front) (next f.rest))) f.is base in
     let two : FrontOf tokens Q (further size (next f.rest)) = subst (λ (n : ℕ). FrontOf tokens Q (further n (next f.rest))) f.size_is one in
     subst (λ (ts : List Token). FrontOf tokens Q (further size (next ts))) (sym (dropped tokens size P f)) two
 
@@ -63,7 +65,8 @@ whole_front tokens = by tokens
         let m = mapped pos (number_word first) i e in
         record { front = first ∷ []; rest = rest; is = refl; size_is = refl; holds = subst (IsWhole (first ∷ [])) m.made (path_form.plain first m.a m.found) })
 
-    below : (first second : Token) (rest : List Token) → is_sign (codes "-") first ≡ true → FrontOf (first ∷ second ∷ rest) IsWhole (fitting 2 (minus_number second))
+    below : (first second : Token) (rest : List Token) → is_sign (codes "-") first ≡ true
+        → FrontOf (first ∷ second ∷ rest) IsWhole (fitting 2 (minus_number second))
     below first second rest sign =
         fitting_front (first ∷ second ∷ rest) 2 IsWhole (minus_number second)
         (λ i e.
@@ -90,7 +93,8 @@ whole_front tokens = by tokens
 whole_read : (tokens : List Token) (i : ℤ) → IsWhole tokens i → (rest : List Token) → whole_at (tokens ++ rest) ≡ Fits i (length tokens)
 whole_read tokens i (path_form.plain word n number) [] = ap (fitting 1) (ap (option_map pos) number)
 whole_read tokens i (path_form.plain word n number) (next ∷ rest) =
-    if_false (is_sign (codes "-") word) _ _ (no_sign (codes "-") word (taken (is_word_kind word.kind) (kept_number word.text) n number).0) ∙ ap (fitting 1) (ap (option_map pos) number)
+    if_false (is_sign (codes "-") word) _ _ (no_sign (codes "-") word (taken (is_word_kind word.kind) (kept_number word.text) n number).0)
+    ∙ ap (fitting 1) (ap (option_map pos) number)
 whole_read tokens i (path_form.minus sign word n minus glued number) rest =
     if_true (is_sign (codes "-") sign) _ _ minus ∙ ap (fitting 2) (if_true word.glued _ None glued ∙ ap (option_map (λ k. neg_ℤ (pos k))) number)
 
@@ -124,10 +128,12 @@ upper_front low front is (dots ∷ rest) = by (is_sign (codes "..") dots) refl
         let base : FrontOf ((front ++ (dots ∷ [])) ++ rest) IsBounds (further (length (front ++ (dots ∷ []))) (read_as (λ high. (low, high)) (whole_at rest))) =
         further_front (front ++ (dots ∷ [])) rest IsBounds (read_as (λ high. (low, high)) (whole_at rest))
         (as_front rest (λ high. (low, high)) IsWhole (λ more both. IsBounds ((front ++ (dots ∷ [])) ++ more) both)
-        (λ more end high at whole. subst (λ (ts : List Token). IsBounds ts (low, high)) (sym (append_assoc front (dots ∷ []) more)) (form.bounds front dots more low high is sign whole))
+        (λ more end high at whole. subst (λ (ts : List Token). IsBounds ts (low, high))
+        (sym (append_assoc front (dots ∷ []) more)) (form.bounds front dots more low high is sign whole))
         (whole_at rest) (whole_front rest)) in
         let size : length (front ++ (dots ∷ [])) ≡ length front + 1 = omega (arith, length-append front (dots ∷ [])) in
-        subst (λ (ts : List Token). FrontOf ts IsBounds (further (length front + 1) (read_as (λ high. (low, high)) (whole_at rest)))) (append_assoc front (dots ∷ []) rest)
+        subst (λ (ts : List Token). FrontOf ts IsBounds (further (length front + 1) (read_as (λ high. (low, high)) (whole_at rest))))
+        (append_assoc front (dots ∷ []) rest)
         (subst (λ (n : ℕ). FrontOf ((front ++ (dots ∷ [])) ++ rest) IsBounds (further n (read_as (λ high. (low, high)) (whole_at rest)))) size base)
 
 bounds_front : (tokens : List Token) → FrontOf tokens IsBounds (bounds_at tokens)
@@ -138,7 +144,8 @@ bounds_front tokens = by (whole_at tokens) (whole_front tokens)
     by (LeftOut k) f = tt
     by (Fits low size) f =
         let base : FrontOf (f.front ++ f.rest) IsBounds (upper_at low (length f.front) f.rest) = upper_front low f.front f.holds f.rest in
-        let one : FrontOf tokens IsBounds (upper_at low (length f.front) f.rest) = subst (λ (ts : List Token). FrontOf ts IsBounds (upper_at low (length f.front) f.rest)) f.is base in
+        let one : FrontOf tokens IsBounds (upper_at low (length f.front) f.rest) =
+        subst (λ (ts : List Token). FrontOf ts IsBounds (upper_at low (length f.front) f.rest)) f.is base in
         let two : FrontOf tokens IsBounds (upper_at low size f.rest) = subst (λ (n : ℕ). FrontOf tokens IsBounds (upper_at low n f.rest)) f.size_is one in
         subst (λ (ts : List Token). FrontOf tokens IsBounds (upper_at low size ts)) (sym (dropped tokens size (λ front. IsWhole front low) f)) two
 
@@ -150,7 +157,9 @@ bounds_out tokens = by (whole_at tokens)
     at low size (dots ∷ rest) = choose (is_sign (codes "..") dots)
       where
         choose : (b : Bool) → OutOf {A = ℤ × ℤ} (λ k. Never tokens k) (if b then further (size + 1) (read_as (λ high. (low, high)) (whole_at rest)) else No)
-        choose true = further_out (λ k. Never tokens k) (size + 1) (read_as (λ high. (low, high)) (whole_at rest)) (as_out (λ k. Never tokens k) (λ high. (low, high)) (whole_at rest) (whole_out (λ k. Never tokens k) rest))
+        choose true =
+            further_out (λ k. Never tokens k) (size + 1) (read_as (λ high. (low, high)) (whole_at rest))
+            (as_out (λ k. Never tokens k) (λ high. (low, high)) (whole_at rest) (whole_out (λ k. Never tokens k) rest))
         choose false = tt
 
     by : (r : Read ℤ) → OutOf (λ k. Never tokens k) (upper_behind tokens r)
@@ -158,7 +167,8 @@ bounds_out tokens = by (whole_at tokens)
     by (LeftOut k) = tt
     by (Fits low size) = at low size (drop size tokens)
 
-bounds_read : (tokens : List Token) (both : ℤ × ℤ) → IsBounds tokens both → (rest : List Token) → Stops rest → bounds_at (tokens ++ rest) ≡ Fits both (length tokens)
+bounds_read : (tokens : List Token) (both : ℤ × ℤ) → IsBounds tokens both → (rest : List Token)
+    → Stops rest → bounds_at (tokens ++ rest) ≡ Fits both (length tokens)
 bounds_read tokens both (form.bounds front dots more low high is sign whole) rest stop =
     let all = front ++ (dots ∷ (more ++ rest)) in
     let size : length front + 1 + length more ≡ length (front ++ (dots ∷ more)) = omega (arith, length-append front (dots ∷ more)) in
@@ -180,8 +190,9 @@ bounds_agree = record { front = bounds_front; out = bounds_out; read = bounds_re
 closes_square : Closes (codes "]")
 closes_square = record { apart = refl; stop = λ sign is. stop_by (codes "]") sign is refl refl refl }
 
-of_front : (first : Token) (front : List Token) (size : ℕ) (dims : List (ℤ × ℤ)) (rest : List Token) → is_sign (codes "[") first ≡ true → AreElements IsBounds (codes "]") front dims → length front ≡ size →
-    FrontOf (first ∷ (front ++ rest)) AreDims (further 1 (if begins_with_word (codes "OF") rest then Fits dims (size + 1) else No))
+of_front : (first : Token) (front : List Token) (size : ℕ) (dims : List (ℤ × ℤ)) (rest : List Token)
+    → is_sign (codes "[") first ≡ true → AreElements IsBounds (codes "]") front dims → length front ≡ size
+    → FrontOf (first ∷ (front ++ rest)) AreDims (further 1 (if begins_with_word (codes "OF") rest then Fits dims (size + 1) else No))
 of_front first front size dims [] sign are size_is = tt
 of_front first front size dims (of ∷ rest) sign are size_is = by (is_word (codes "OF") of) refl
   where
@@ -200,14 +211,16 @@ dims_front : (tokens : List Token) → FrontOf tokens AreDims (array_at tokens)
 dims_front [] = tt
 dims_front (first ∷ rest) = by (is_sign (codes "[") first) refl
   where
-    at : is_sign (codes "[") first ≡ true → (r : Read (List (ℤ × ℤ))) → FrontOf rest (AreElements IsBounds (codes "]")) r → FrontOf (first ∷ rest) AreDims (further 1 (before_of rest r))
+    at : is_sign (codes "[") first ≡ true → (r : Read (List (ℤ × ℤ))) → FrontOf rest (AreElements IsBounds (codes "]")) r
+        → FrontOf (first ∷ rest) AreDims (further 1 (before_of rest r))
     at sign No f = tt
     at sign (LeftOut k) f = tt
     at sign (Fits dims size) f =
         let base : FrontOf (first ∷ (f.front ++ f.rest)) AreDims (further 1 (if begins_with_word (codes "OF") f.rest then Fits dims (size + 1) else No)) =
         of_front first f.front size dims f.rest sign f.holds f.size_is in
         let one : FrontOf (first ∷ rest) AreDims (further 1 (if begins_with_word (codes "OF") f.rest then Fits dims (size + 1) else No)) =
-        subst (λ (ts : List Token). FrontOf (first ∷ ts) AreDims (further 1 (if begins_with_word (codes "OF") f.rest then Fits dims (size + 1) else No))) f.is base in
+        subst (λ (ts : List Token). FrontOf (first ∷ ts) AreDims (further 1 (if begins_with_word (codes "OF") f.rest then Fits dims (size + 1) else No)))
+        f.is base in
         subst (λ (ts : List Token). FrontOf (first ∷ rest) AreDims (further 1 (if begins_with_word (codes "OF") ts then Fits dims (size + 1) else No)))
         (sym (dropped rest size (λ front. AreElements IsBounds (codes "]") front dims) f)) one
 
@@ -221,7 +234,8 @@ dims_read tokens its (form.dims before front of dims sign are word) rest =
     let size : 1 + (length front + 1) ≡ length (before ∷ (front ++ (of ∷ []))) = omega (arith, length-append front (of ∷ [])) in
     ap (λ (ts : List Token). array_at (before ∷ ts)) (append_assoc front (of ∷ []) rest)
     ∙ if_true (is_sign (codes "[") before) _ No sign
-    ∙ ap (λ (r : Read (List (ℤ × ℤ))). further 1 (before_of all r)) (elements_read bounds_at IsBounds Never bounds_agree (codes "]") closes_square front dims are (of ∷ rest))
+    ∙ ap (λ (r : Read (List (ℤ × ℤ))). further 1 (before_of all r))
+    (elements_read bounds_at IsBounds Never bounds_agree (codes "]") closes_square front dims are (of ∷ rest))
     ∙ ap (λ (ts : List Token). further 1 (if begins_with_word (codes "OF") ts then Fits dims (length front + 1) else No)) (drop-append_seam front (of ∷ rest))
     ∙ ap (further 1) (if_true (is_word (codes "OF") of) _ No word)
     ∙ ap (λ (n : ℕ). Fits dims n) size
@@ -273,8 +287,9 @@ opening_by k low user array =
 abbrev ReadsAs : Read Written → Bool → List ℕ → Bool → Type 0
 ReadsAs r k low user = (one_by k low user ≡ r) × ((array : Read Written) → opening_by k low user array ≡ r)
 
-reads_at : (left : ℕ) (word : Token) (rest : List Token) (r : Read Written) → ReadsAs r (is_word_kind word.kind) (str_to_ascii_lowercase word.text) (is_user_type word rest) →
-    type_at left (word ∷ rest) ≡ r
+reads_at : (left : ℕ) (word : Token) (rest : List Token) (r : Read Written)
+    → ReadsAs r (is_word_kind word.kind) (str_to_ascii_lowercase word.text) (is_user_type word rest)
+    → type_at left (word ∷ rest) ≡ r
 reads_at zero word rest r is = is.0
 reads_at (suc left) word rest r is = is.1 (array_with rest (array_at rest) (λ behind. type_at left behind))
 
@@ -286,7 +301,8 @@ word_reads left word rest r text is reads =
     let user = is_user_type word rest in
     let low = str_to_ascii_lowercase word.text in
     reads_at left word rest r
-    (subst (λ (k : Bool). ReadsAs r k low user) (sym p.0) (subst (λ (ts : List ℕ). ReadsAs r true ts user) (sym (same_letters word.text text p.1)) (reads user)))
+    (subst (λ (k : Bool). ReadsAs r k low user) (sym p.0)
+    (subst (λ (ts : List ℕ). ReadsAs r true ts user) (sym (same_letters word.text text p.1)) (reads user)))
 
 elementary_reads : (type : ElemType) (user : Bool) → ReadsAs (Fits (alone (inner.Elementary type)) 1) true (str_to_ascii_lowercase (elem_word type)) user
 elementary_reads elem.Bool user = (refl, λ array. refl)
@@ -307,8 +323,9 @@ entry_of : (text : List ℕ) (table : List (List ℕ)) → list_any (λ entry. i
 entry_of text [] h = absurd cc
 entry_of text (word ∷ table) h = by (is_same_word text word) refl h (λ more. entry_of text table more)
   where
-    by : (b : Bool) → is_same_word text word ≡ b → (b || list_any (λ entry. is_same_word text entry) table) ≡ true →
-        (list_any (λ entry. is_same_word text entry) table ≡ true → Entry (str_to_ascii_lowercase text) table) → Entry (str_to_ascii_lowercase text) (word ∷ table)
+    by : (b : Bool) → is_same_word text word ≡ b → (b || list_any (λ entry. is_same_word text entry) table) ≡ true
+        → (list_any (λ entry. is_same_word text entry) table ≡ true → Entry (str_to_ascii_lowercase text) table)
+        → Entry (str_to_ascii_lowercase text) (word ∷ table)
     by true is h next = record { entry = word; among = inl refl; same = same_letters text word is }
     by false is h next = let e = next h in record { entry = e.entry; among = inr e.among; same = e.same }
 
@@ -350,10 +367,12 @@ pub record Starts (b : ℕ) (word : Token) : Type 0 where
   pub tail : List ℕ
   pub low_is : str_to_ascii_lowercase word.text ≡ b ∷ tail
 
-pub number_starts : (letters : List ℕ) (b : ℕ) (more : List ℕ) (word : Token) (rest : List Token) → str_to_ascii_lowercase letters ≡ b ∷ more → has_number letters word rest ≡ true → Starts b word
+pub number_starts : (letters : List ℕ) (b : ℕ) (more : List ℕ) (word : Token) (rest : List Token)
+    → str_to_ascii_lowercase letters ≡ b ∷ more → has_number letters word rest ≡ true → Starts b word
 number_starts letters b more word rest low h = by (is_word letters word && begins_with_number rest) refl h
   where
-    text_starts : (n : ℕ) (text : List ℕ) → str_to_ascii_lowercase (take n text) ≡ b ∷ more → is_word_kind word.kind ≡ true → str_to_ascii_lowercase word.text ≡ str_to_ascii_lowercase text → Starts b word
+    text_starts : (n : ℕ) (text : List ℕ) → str_to_ascii_lowercase (take n text) ≡ b ∷ more
+        → is_word_kind word.kind ≡ true → str_to_ascii_lowercase word.text ≡ str_to_ascii_lowercase text → Starts b word
     text_starts zero text e word_is same = absurd cc
     text_starts (suc n) [] e word_is same = absurd cc
     text_starts (suc n) (c ∷ cs) e word_is same =
@@ -408,9 +427,10 @@ wide_word word type e =
     so : (its : ElemType) → Some its ≡ Some type → is_word (elem_word its) word ≡ true → is_word (elem_word type) word ≡ true
     so its e is = let same : its ≡ type = cc in subst (λ (t : ElemType). is_word (elem_word t) word ≡ true) same is
 
-    by : (a : Bool) → is_word (codes "WORD") word ≡ a → (b : Bool) → is_word (codes "INT") word ≡ b → (c : Bool) → is_word (codes "DWORD") word ≡ c →
-        (d : Bool) → is_word (codes "DINT") word ≡ d →
-        (if a then Some elem.Word else if b then Some elem.Int else if c then Some elem.Dword else if d then Some elem.Dint else None) ≡ Some type → is_word (elem_word type) word ≡ true
+    by : (a : Bool) → is_word (codes "WORD") word ≡ a → (b : Bool) → is_word (codes "INT") word ≡ b → (c : Bool) → is_word (codes "DWORD") word ≡ c
+        → (d : Bool) → is_word (codes "DINT") word ≡ d
+        → (if a then Some elem.Word else if b then Some elem.Int else if c then Some elem.Dword else if d then Some elem.Dint else None) ≡ Some type
+        → is_word (elem_word type) word ≡ true
     by true is b no_b c no_c d no_d e = so elem.Word e is
     by false no_a true is c no_c d no_d e = so elem.Int e is
     by false no_a false no_b true is d no_d e = so elem.Dword e is
@@ -425,8 +445,9 @@ one_front : (left : ℕ) (tokens : List Token) → FrontOf tokens (IsType left) 
 one_front left [] = tt
 one_front left (first ∷ rest) = by (is_word (codes "DATE_AND_TIME") first) refl (small_type first) refl (wide_type first) refl (type_kind first rest)
   where
-    by : (b : Bool) → is_word (codes "DATE_AND_TIME") first ≡ b → (s : Option ElemType) → small_type first ≡ s → (w : Option ElemType) → wide_type first ≡ w → (k : Option Kind) →
-        FrontOf (first ∷ rest) (IsType left) (if b then Fits (alone inner.DateAndTime) 1 else small_or_other s (wide_or_left_out w k))
+    by : (b : Bool) → is_word (codes "DATE_AND_TIME") first ≡ b → (s : Option ElemType)
+        → small_type first ≡ s → (w : Option ElemType) → wide_type first ≡ w → (k : Option Kind)
+        → FrontOf (first ∷ rest) (IsType left) (if b then Fits (alone inner.DateAndTime) 1 else small_or_other s (wide_or_left_out w k))
     by true is s small w wide k = record { front = first ∷ []; rest = rest; is = refl; size_is = refl; holds = form.date_and_time left first is }
     by false is (Some type) small w wide k = elementary_front left first rest type (small_word first type small)
     by false is None small (Some type) wide k = elementary_front left first rest type (wide_word first type wide)
@@ -438,8 +459,9 @@ type_front zero tokens = one_front zero tokens
 type_front (suc left) [] = tt
 type_front (suc left) (first ∷ rest) = by (is_word (codes "STRUCT") first) refl (is_word (codes "ARRAY") first) refl (λ more. type_front left more)
   where
-    at : is_word (codes "ARRAY") first ≡ true → ((more : List Token) → FrontOf more (IsType left) (type_at left more)) → (r : Read (List (ℤ × ℤ))) → FrontOf rest AreDims r →
-        FrontOf (first ∷ rest) (IsType (suc left)) (array_with rest r (λ behind. type_at left behind))
+    at : is_word (codes "ARRAY") first ≡ true → ((more : List Token) → FrontOf more (IsType left) (type_at left more))
+        → (r : Read (List (ℤ × ℤ))) → FrontOf rest AreDims r
+        → FrontOf (first ∷ rest) (IsType (suc left)) (array_with rest r (λ behind. type_at left behind))
     at word next No f = tt
     at word next (LeftOut k) f = tt
     at word next (Fits dims size) f =
@@ -452,11 +474,13 @@ type_front (suc left) (first ∷ rest) = by (is_word (codes "STRUCT") first) ref
         let whole : length (first ∷ f.front) ≡ size + 1 = omega (arith, f.size_is) in
         let one : FrontOf (first ∷ rest) G (further (length (first ∷ f.front)) (read f.rest)) =
         subst (λ (ts : List Token). FrontOf (first ∷ ts) G (further (length (first ∷ f.front)) (read f.rest))) f.is base in
-        let two : FrontOf (first ∷ rest) G (further (size + 1) (read f.rest)) = subst (λ (n : ℕ). FrontOf (first ∷ rest) G (further n (read f.rest))) whole one in
+        let two : FrontOf (first ∷ rest) G (further (size + 1) (read f.rest)) =
+        subst (λ (n : ℕ). FrontOf (first ∷ rest) G (further n (read f.rest))) whole one in
         subst (λ (ts : List Token). FrontOf (first ∷ rest) G (further (size + 1) (read ts))) (sym (dropped rest size (λ front. AreDims front dims) f)) two
 
-    by : (b : Bool) → is_word (codes "STRUCT") first ≡ b → (c : Bool) → is_word (codes "ARRAY") first ≡ c → ((more : List Token) → FrontOf more (IsType left) (type_at left more)) →
-        FrontOf (first ∷ rest) (IsType (suc left))
+    by : (b : Bool) → is_word (codes "STRUCT") first ≡ b → (c : Bool) → is_word (codes "ARRAY") first ≡ c
+        → ((more : List Token) → FrontOf more (IsType left) (type_at left more))
+        → FrontOf (first ∷ rest) (IsType (suc left))
         (if b then Fits (alone inner.Struct) 1 else if c then array_with rest (array_at rest) (λ behind. type_at left behind) else one_word_at (first ∷ rest))
     by true is c word next = record { front = first ∷ []; rest = rest; is = refl; size_is = refl; holds = form.struct left first is }
     by false is false word next = one_front (suc left) (first ∷ rest)
@@ -474,8 +498,10 @@ array_reads left word front rest dims is are =
 struct_reads : (user : Bool) (array : Read Written) → opening_by true (str_to_ascii_lowercase (codes "STRUCT")) user array ≡ Fits (alone inner.Struct) 1
 struct_reads user array = refl
 
-type_read : (left : ℕ) (tokens : List Token) (type : Written) → IsType left tokens type → (rest : List Token) → type_at left (tokens ++ rest) ≡ Fits type (length tokens)
-type_read left tokens type (form.elementary l word its is) rest = word_reads l word rest (Fits (alone (inner.Elementary its)) 1) (elem_word its) is (elementary_reads its)
+type_read : (left : ℕ) (tokens : List Token) (type : Written) → IsType left tokens type
+    → (rest : List Token) → type_at left (tokens ++ rest) ≡ Fits type (length tokens)
+type_read left tokens type (form.elementary l word its is) rest =
+    word_reads l word rest (Fits (alone (inner.Elementary its)) 1) (elem_word its) is (elementary_reads its)
 type_read left tokens type (form.date_and_time l word is) rest =
     word_reads l word rest (Fits (alone inner.DateAndTime) 1) (codes "DATE_AND_TIME") is (λ user. (refl, λ array. refl))
 type_read left tokens type (form.struct l word is) rest = if_true (is_word (codes "STRUCT") word) _ _ is
@@ -488,16 +514,21 @@ type_read left tokens type (form.array l word front more dims its is are of) res
 
 -- types that are left out
 
-kind_out : (left : ℕ) (first : Token) (rest : List Token) (o : Option Kind) → type_kind first rest ≡ o → OutOf (λ k. LeavesOutType left (first ∷ rest) k) (left_out_type o)
+kind_out : (left : ℕ) (first : Token) (rest : List Token) (o : Option Kind)
+    → type_kind first rest ≡ o → OutOf (λ k. LeavesOutType left (first ∷ rest) k) (left_out_type o)
 kind_out left first rest o e =
-    by (is_word (codes "REAL") first) refl (is_word_among pointer_types first) refl (is_word (codes "STRING") first) refl (is_word_among time_types first) refl (is_user_type first rest) refl o e
+    by (is_word (codes "REAL") first) refl (is_word_among pointer_types first) refl
+    (is_word (codes "STRING") first) refl (is_word_among time_types first) refl (is_user_type first rest) refl o e
   where
-    by : (a : Bool) → is_word (codes "REAL") first ≡ a → (b : Bool) → is_word_among pointer_types first ≡ b → (c : Bool) → is_word (codes "STRING") first ≡ c →
-        (d : Bool) → is_word_among time_types first ≡ d → (u : Bool) → is_user_type first rest ≡ u → (o : Option Kind) →
-        (if a then Some kind.Real else if b then Some kind.PointerType else if c then Some kind.StringType else if d then Some kind.DateTime else if u then Some kind.UserType else None) ≡ o →
-        OutOf {A = Written} (λ k. LeavesOutType left (first ∷ rest) k) (left_out_type o)
+    by : (a : Bool) → is_word (codes "REAL") first ≡ a → (b : Bool) → is_word_among pointer_types first ≡ b → (c : Bool) → is_word (codes "STRING") first ≡ c
+        → (d : Bool) → is_word_among time_types first ≡ d → (u : Bool) → is_user_type first rest ≡ u → (o : Option Kind)
+        → (if a then Some kind.Real else if b then Some kind.PointerType else if c then Some kind.StringType
+        else if d then Some kind.DateTime else if u then Some kind.UserType else None) ≡ o
+        → OutOf {A = Written} (λ k. LeavesOutType left (first ∷ rest) k) (left_out_type o)
     by a is_a b is_b c is_c d is_d u is_u None e = tt
-    by true is b is_b c is_c d is_d u is_u (Some k) e = let same : kind.Real ≡ k = cc in subst (λ (x : Kind). LeavesOutType left (first ∷ rest) x) same (form.real left first rest is)
+    by true is b is_b c is_c d is_d u is_u (Some k) e =
+        let same : kind.Real ≡ k = cc in
+        subst (λ (x : Kind). LeavesOutType left (first ∷ rest) x) same (form.real left first rest is)
     by false no_a true is c is_c d is_d u is_u (Some k) e =
         let same : kind.PointerType ≡ k = cc in subst (λ (x : Kind). LeavesOutType left (first ∷ rest) x) same (form.pointer left first rest is)
     by false no_a false no_b true is d is_d u is_u (Some k) e =
@@ -512,8 +543,9 @@ one_out : (left : ℕ) (tokens : List Token) → OutOf (λ k. LeavesOutType left
 one_out left [] = tt
 one_out left (first ∷ rest) = by (is_word (codes "DATE_AND_TIME") first) (small_type first) (wide_type first)
   where
-    by : (b : Bool) (s w : Option ElemType) →
-        OutOf (λ k. LeavesOutType left (first ∷ rest) k) (if b then Fits (alone inner.DateAndTime) 1 else small_or_other s (wide_or_left_out w (type_kind first rest)))
+    by : (b : Bool) (s w : Option ElemType)
+        → OutOf (λ k. LeavesOutType left (first ∷ rest) k)
+        (if b then Fits (alone inner.DateAndTime) 1 else small_or_other s (wide_or_left_out w (type_kind first rest)))
     by true s w = tt
     by false (Some type) w = tt
     by false None (Some type) = tt
@@ -524,15 +556,17 @@ type_out zero tokens = one_out zero tokens
 type_out (suc left) [] = tt
 type_out (suc left) (first ∷ rest) = by (is_word (codes "STRUCT") first) (is_word (codes "ARRAY") first) refl (λ more. type_out left more)
   where
-    at : is_word (codes "ARRAY") first ≡ true → ((more : List Token) → OutOf (λ k. LeavesOutType left more k) (type_at left more)) → (r : Read (List (ℤ × ℤ))) → FrontOf rest AreDims r →
-        OutOf (λ k. LeavesOutType (suc left) (first ∷ rest) k) (array_with rest r (λ behind. type_at left behind))
+    at : is_word (codes "ARRAY") first ≡ true → ((more : List Token) → OutOf (λ k. LeavesOutType left more k) (type_at left more))
+        → (r : Read (List (ℤ × ℤ))) → FrontOf rest AreDims r
+        → OutOf (λ k. LeavesOutType (suc left) (first ∷ rest) k) (array_with rest r (λ behind. type_at left behind))
     at word next No f = tt
     at word next (LeftOut k) f = tt
     at word next (Fits dims size) f =
         let Q : Kind → Type 0 = λ k. LeavesOutType (suc left) (first ∷ rest) k in
         let behind : List Token = drop size rest in
         let there : OutOf (λ k. LeavesOutType left f.rest k) (type_at left behind) =
-        subst (λ (ts : List Token). OutOf (λ k. LeavesOutType left f.rest k) (type_at left ts)) (sym (dropped rest size (λ front. AreDims front dims) f)) (next f.rest) in
+        subst (λ (ts : List Token). OutOf (λ k. LeavesOutType left f.rest k) (type_at left ts))
+        (sym (dropped rest size (λ front. AreDims front dims) f)) (next f.rest) in
         further_out Q (size + 1) (read_as (with_array dims) (type_at left behind))
         (as_out Q (with_array dims) (type_at left behind)
         (weaker_out (λ k. LeavesOutType left f.rest k) Q
@@ -567,31 +601,38 @@ end_at section (inner.Elementary its) type size behind has = refl
 end_at section inner.DateAndTime type size behind has = if_true (takes_dates section) _ _ has
 end_at section inner.Struct type size behind has = absurd has
 
-closed_front : (section : Section) (left : ℕ) (name colon : Token) → BeginsDeclaration name colon → (rest : List Token) (r : Read Written) → FrontOf rest (IsType left) r →
-    FrontOf rest (λ more type. IsDeclaration section left name (colon ∷ more) type) (closed_behind section rest r)
+closed_front : (section : Section) (left : ℕ) (name colon : Token) → BeginsDeclaration name colon
+    → (rest : List Token) (r : Read Written) → FrontOf rest (IsType left) r
+    → FrontOf rest (λ more type. IsDeclaration section left name (colon ∷ more) type) (closed_behind section rest r)
 closed_front section left name colon named rest No f = tt
 closed_front section left name colon named rest (LeftOut k) f = tt
 closed_front section left name colon named rest (Fits type size) f = by type.innermost refl (takes_dates section) refl
   where
-    with_end : HasEnd section type.innermost →
-        FrontOf rest (λ more w. IsDeclaration section left name (colon ∷ more) w) (further size (read_as (with_initial type) (ending_at section (in_array (length type.arrays)) (drop size rest))))
+    with_end : HasEnd section type.innermost
+        → FrontOf rest (λ more w. IsDeclaration section left name (colon ∷ more) w)
+        (further size (read_as (with_initial type) (ending_at section (in_array (length type.arrays)) (drop size rest))))
     with_end has =
         let a : Bool = in_array (length type.arrays) in
-        behind_at rest size (λ front. IsType left front type) f (λ more w. IsDeclaration section left name (colon ∷ more) w) (λ ts. read_as (with_initial type) (ending_at section a ts))
+        behind_at rest size (λ front. IsType left front type) f (λ more w. IsDeclaration section left name (colon ∷ more) w)
+        (λ ts. read_as (with_initial type) (ending_at section a ts))
         (as_front f.rest (with_initial type) (IsEnding section a) (λ more w. IsDeclaration section left name (colon ∷ (f.front ++ more)) w)
         (λ more end items at is. form.variable colon f.front more type items named f.holds has is) (ending_at section a f.rest) (ending_front section a f.rest))
 
     by : (what : Innermost) → type.innermost ≡ what → (d : Bool) → takes_dates section ≡ d →
         FrontOf rest (λ more w. IsDeclaration section left name (colon ∷ more) w) (closed_by section what type size (drop size rest))
-    by inner.Struct what d takes = record { front = f.front; rest = f.rest; is = f.is; size_is = f.size_is; holds = form.struct_head colon f.front type named f.holds what }
+    by inner.Struct what d takes =
+        record { front = f.front; rest = f.rest; is = f.is; size_is = f.size_is; holds = form.struct_head colon f.front type named f.holds what }
     by inner.DateAndTime what true takes =
-        subst (λ (r : Read Written). FrontOf rest (λ more w. IsDeclaration section left name (colon ∷ more) w) r) (sym (if_true (takes_dates section) _ _ takes))
+        subst (λ (r : Read Written). FrontOf rest (λ more w. IsDeclaration section left name (colon ∷ more) w) r)
+        (sym (if_true (takes_dates section) _ _ takes))
         (with_end (subst (λ (i : Innermost). HasEnd section i) (sym what) takes))
     by inner.DateAndTime what false takes =
-        subst (λ (r : Read Written). FrontOf rest (λ more w. IsDeclaration section left name (colon ∷ more) w) r) (sym (if_false (takes_dates section) _ _ takes)) tt
+        subst (λ (r : Read Written). FrontOf rest (λ more w. IsDeclaration section left name (colon ∷ more) w) r)
+        (sym (if_false (takes_dates section) _ _ takes)) tt
     by (inner.Elementary its) what d takes = with_end (subst (λ (i : Innermost). HasEnd section i) (sym what) tt)
 
-pub declaration_front : (section : Section) (left : ℕ) (name : Token) (tokens : List Token) → FrontOf tokens (IsDeclaration section left name) (declaration_at section left name tokens)
+pub declaration_front : (section : Section) (left : ℕ) (name : Token) (tokens : List Token)
+    → FrontOf tokens (IsDeclaration section left name) (declaration_at section left name tokens)
 declaration_front section left name [] = tt
 declaration_front section left name (colon ∷ rest) = by (is_word_kind name.kind && is_sign (codes ":") colon) refl
   where
@@ -602,36 +643,43 @@ declaration_front section left name (colon ∷ rest) = by (is_word_kind name.kin
         further_front (colon ∷ []) rest (IsDeclaration section left name) (closed_behind section rest (type_at left rest))
         (closed_front section left name colon (named_by name colon h) rest (type_at left rest) (type_front left rest))
 
-closed_out : (section : Section) (left : ℕ) (name colon : Token) → BeginsDeclaration name colon → (rest : List Token) (r : Read Written) → FrontOf rest (IsType left) r → OutOf (λ k. LeavesOutType left rest k) r →
-    OutOf (λ k. LeavesOutDeclaration section left name (colon ∷ rest) k) (closed_behind section rest r)
+closed_out : (section : Section) (left : ℕ) (name colon : Token) → BeginsDeclaration name colon
+    → (rest : List Token) (r : Read Written) → FrontOf rest (IsType left) r → OutOf (λ k. LeavesOutType left rest k) r
+    → OutOf (λ k. LeavesOutDeclaration section left name (colon ∷ rest) k) (closed_behind section rest r)
 closed_out section left name colon named rest No f out = tt
 closed_out section left name colon named rest (LeftOut k) f out = form.in_type colon rest k named out
 closed_out section left name colon named rest (Fits type size) f out = by type.innermost refl (takes_dates section) refl
   where
-    with_end : HasEnd section type.innermost →
-        OutOf (λ k. LeavesOutDeclaration section left name (colon ∷ rest) k) (further size (read_as (with_initial type) (ending_at section (in_array (length type.arrays)) (drop size rest))))
+    with_end : HasEnd section type.innermost
+        → OutOf (λ k. LeavesOutDeclaration section left name (colon ∷ rest) k)
+        (further size (read_as (with_initial type) (ending_at section (in_array (length type.arrays)) (drop size rest))))
     with_end has =
         let a : Bool = in_array (length type.arrays) in
         let Q : Kind → Type 0 = λ k. LeavesOutDeclaration section left name (colon ∷ rest) k in
         let there : OutOf (λ k. LeavesOutEnding section a f.rest k) (ending_at section a (drop size rest)) =
-        subst (λ (ts : List Token). OutOf (λ k. LeavesOutEnding section a f.rest k) (ending_at section a ts)) (sym (dropped rest size (λ front. IsType left front type) f)) (ending_out section a f.rest) in
+        subst (λ (ts : List Token). OutOf (λ k. LeavesOutEnding section a f.rest k) (ending_at section a ts))
+        (sym (dropped rest size (λ front. IsType left front type) f)) (ending_out section a f.rest) in
         further_out Q size (read_as (with_initial type) (ending_at section a (drop size rest)))
         (as_out Q (with_initial type) (ending_at section a (drop size rest))
         (weaker_out (λ k. LeavesOutEnding section a f.rest k) Q
-        (λ k end. subst (λ (ts : List Token). LeavesOutDeclaration section left name (colon ∷ ts) k) f.is (form.in_ending colon f.front f.rest type k named f.holds has end))
+        (λ k end. subst (λ (ts : List Token). LeavesOutDeclaration section left name (colon ∷ ts) k) f.is
+        (form.in_ending colon f.front f.rest type k named f.holds has end))
         (ending_at section a (drop size rest)) there))
 
-    by : (what : Innermost) → type.innermost ≡ what → (d : Bool) → takes_dates section ≡ d → OutOf (λ k. LeavesOutDeclaration section left name (colon ∷ rest) k) (closed_by section what type size (drop size rest))
+    by : (what : Innermost) → type.innermost ≡ what → (d : Bool) → takes_dates section ≡ d
+        → OutOf (λ k. LeavesOutDeclaration section left name (colon ∷ rest) k) (closed_by section what type size (drop size rest))
     by inner.Struct what d takes = tt
     by inner.DateAndTime what true takes =
         subst (λ (r : Read Written). OutOf (λ k. LeavesOutDeclaration section left name (colon ∷ rest) k) r) (sym (if_true (takes_dates section) _ _ takes))
         (with_end (subst (λ (i : Innermost). HasEnd section i) (sym what) takes))
     by inner.DateAndTime what false takes =
         subst (λ (r : Read Written). OutOf (λ k. LeavesOutDeclaration section left name (colon ∷ rest) k) r) (sym (if_false (takes_dates section) _ _ takes))
-        (subst (λ (ts : List Token). LeavesOutDeclaration section left name (colon ∷ ts) kind.DateTime) f.is (form.with_date colon f.front f.rest type named f.holds what takes))
+        (subst (λ (ts : List Token). LeavesOutDeclaration section left name (colon ∷ ts) kind.DateTime) f.is
+        (form.with_date colon f.front f.rest type named f.holds what takes))
     by (inner.Elementary its) what d takes = with_end (subst (λ (i : Innermost). HasEnd section i) (sym what) tt)
 
-pub declaration_out : (section : Section) (left : ℕ) (name : Token) (tokens : List Token) → OutOf (λ k. LeavesOutDeclaration section left name tokens k) (declaration_at section left name tokens)
+pub declaration_out : (section : Section) (left : ℕ) (name : Token) (tokens : List Token)
+    → OutOf (λ k. LeavesOutDeclaration section left name tokens k) (declaration_at section left name tokens)
 declaration_out section left name [] = tt
 declaration_out section left name (colon ∷ rest) = by (is_word_kind name.kind && is_sign (codes ":") colon) refl
   where
@@ -642,19 +690,22 @@ declaration_out section left name (colon ∷ rest) = by (is_word_kind name.kind 
         further_out (λ k. LeavesOutDeclaration section left name (colon ∷ rest) k) 1 (closed_behind section rest (type_at left rest))
         (closed_out section left name colon (named_by name colon h) rest (type_at left rest) (type_front left rest) (type_out left rest))
 
-named_reads : (section : Section) (left : ℕ) (name colon : Token) (rest : List Token) → BeginsDeclaration name colon → declaration_at section left name (colon ∷ rest) ≡ further 1 (closed_behind section rest (type_at left rest))
+named_reads : (section : Section) (left : ℕ) (name colon : Token) (rest : List Token) → BeginsDeclaration name colon
+    → declaration_at section left name (colon ∷ rest) ≡ further 1 (closed_behind section rest (type_at left rest))
 named_reads section left name colon rest named = if_true (is_word_kind name.kind && is_sign (codes ":") colon) _ No (and_from _ _ named.name_is named.colon_is)
 
 -- a declaration by its type, with what stands behind that
-typed_reads : (section : Section) (left : ℕ) (name colon : Token) (front rest : List Token) (type : Written) → BeginsDeclaration name colon → IsType left front type →
-    declaration_at section left name (colon ∷ (front ++ rest)) ≡ further 1 (closed_by section type.innermost type (length front) rest)
+typed_reads : (section : Section) (left : ℕ) (name colon : Token) (front rest : List Token) (type : Written)
+    → BeginsDeclaration name colon → IsType left front type
+    → declaration_at section left name (colon ∷ (front ++ rest)) ≡ further 1 (closed_by section type.innermost type (length front) rest)
 typed_reads section left name colon front rest type named is =
     named_reads section left name colon (front ++ rest) named
     ∙ ap (λ (r : Read Written). further 1 (closed_behind section (front ++ rest) r)) (type_read left front type is rest)
     ∙ ap (λ (ts : List Token). further 1 (closed_by section type.innermost type (length front) ts)) (drop-append_seam front rest)
 
-pub declaration_read : (section : Section) (left : ℕ) (name : Token) (tokens : List Token) (type : Written) → IsDeclaration section left name tokens type → (rest : List Token) →
-    declaration_at section left name (tokens ++ rest) ≡ Fits type (length tokens)
+pub declaration_read : (section : Section) (left : ℕ) (name : Token) (tokens : List Token) (type : Written)
+    → IsDeclaration section left name tokens type → (rest : List Token)
+    → declaration_at section left name (tokens ++ rest) ≡ Fits type (length tokens)
 declaration_read section left name tokens type (form.variable colon front more its items named is has ends) rest =
     let a : Bool = in_array (length its.arrays) in
     let size : 1 + (length front + length more) ≡ length (colon ∷ (front ++ more)) = omega (arith, length-append front more) in
@@ -669,7 +720,8 @@ declaration_read section left name tokens type (form.struct_head colon front its
     ∙ ap (λ (what : Innermost). further 1 (closed_by section what its (length front) rest)) struct
     ∙ ap (λ (n : ℕ). Fits its n) size
 
-pub declaration_left : (section : Section) (left : ℕ) (name : Token) (tokens : List Token) (k : Kind) → LeavesOutDeclaration section left name tokens k → declaration_at section left name tokens ≡ LeftOut k
+pub declaration_left : (section : Section) (left : ℕ) (name : Token) (tokens : List Token) (k : Kind)
+    → LeavesOutDeclaration section left name tokens k → declaration_at section left name tokens ≡ LeftOut k
 declaration_left section left name tokens k (form.in_type colon rest its named out) =
     named_reads section left name colon rest named ∙ ap (λ (r : Read Written). further 1 (closed_behind section rest r)) (type_left left rest its out)
 declaration_left section left name tokens k (form.with_date colon front rest type named is date has) =

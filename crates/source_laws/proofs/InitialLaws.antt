@@ -15,11 +15,11 @@ use Rattle.stl_constants.proofs.Reading.{if_false, if_true, joined_sign, no_sign
 use Rattle.source_laws.proofs.ConstantFronts.{Stops, constant_before, constant_front, constant_left, constant_out, left_no_bracket, left_no_word, stop_by}
 use Rattle.source_laws.proofs.ListLaws.{Agrees, Closes, elements_front, elements_left, elements_out, elements_read}
 use Rattle.source_laws.proofs.Outs.{OutOf, and_then_left, and_then_out, as_out, fitting_out, further_out, or_left, or_out, weaker_out}
-use Rattle.stl_statements.specs.Lists.{begins_with_sign}
+use Rattle.stl_statement_grammar.specs.Lists.{begins_with_sign}
 use Rattle.stl_grammar.specs.InitialForms.{IsEnding, IsInitial, IsLast, IsListItem, IsValue, LeavesOutEnding, LeavesOutInitial, LeavesOutItem, LeavesOutValue}
 use Rattle.stl_grammar.specs.InitialForms as form
 use Rattle.stl_grammar.specs.Initials.{alone, closed_value, count_of, ending_at, group_behind, initial, initial_at, initial_behind, item_of_list, last_value, list_at, once, path_value_at, pointer_of, times, value_at, values_at}
-use Rattle.stl_statements.specs.ListForms.{AreElements, LeavesOutElement}
+use Rattle.stl_statement_grammar.specs.ListForms.{AreElements, LeavesOutElement}
 use Rattle.stl_grammar.specs.Sections.{takes_values}
 use Rattle.stl_grammar.specs.declared.declaration.Section.{Section}
 use Rattle.stl_places.proofs.Fronts.{FrontOf, and_then_front, and_then_read, as_front, further_front, further_read, or_front, refined}
@@ -28,19 +28,19 @@ use Rattle.stl_places.proofs.PathLaws.{path_front, path_read_before}
 use Rattle.stl_places.proofs.PlaceLaws.{bit_read, glued_before, place_at_read}
 use Rattle.stl_places.proofs.PlaceTokens.{begins_place}
 use Rattle.stl_places.proofs.PointerLaws.{pointer_constant_front, pointer_hashed}
-use Rattle.stl_statements.specs.ConstantForms.{IsConstant, IsPrefixed, IsSigned}
-use Rattle.stl_statements.specs.ConstantForms as constant_form
-use Rattle.stl_statements.specs.Constants.{begins_glued, constant, constant_at, name_behind, prefixes, truth_at}
-use Rattle.stl_statements.specs.PathForms.{IsPath}
-use Rattle.stl_statements.specs.Paths.{component_at, number_word, path_at, step_at}
-use Rattle.stl_statements.specs.Places.{bit_at, is_no_digit, letters_of, place_at}
-use Rattle.stl_statements.specs.PointerForms.{IsOffset, IsPointer, IsPointerConstant}
-use Rattle.stl_statements.specs.PointerForms as pointing
-use Rattle.stl_statements.specs.Pointers.{is_in_reach, offset_behind, offset_by, pointer, pointer_at, pointer_behind, pointer_with, value_of}
-use Rattle.stl_statements.specs.Readers.{fitting, further, read_as, repeated, with_item}
-use Rattle.stl_statements.specs.Words.{is_joined, is_joined_word, is_sign, is_word, is_word_kind}
-use Rattle.stl_statements.specs.declared.mnemonic.Read.{Read}
-use Rattle.stl_statements.specs.declared.mnemonic.Read.TheVariants.{Fits, LeftOut, No}
+use Rattle.stl_statement_grammar.specs.ConstantForms.{IsConstant, IsPrefixed, IsSigned}
+use Rattle.stl_statement_grammar.specs.ConstantForms as constant_form
+use Rattle.stl_statement_grammar.specs.Constants.{begins_glued, constant, constant_at, name_behind, prefixes, truth_at}
+use Rattle.stl_statement_grammar.specs.PathForms.{IsPath}
+use Rattle.stl_statement_grammar.specs.Paths.{component_at, number_word, path_at, step_at}
+use Rattle.stl_statement_grammar.specs.Places.{bit_at, is_no_digit, letters_of, place_at}
+use Rattle.stl_statement_grammar.specs.PointerForms.{IsOffset, IsPointer, IsPointerConstant}
+use Rattle.stl_statement_grammar.specs.PointerForms as pointing
+use Rattle.stl_statement_grammar.specs.Pointers.{is_in_reach, offset_behind, offset_by, pointer, pointer_at, pointer_behind, pointer_with, value_of}
+use Rattle.stl_statement_grammar.specs.Readers.{fitting, further, read_as, all_items, with_item}
+use Rattle.stl_statement_grammar.specs.Words.{is_joined, is_joined_word, is_sign, is_word, is_word_kind}
+use Rattle.stl_statement_grammar.specs.declared.mnemonic.Read.{Read}
+use Rattle.stl_statement_grammar.specs.declared.mnemonic.Read.TheVariants.{Fits, LeftOut, No}
 use Rattle.stl_tree.specs.declared.raw.Constant.{Constant}
 use Rattle.stl_tree.specs.declared.raw.InitialItem.{InitialItem}
 use Rattle.stl_tree.specs.declared.raw.PathStep.{PathStep}
@@ -70,15 +70,18 @@ offset_before tokens p (pointing.offset word more byte bit number is) rest =
 offset_no_place : (tokens : List Token) (p : RawPointer) → IsOffset tokens p → (rest : List Token) → place_at (tokens ++ rest) ≡ No
 offset_no_place tokens p (pointing.offset word more byte bit number is) rest = no_place_begins word (more ++ rest) (number_letters word byte number)
 
-behind_hash_before : (tokens : List Token) (p : RawPointer) → IsPointer tokens p → (rest : List Token) → pointer_behind (tokens ++ rest) ≡ Fits p (length tokens)
+behind_hash_before : (tokens : List Token) (p : RawPointer) → IsPointer tokens p
+    → (rest : List Token) → pointer_behind (tokens ++ rest) ≡ Fits p (length tokens)
 behind_hash_before tokens p (pointing.in_area ts place q is to) rest =
     or_this (pointer_with (place_at (ts ++ rest))) _ q (length ts) (ap pointer_with (place_at_read ts place is rest) ∙ ap (fitting (length ts)) to)
 behind_hash_before tokens p (pointing.alone ts q is) rest =
     or_no (pointer_with (place_at (ts ++ rest))) _ (ap pointer_with (offset_no_place ts q is rest)) ∙ offset_before ts q is rest
 
-pointer_before : (tokens : List Token) (p : RawPointer) → IsPointerConstant tokens p → (rest : List Token) → pointer_at (tokens ++ rest) ≡ Fits p (length tokens)
+pointer_before : (tokens : List Token) (p : RawPointer) → IsPointerConstant tokens p
+    → (rest : List Token) → pointer_at (tokens ++ rest) ≡ Fits p (length tokens)
 pointer_before tokens p (pointing.behind word hash more q is joined glued such) rest =
-    if_true (is_word (codes "P") word && is_joined (codes "#") hash && begins_glued (more ++ rest)) _ No (and_from _ _ (and_from _ _ is joined) (glued_before more rest glued))
+    if_true (is_word (codes "P") word && is_joined (codes "#") hash && begins_glued (more ++ rest)) _ No
+    (and_from _ _ (and_from _ _ is joined) (glued_before more rest glued))
     ∙ further_read (word ∷ hash ∷ []) more (pointer_behind (more ++ rest)) q (behind_hash_before more q such rest)
 
 -- Values
@@ -123,13 +126,15 @@ pointer_out Q (Fits p size) = fitting_out Q size _
 pub value_out : (tokens : List Token) → OutOf (λ k. LeavesOutValue tokens k) (value_at tokens)
 value_out tokens =
     let Q : Kind → Type 0 = λ k. LeavesOutValue tokens k in
-    or_out Q (truth_at tokens) _ (truth_out Q tokens) (or_out Q (constant_at tokens) (pointer_of (pointer_at tokens)) (constant_out tokens) (pointer_out Q (pointer_at tokens)))
+    or_out Q (truth_at tokens) _ (truth_out Q tokens)
+    (or_out Q (constant_at tokens) (pointer_of (pointer_at tokens)) (constant_out tokens) (pointer_out Q (pointer_at tokens)))
 
 no_truth : (tokens : List Token) → word_is (codes "TRUE") tokens ≡ false → word_is (codes "FALSE") tokens ≡ false → truth_at tokens ≡ No
 no_truth [] one two = refl
 no_truth (first ∷ rest) one two = ap (fitting 1) (if_false (is_word (codes "TRUE") first) _ _ one ∙ if_false (is_word (codes "FALSE") first) _ _ two)
 
-constant_other : (tokens : List Token) (c : Constant) (word : List ℕ) → IsConstant tokens c → IsNoConstant word → (rest : List Token) → word_is word (tokens ++ rest) ≡ false
+constant_other : (tokens : List Token) (c : Constant) (word : List ℕ) → IsConstant tokens c
+    → IsNoConstant word → (rest : List Token) → word_is word (tokens ++ rest) ≡ false
 constant_other [] c word is none rest = absurd (constant_there [] c is refl)
 constant_other (first ∷ more) c word is none rest = constant_no_word (first ∷ more) c word is none
 
@@ -143,7 +148,8 @@ value_read tokens c (form.truth word is) rest stop =
     or_this (truth_at (word ∷ rest)) _ (constant width.Bit 1) 1 (ap (fitting 1) (if_true (is_word (codes "TRUE") word) _ _ is))
 value_read tokens c (form.falsity word is) rest stop =
     or_this (truth_at (word ∷ rest)) _ (constant width.Bit 0) 1
-    (ap (fitting 1) (if_false (is_word (codes "TRUE") word) _ _ (other_word (codes "FALSE") (codes "TRUE") word is refl) ∙ if_true (is_word (codes "FALSE") word) _ _ is))
+    (ap (fitting 1)
+    (if_false (is_word (codes "TRUE") word) _ _ (other_word (codes "FALSE") (codes "TRUE") word is refl) ∙ if_true (is_word (codes "FALSE") word) _ _ is))
 value_read tokens c (form.number ts k is) rest stop =
     let one = constant_other ts k (codes "TRUE") is (record { letter = refl; other = refl }) rest in
     let two = constant_other ts k (codes "FALSE") is (record { letter = refl; other = refl }) rest in
@@ -163,7 +169,8 @@ value_read tokens c (form.pointer ts p is reach) rest stop =
 pub value_left : (tokens : List Token) (k : Kind) → LeavesOutValue tokens k → value_at tokens ≡ LeftOut k
 value_left tokens k out =
     or_no (truth_at tokens) _
-    (no_truth tokens (left_no_word tokens k (codes "TRUE") out (record { letter = refl; other = refl })) (left_no_word tokens k (codes "FALSE") out (record { letter = refl; other = refl })))
+    (no_truth tokens (left_no_word tokens k (codes "TRUE") out (record { letter = refl; other = refl }))
+    (left_no_word tokens k (codes "FALSE") out (record { letter = refl; other = refl })))
     ∙ or_left (constant_at tokens) (pointer_of (pointer_at tokens)) k (constant_left tokens k out)
 
 some_there : (tokens : List Token) → (tokens ≡ [] → ⊥) → 1 ≤ length tokens
@@ -174,7 +181,9 @@ value_some : (tokens : List Token) (c : Constant) → IsValue tokens c → 1 ≤
 value_some tokens c (form.truth word is) = omega arith
 value_some tokens c (form.falsity word is) = omega arith
 value_some tokens c (form.number ts k is) = some_there ts (λ e. constant_there ts k is e)
-value_some tokens c (form.pointer ts p is reach) = let h = pointer_hashed ts p is in some_there ts (λ e. let none : h.word ∷ h.hash ∷ h.rest ≡ [] = h.all ∙ e in absurd cc)
+value_some tokens c (form.pointer ts p is reach) =
+    let h = pointer_hashed ts p is in
+    some_there ts (λ e. let none : h.word ∷ h.hash ∷ h.rest ≡ [] = h.all ∙ e in absurd cc)
 
 values_agree : Agrees value_at IsValue LeavesOutValue
 values_agree = record { front = value_front; out = value_out; read = value_read; left = value_left; some = value_some; none = refl }
@@ -190,7 +199,8 @@ closes_semicolon = record { apart = refl; stop = λ sign is. stop_by (codes ";")
 single_front : (tokens : List Token) → FrontOf tokens IsListItem (read_as once (value_at tokens))
 single_front tokens = as_front tokens once IsValue IsListItem (λ front rest c at is. form.value front c is) (value_at tokens) (value_front tokens)
 
-group_front : (first before : Token) (more : List Token) → is_sign (codes "(") before ≡ true → FrontOf (first ∷ before ∷ more) IsListItem (further 2 (group_behind (count_of first) more))
+group_front : (first before : Token) (more : List Token) → is_sign (codes "(") before ≡ true
+    → FrontOf (first ∷ before ∷ more) IsListItem (further 2 (group_behind (count_of first) more))
 group_front first before more sign = by (count_of first) refl
   where
     by : (o : Option ℕ) → count_of first ≡ o → FrontOf (first ∷ before ∷ more) IsListItem (further 2 (group_behind o more))
@@ -206,8 +216,9 @@ item_front [] = tt
 item_front (first ∷ []) = single_front (first ∷ [])
 item_front (first ∷ before ∷ more) = by (is_sign (codes "(") before) refl
   where
-    by : (b : Bool) → is_sign (codes "(") before ≡ b →
-        FrontOf (first ∷ before ∷ more) IsListItem (if b then further 2 (group_behind (count_of first) more) else read_as once (value_at (first ∷ before ∷ more)))
+    by : (b : Bool) → is_sign (codes "(") before ≡ b
+        → FrontOf (first ∷ before ∷ more) IsListItem
+        (if b then further 2 (group_behind (count_of first) more) else read_as once (value_at (first ∷ before ∷ more)))
     by true sign = group_front first before more sign
     by false sign = single_front (first ∷ before ∷ more)
 
@@ -216,7 +227,8 @@ single_out tokens =
     as_out (λ k. LeavesOutItem tokens k) once (value_at tokens)
     (weaker_out (λ k. LeavesOutValue tokens k) (λ k. LeavesOutItem tokens k) (λ k out. form.alone tokens k out) (value_at tokens) (value_out tokens))
 
-group_out : (first before : Token) (more : List Token) → is_sign (codes "(") before ≡ true → OutOf (λ k. LeavesOutItem (first ∷ before ∷ more) k) (further 2 (group_behind (count_of first) more))
+group_out : (first before : Token) (more : List Token) → is_sign (codes "(") before ≡ true
+    → OutOf (λ k. LeavesOutItem (first ∷ before ∷ more) k) (further 2 (group_behind (count_of first) more))
 group_out first before more sign = by (count_of first) refl
   where
     by : (o : Option ℕ) → count_of first ≡ o → OutOf (λ k. LeavesOutItem (first ∷ before ∷ more) k) (further 2 (group_behind o more))
@@ -233,8 +245,9 @@ item_out [] = tt
 item_out (first ∷ []) = single_out (first ∷ [])
 item_out (first ∷ before ∷ more) = by (is_sign (codes "(") before) refl
   where
-    by : (b : Bool) → is_sign (codes "(") before ≡ b →
-        OutOf (λ k. LeavesOutItem (first ∷ before ∷ more) k) (if b then further 2 (group_behind (count_of first) more) else read_as once (value_at (first ∷ before ∷ more)))
+    by : (b : Bool) → is_sign (codes "(") before ≡ b
+        → OutOf (λ k. LeavesOutItem (first ∷ before ∷ more) k)
+        (if b then further 2 (group_behind (count_of first) more) else read_as once (value_at (first ∷ before ∷ more)))
     by true sign = group_out first before more sign
     by false sign = single_out (first ∷ before ∷ more)
 
@@ -252,30 +265,37 @@ after_first_no_bracket : (first : Token) (more rest : List Token) → more ≡ [
 after_first_no_bracket first [] rest none stop = stop_no_bracket rest stop
 after_first_no_bracket first (next ∷ more) rest none stop = absurd cc
 
-constant_no_bracket : (first : Token) (more : List Token) (c : Constant) → IsConstant (first ∷ more) c → (rest : List Token) → Stops rest → begins_with_sign (codes "(") (more ++ rest) ≡ false
+constant_no_bracket : (first : Token) (more : List Token) (c : Constant) → IsConstant (first ∷ more) c
+    → (rest : List Token) → Stops rest → begins_with_sign (codes "(") (more ++ rest) ≡ false
 constant_no_bracket first more c is rest stop = by (first ∷ more) c is first more refl
   where
-    prefix_no_bracket : (tokens : List Token) (c : Constant) → IsPrefixed prefixes tokens c → (first : Token) (more : List Token) → tokens ≡ first ∷ more → begins_with_sign (codes "(") (more ++ rest) ≡ false
+    prefix_no_bracket : (tokens : List Token) (c : Constant) → IsPrefixed prefixes tokens c
+        → (first : Token) (more : List Token) → tokens ≡ first ∷ more → begins_with_sign (codes "(") (more ++ rest) ≡ false
     prefix_no_bracket tokens c (constant_form.behind t row word hash left k among is joined behind) first more e =
         let tail : hash ∷ left ≡ more = cc in
-        ap (λ (ts : List Token). begins_with_sign (codes "(") (ts ++ rest)) (sym tail) ∙ other_sign (codes "#") (codes "(") hash (joined_sign (codes "#") hash joined) refl
+        ap (λ (ts : List Token). begins_with_sign (codes "(") (ts ++ rest)) (sym tail)
+        ∙ other_sign (codes "#") (codes "(") hash (joined_sign (codes "#") hash joined) refl
 
-    signed_no_bracket : (w : Width) (tokens : List Token) (v : ℕ) → IsSigned w tokens v → (first : Token) (more : List Token) → tokens ≡ first ∷ more → begins_with_sign (codes "(") (more ++ rest) ≡ false
+    signed_no_bracket : (w : Width) (tokens : List Token) (v : ℕ) → IsSigned w tokens v
+        → (first : Token) (more : List Token) → tokens ≡ first ∷ more → begins_with_sign (codes "(") (more ++ rest) ≡ false
     signed_no_bracket w tokens v (constant_form.positive u word n is) first more e =
         let tail : [] ≡ more = cc in ap (λ (ts : List Token). begins_with_sign (codes "(") (ts ++ rest)) (sym tail) ∙ stop_no_bracket rest stop
     signed_no_bracket w tokens v (constant_form.minus u sign word n minus glued is) first more e =
         let tail : word ∷ [] ≡ more = cc in ap (λ (ts : List Token). begins_with_sign (codes "(") (ts ++ rest)) (sym tail) ∙ no_sign (codes "(") word is.kind
 
-    by : (tokens : List Token) (c : Constant) → IsConstant tokens c → (first : Token) (more : List Token) → tokens ≡ first ∷ more → begins_with_sign (codes "(") (more ++ rest) ≡ false
+    by : (tokens : List Token) (c : Constant) → IsConstant tokens c → (first : Token) (more : List Token)
+        → tokens ≡ first ∷ more → begins_with_sign (codes "(") (more ++ rest) ≡ false
     by tokens c (constant_form.number ts v is) first more e = signed_no_bracket width.Word ts v is first more e
-    by tokens c (constant_form.prefixed ts k is) first more e = prefix_no_bracket ts k is first more e
+    by tokens c (constant_form.prefixed_word ts k is) first more e = prefix_no_bracket ts k is first more e
     by tokens c (constant_form.text token k is of) first more e =
         let tail : [] ≡ more = cc in ap (λ (ts : List Token). begins_with_sign (codes "(") (ts ++ rest)) (sym tail) ∙ stop_no_bracket rest stop
 
-value_no_bracket : (first : Token) (more : List Token) (c : Constant) → IsValue (first ∷ more) c → (rest : List Token) → Stops rest → begins_with_sign (codes "(") (more ++ rest) ≡ false
+value_no_bracket : (first : Token) (more : List Token) (c : Constant) → IsValue (first ∷ more) c
+    → (rest : List Token) → Stops rest → begins_with_sign (codes "(") (more ++ rest) ≡ false
 value_no_bracket first more c is rest stop = by (first ∷ more) c is first more refl
   where
-    by : (tokens : List Token) (c : Constant) → IsValue tokens c → (first : Token) (more : List Token) → tokens ≡ first ∷ more → begins_with_sign (codes "(") (more ++ rest) ≡ false
+    by : (tokens : List Token) (c : Constant) → IsValue tokens c → (first : Token) (more : List Token)
+        → tokens ≡ first ∷ more → begins_with_sign (codes "(") (more ++ rest) ≡ false
     by tokens c (form.truth word is) first more e =
         let tail : [] ≡ more = cc in ap (λ (ts : List Token). begins_with_sign (codes "(") (ts ++ rest)) (sym tail) ∙ stop_no_bracket rest stop
     by tokens c (form.falsity word is) first more e =
@@ -285,14 +305,18 @@ value_no_bracket first more c is rest stop = by (first ∷ more) c is first more
         let h = pointer_hashed ts p is in
         let same : h.word ∷ h.hash ∷ h.rest ≡ first ∷ more = h.all ∙ e in
         let tail : h.hash ∷ h.rest ≡ more = cc in
-        ap (λ (ts : List Token). begins_with_sign (codes "(") (ts ++ rest)) (sym tail) ∙ other_sign (codes "#") (codes "(") h.hash (joined_sign (codes "#") h.hash h.hash_is) refl
+        ap (λ (ts : List Token). begins_with_sign (codes "(") (ts ++ rest)) (sym tail)
+        ∙ other_sign (codes "#") (codes "(") h.hash (joined_sign (codes "#") h.hash h.hash_is) refl
 
-single_read : (tokens : List Token) (c : Constant) → IsValue tokens c → (rest : List Token) → Stops rest → item_of_list (tokens ++ rest) ≡ Fits (once c) (length tokens)
+single_read : (tokens : List Token) (c : Constant) → IsValue tokens c → (rest : List Token)
+    → Stops rest → item_of_list (tokens ++ rest) ≡ Fits (once c) (length tokens)
 single_read [] c is rest stop = let some : 1 ≤ length {A = Token} [] = value_some [] c is in absurd (omega (arith, some))
 single_read (first ∷ more) c is rest stop =
-    if_false (begins_with_sign (codes "(") (more ++ rest)) _ _ (value_no_bracket first more c is rest stop) ∙ ap (read_as once) (value_read (first ∷ more) c is rest stop)
+    if_false (begins_with_sign (codes "(") (more ++ rest)) _ _ (value_no_bracket first more c is rest stop)
+    ∙ ap (read_as once) (value_read (first ∷ more) c is rest stop)
 
-item_read : (tokens : List Token) (item : InitialItem) → IsListItem tokens item → (rest : List Token) → Stops rest → item_of_list (tokens ++ rest) ≡ Fits item (length tokens)
+item_read : (tokens : List Token) (item : InitialItem) → IsListItem tokens item
+    → (rest : List Token) → Stops rest → item_of_list (tokens ++ rest) ≡ Fits item (length tokens)
 item_read tokens item (form.value ts c is) rest stop = single_read ts c is rest stop
 item_read tokens item (form.group number before more n values count sign are) rest stop =
     if_true (is_sign (codes "(") before) _ _ sign
@@ -310,7 +334,8 @@ item_left tokens k (form.alone ts its out) = single_left ts its out
 item_left tokens k (form.in_group number before more n its count sign out) =
     if_true (is_sign (codes "(") before) _ _ sign
     ∙ ap (λ (o : Option ℕ). further 2 (group_behind o more)) count
-    ∙ ap (λ (r : Read (List Constant)). further 2 (read_as (times n) r)) (elements_left value_at IsValue LeavesOutValue values_agree (codes ")") closes_bracket more its out)
+    ∙ ap (λ (r : Read (List Constant)). further 2 (read_as (times n) r))
+    (elements_left value_at IsValue LeavesOutValue values_agree (codes ")") closes_bracket more its out)
 
 item_some : (tokens : List Token) (item : InitialItem) → IsListItem tokens item → 1 ≤ length tokens
 item_some tokens item (form.value ts c is) = value_some ts c is
@@ -321,7 +346,8 @@ items_agree = record { front = item_front; out = item_out; read = item_read; lef
 
 -- A value and its end
 
-closed_front : (front : List Token) (c : Constant) → IsValue front c → (rest : List Token) → FrontOf rest (λ more its. IsLast (front ++ more) its) (closed_value c rest)
+closed_front : (front : List Token) (c : Constant) → IsValue front c → (rest : List Token)
+    → FrontOf rest (λ more its. IsLast (front ++ more) its) (closed_value c rest)
 closed_front front c is [] = tt
 closed_front front c is (sign ∷ rest) = by (is_sign (codes ";") sign) refl
   where
@@ -347,7 +373,8 @@ last_out tokens =
 last_read : (tokens : List Token) (c : Constant) → IsLast tokens c → (rest : List Token) → last_value (tokens ++ rest) ≡ Fits c (length tokens)
 last_read tokens c (form.last front sign k is ends) rest =
     ap last_value (append_assoc front (sign ∷ []) rest)
-    ∙ and_then_read front (sign ∷ rest) (value_at (front ++ (sign ∷ rest))) k closed_value (value_read front k is (sign ∷ rest) (stop_by (codes ";") sign ends refl refl refl))
+    ∙ and_then_read front (sign ∷ rest) (value_at (front ++ (sign ∷ rest))) k closed_value
+    (value_read front k is (sign ∷ rest) (stop_by (codes ";") sign ends refl refl refl))
     ∙ further_read front (sign ∷ []) (closed_value k (sign ∷ rest)) k (if_true (is_sign (codes ";") sign) _ _ ends)
 
 last_left : (tokens : List Token) (k : Kind) → LeavesOutValue tokens k → last_value tokens ≡ LeftOut k
@@ -376,12 +403,14 @@ ending_front section in_array (sign ∷ rest) = by in_array (takes_values sectio
         (as_front rest alone IsLast (λ more items. IsEnding section false (sign ∷ more) items) (λ more end c at is. form.with_value sign more c takes assign is)
         (last_value rest) (last_front rest))
 
-pub ending_out : (section : Section) (in_array : Bool) (tokens : List Token) → OutOf (λ k. LeavesOutEnding section in_array tokens k) (ending_at section in_array tokens)
+pub ending_out : (section : Section) (in_array : Bool) (tokens : List Token)
+    → OutOf (λ k. LeavesOutEnding section in_array tokens k) (ending_at section in_array tokens)
 ending_out section in_array [] = tt
 ending_out section in_array (sign ∷ rest) = by in_array (takes_values section) refl (is_sign (codes ";") sign) (is_sign (codes ":=") sign) refl
   where
-    by : (in_array : Bool) (v : Bool) → takes_values section ≡ v → (b : Bool) → (c : Bool) → is_sign (codes ":=") sign ≡ c →
-        OutOf {A = List InitialItem} (λ k. LeavesOutEnding section in_array (sign ∷ rest) k) (if b then Fits [] 1 else if v && c then further 1 (initial_at in_array rest) else No)
+    by : (in_array : Bool) (v : Bool) → takes_values section ≡ v → (b : Bool) → (c : Bool) → is_sign (codes ":=") sign ≡ c
+        → OutOf {A = List InitialItem} (λ k. LeavesOutEnding section in_array (sign ∷ rest) k)
+        (if b then Fits [] 1 else if v && c then further 1 (initial_at in_array rest) else No)
     by in_array v takes true c assign = tt
     by in_array false takes false c assign = tt
     by in_array true takes false false assign = tt
@@ -402,26 +431,31 @@ assigns section sign in_array rest takes assign =
     if_false (is_sign (codes ";") sign) _ _ (other_sign (codes ":=") (codes ";") sign assign refl)
     ∙ if_true (takes_values section && is_sign (codes ":=") sign) _ No (and_from (takes_values section) _ takes assign)
 
-pub ending_read : (section : Section) (in_array : Bool) (tokens : List Token) (items : List InitialItem) → IsEnding section in_array tokens items → (rest : List Token) →
-    ending_at section in_array (tokens ++ rest) ≡ Fits items (length tokens)
+pub ending_read : (section : Section) (in_array : Bool) (tokens : List Token) (items : List InitialItem)
+    → IsEnding section in_array tokens items → (rest : List Token)
+    → ending_at section in_array (tokens ++ rest) ≡ Fits items (length tokens)
 ending_read section in_array tokens items (form.nothing a sign ends) rest = if_true (is_sign (codes ";") sign) _ _ ends
 ending_read section in_array tokens items (form.with_value sign more c takes assign is) rest =
     assigns section sign false (more ++ rest) takes assign
     ∙ further_read (sign ∷ []) more (read_as alone (last_value (more ++ rest))) (once c ∷ []) (ap (read_as alone) (last_read more c is rest))
 ending_read section in_array tokens items (form.with_list sign more its takes assign are) rest =
     assigns section sign true (more ++ rest) takes assign
-    ∙ further_read (sign ∷ []) more (list_at (more ++ rest)) its (elements_read item_of_list IsListItem LeavesOutItem items_agree (codes ";") closes_semicolon more its are rest)
+    ∙ further_read (sign ∷ []) more (list_at (more ++ rest)) its
+    (elements_read item_of_list IsListItem LeavesOutItem items_agree (codes ";") closes_semicolon more its are rest)
 
-pub ending_left : (section : Section) (in_array : Bool) (tokens : List Token) (k : Kind) → LeavesOutEnding section in_array tokens k → ending_at section in_array tokens ≡ LeftOut k
+pub ending_left : (section : Section) (in_array : Bool) (tokens : List Token) (k : Kind)
+    → LeavesOutEnding section in_array tokens k → ending_at section in_array tokens ≡ LeftOut k
 ending_left section in_array tokens k (form.in_value sign rest its takes assign out) =
     assigns section sign false rest takes assign ∙ ap (λ (r : Read Constant). further 1 (read_as alone r)) (last_left rest its out)
 ending_left section in_array tokens k (form.in_list sign rest its takes assign out) =
     assigns section sign true rest takes assign
-    ∙ ap (λ (r : Read (List InitialItem)). further 1 r) (elements_left item_of_list IsListItem LeavesOutItem items_agree (codes ";") closes_semicolon rest its out)
+    ∙ ap (λ (r : Read (List InitialItem)). further 1 r)
+    (elements_left item_of_list IsListItem LeavesOutItem items_agree (codes ";") closes_semicolon rest its out)
 
 -- Initial values of a data block
 
-behind_front : (line : Line) (path : List PathStep) (front rest : List Token) → IsPath front path → FrontOf rest (λ more its. IsInitial line (front ++ more) its) (initial_behind line path rest)
+behind_front : (line : Line) (path : List PathStep) (front rest : List Token) → IsPath front path
+    → FrontOf rest (λ more its. IsInitial line (front ++ more) its) (initial_behind line path rest)
 behind_front line path front [] is = tt
 behind_front line path front (sign ∷ rest) is = by (is_sign (codes ":=") sign) refl
   where
@@ -430,17 +464,20 @@ behind_front line path front (sign ∷ rest) is = by (is_sign (codes ":=") sign)
     by false assign = tt
     by true assign =
         further_front (sign ∷ []) rest (λ more its. IsInitial line (front ++ more) its) (read_as (initial line path) (last_value rest))
-        (as_front rest (initial line path) IsLast (λ more its. IsInitial line (front ++ (sign ∷ more)) its) (λ more end c at ends. form.at_path front sign more path c is assign ends)
+        (as_front rest (initial line path) IsLast (λ more its. IsInitial line (front ++ (sign ∷ more)) its)
+        (λ more end c at ends. form.at_path front sign more path c is assign ends)
         (last_value rest) (last_front rest))
 
 pub initial_front : (line : Line) (tokens : List Token) → FrontOf tokens (IsInitial line) (path_value_at line tokens)
 initial_front line tokens =
-    and_then_front tokens IsPath (IsInitial line) (path_at tokens) (initial_behind line) (path_front tokens) (λ front rest path is. behind_front line path front rest is)
+    and_then_front tokens IsPath (IsInitial line) (path_at tokens) (initial_behind line)
+    (path_front tokens) (λ front rest path is. behind_front line path front rest is)
 
 pub initial_some : (line : Line) (tokens : List Token) (its : RawInitial) → IsInitial line tokens its → 1 ≤ length tokens
 initial_some line tokens its (form.at_path front sign more path c is assign ends) = omega (arith, length-append front (sign ∷ more))
 
-behind_out : (line : Line) (path : List PathStep) (front rest : List Token) → IsPath front path → OutOf (λ k. LeavesOutInitial (front ++ rest) k) (initial_behind line path rest)
+behind_out : (line : Line) (path : List PathStep) (front rest : List Token) → IsPath front path
+    → OutOf (λ k. LeavesOutInitial (front ++ rest) k) (initial_behind line path rest)
 behind_out line path front [] is = tt
 behind_out line path front (sign ∷ rest) is = by (is_sign (codes ":=") sign) refl
   where
@@ -460,23 +497,27 @@ with_out Q No more outs = tt
 with_out Q (LeftOut k) more outs = tt
 with_out Q (Fits a size) more outs = further_out Q 1 _ (as_out Q _ (more (size - 1)) (outs (size - 1)))
 
-repeated_out : {A : Type 0} (Q : Kind → Type 0) (read : List Token → Read A) (left : ℕ) (tokens : List Token) → OutOf Q (repeated read left tokens)
+repeated_out : {A : Type 0} (Q : Kind → Type 0) (read : List Token → Read A) (left : ℕ) (tokens : List Token) → OutOf Q (all_items read left tokens)
 repeated_out Q read left [] = tt
-repeated_out Q read (suc left) (token ∷ rest) = further_out Q 1 (repeated read left rest) (repeated_out Q read left rest)
-repeated_out Q read zero (token ∷ rest) = with_out Q (read (token ∷ rest)) (λ n. repeated read n rest) (λ n. repeated_out Q read n rest)
+repeated_out Q read (suc left) (token ∷ rest) = further_out Q 1 (all_items read left rest) (repeated_out Q read left rest)
+repeated_out Q read zero (token ∷ rest) = with_out Q (read (token ∷ rest)) (λ n. all_items read n rest) (λ n. repeated_out Q read n rest)
 
 path_never : (Q : Kind → Type 0) (tokens : List Token) → OutOf Q (path_at tokens)
 path_never Q [] = tt
 path_never Q (word ∷ rest) = by (is_word_kind word.kind)
   where
-    by : (b : Bool) → OutOf Q (if b then further 1 (read_as (λ steps. step.Name word.text ∷ steps) (repeated step_at 0 rest)) else No)
-    by true = further_out Q 1 (read_as (λ steps. step.Name word.text ∷ steps) (repeated step_at 0 rest)) (as_out Q (λ steps. step.Name word.text ∷ steps) (repeated step_at 0 rest) (repeated_out Q step_at 0 rest))
+    by : (b : Bool) → OutOf Q (if b then further 1 (read_as (λ steps. step.Name word.text ∷ steps) (all_items step_at 0 rest)) else No)
+    by true =
+        further_out Q 1 (read_as (λ steps. step.Name word.text ∷ steps) (all_items step_at 0 rest))
+        (as_out Q (λ steps. step.Name word.text ∷ steps) (all_items step_at 0 rest) (repeated_out Q step_at 0 rest))
     by false = tt
 
 pub initial_out : (line : Line) (tokens : List Token) → OutOf (λ k. LeavesOutInitial tokens k) (path_value_at line tokens)
 initial_out line tokens =
-    and_then_out tokens IsPath (λ k. LeavesOutInitial tokens k) (path_at tokens) (initial_behind line) (path_front tokens) (path_never (λ k. LeavesOutInitial tokens k) tokens)
-    (λ front rest path at is. subst (λ (ts : List Token). OutOf (λ k. LeavesOutInitial ts k) (initial_behind line path rest)) at (behind_out line path front rest is))
+    and_then_out tokens IsPath (λ k. LeavesOutInitial tokens k) (path_at tokens)
+    (initial_behind line) (path_front tokens) (path_never (λ k. LeavesOutInitial tokens k) tokens)
+    (λ front rest path at is. subst (λ (ts : List Token). OutOf (λ k. LeavesOutInitial ts k) (initial_behind line path rest)) at
+    (behind_out line path front rest is))
 
 -- no step begins with `:=`
 
@@ -497,13 +538,16 @@ path_before : (tokens : List Token) (path : List PathStep) → IsPath tokens pat
 path_before tokens path is sign rest assign =
     path_read_before tokens path is (sign ∷ rest) (subst (λ (r : Read PathStep). IsNothing r) (sym (no_step sign rest assign)) tt)
 
-pub initial_read : (line : Line) (tokens : List Token) (its : RawInitial) → IsInitial line tokens its → (rest : List Token) → path_value_at line (tokens ++ rest) ≡ Fits its (length tokens)
+pub initial_read : (line : Line) (tokens : List Token) (its : RawInitial) → IsInitial line tokens its
+    → (rest : List Token) → path_value_at line (tokens ++ rest) ≡ Fits its (length tokens)
 initial_read line tokens its (form.at_path front sign more path c is assign ends) rest =
     ap (path_value_at line) (append_assoc front (sign ∷ more) rest)
-    ∙ and_then_read front (sign ∷ (more ++ rest)) (path_at (front ++ (sign ∷ (more ++ rest)))) path (initial_behind line) (path_before front path is sign (more ++ rest) assign)
+    ∙ and_then_read front (sign ∷ (more ++ rest)) (path_at (front ++ (sign ∷ (more ++ rest)))) path
+    (initial_behind line) (path_before front path is sign (more ++ rest) assign)
     ∙ further_read front (sign ∷ more) (initial_behind line path (sign ∷ (more ++ rest))) (initial line path c)
     (if_true (is_sign (codes ":=") sign) _ No assign
-    ∙ further_read (sign ∷ []) more (read_as (initial line path) (last_value (more ++ rest))) (initial line path c) (ap (read_as (initial line path)) (last_read more c ends rest)))
+    ∙ further_read (sign ∷ []) more (read_as (initial line path) (last_value (more ++ rest)))
+    (initial line path c) (ap (read_as (initial line path)) (last_read more c ends rest)))
 
 pub initial_left : (line : Line) (tokens : List Token) (k : Kind) → LeavesOutInitial tokens k → path_value_at line tokens ≡ LeftOut k
 initial_left line tokens k (form.behind_path front sign rest path its is assign out) =

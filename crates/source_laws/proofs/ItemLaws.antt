@@ -26,18 +26,18 @@ use Rattle.stl_grammar.specs.Initials.{ending_at, path_value_at}
 use Rattle.stl_grammar.specs.declared.declaration.Level.{Level}
 use Rattle.stl_grammar.specs.declared.declaration.Written.{Written}
 use Rattle.s7_base.specs.declared.reason.Reason.TheVariants.{BadStatement, Unsupported}
-use Rattle.stl_grammar.specs.Headings.{heading_kind, is_behind, is_skipped, kind_word, line_of, name_at, number_behind, opened, opened_by}
+use Rattle.stl_grammar.specs.Headings.{heading_kind, is_behind, is_skipped, kind_word, line_of, name_at, number_behind, block_heading, opened_by}
 use Rattle.stl_grammar.specs.Items.{begins_body, behind_at, closing_at, declaration_found, declaration_reason, is_data, read_reason, section_end_found, section_found, struct_found, value_found, values_at, inside_at, level_line, misfit_line, is_semicolon, is_skipped_alone, is_end, statement_size, statement_at, is_complete, misfit_reason, statement_reason, table_at, symbol_found, in_table, behind_heading, statement_found, statement_from, body_at, at_token, item_at}
 use Rattle.digit_texts.specs.Digits.{kept_number}
-use Rattle.stl_statements.specs.Paths.{number_word}
-use Rattle.stl_grammar.specs.Symbols.{address_of, ends_table, is_next, symbol_at, symbol_with, trimmed}
-use Rattle.stl_statements.specs.Readers.{fitting}
-use Rattle.stl_statements.specs.Statements.{is_numbered, on_line, statement as statement_said, instruction_of}
-use Rattle.stl_statements.specs.Words.{is_word, is_quoted_kind}
-use Rattle.stl_statements.specs.declared.mnemonic.Read.{Read}
-use Rattle.stl_statements.specs.declared.mnemonic.Read.TheVariants as read
-use Rattle.stl_grammar.specs.declared.item.Found.{Found}
-use Rattle.stl_grammar.specs.declared.item.Found.TheVariants.{Fits, Misfit}
+use Rattle.stl_statement_grammar.specs.Paths.{number_word}
+use Rattle.stl_grammar.specs.Symbols.{address_of, ends_table, is_next, symbol_at, symbol_with, trimmed_field}
+use Rattle.stl_statement_grammar.specs.Readers.{fitting}
+use Rattle.stl_statement_grammar.specs.Statements.{is_numbered, on_line, statement as statement_said, instruction_of}
+use Rattle.stl_statement_grammar.specs.Words.{is_word, is_quoted_kind}
+use Rattle.stl_statement_grammar.specs.declared.mnemonic.Read.{Read}
+use Rattle.stl_statement_grammar.specs.declared.mnemonic.Read.TheVariants as read
+use Rattle.stl_grammar.specs.declared.item.NextItem.{NextItem}
+use Rattle.stl_grammar.specs.declared.item.NextItem.TheVariants.{Fits, Misfit}
 use Rattle.stl_grammar.specs.declared.item.Item.{Item}
 use Rattle.stl_grammar.specs.declared.item.Item.TheVariants.{Opens, Mark, Starts, Symbol, Declares, Closes, Instr, Initial}
 use Rattle.stl_grammar.specs.declared.item.Where.{Where}
@@ -83,7 +83,8 @@ not_true false h = refl
 
 -- From a form to what is found
 
-name_found : {kind : List ℕ} {names : List Token} {name : RawName} (rest : List Token) → IsName kind names name → name_at kind (names ++ rest) ≡ read.Fits name (length names)
+name_found : {kind : List ℕ} {names : List Token} {name : RawName} (rest : List Token)
+    → IsName kind names name → name_at kind (names ++ rest) ≡ read.Fits name (length names)
 name_found rest (quoted kind word is) = if_true (is_quoted_kind word.kind) _ _ is
 name_found rest (apart kind word number n no_quotes is found) =
     if_false (is_quoted_kind word.kind) _ _ no_quotes ∙ if_true (is_word kind word) _ _ is
@@ -99,15 +100,18 @@ name_line line rest (quoted kind word is) = refl
 name_line line rest (apart kind word number n no_quotes is found) = refl
 name_line line rest (together kind word n no_quotes no_word numbered found) = refl
 
-opened_found : (reason : Reason) (kind : BlockKind) (other : Found) (first : Token) {names : List Token} {name : RawName} (rest : List Token) → heading_kind first ≡ Some kind → IsName (kind_word kind) names name →
-    opened_by reason (heading_kind first) other first (names ++ rest) ≡ Fits (Opens first.line kind name None) (length names) (Heading kind (last_line first.line names))
+opened_found : (reason : Reason) (kind : BlockKind) (other : NextItem) (first : Token) {names : List Token} {name : RawName} (rest : List Token)
+    → heading_kind first ≡ Some kind → IsName (kind_word kind) names name
+    → opened_by reason (heading_kind first) other first (names ++ rest)
+    ≡ Fits (Opens first.line kind name None) (length names) (Heading kind (last_line first.line names))
 opened_found reason kind other first {names = names} {name = name} rest is named =
     ap (λ (o : Option BlockKind). opened_by reason o other first (names ++ rest)) is
-    ∙ ap (λ (r : Read RawName). opened reason kind first (names ++ rest) r) (name_found rest named)
+    ∙ ap (λ (r : Read RawName). block_heading reason kind first (names ++ rest) r) (name_found rest named)
     ∙ ap (λ (line : Line). Fits (Opens first.line kind name None) (length names) (Heading kind line)) (name_line first.line rest named)
 
-heading_found : (end : Line) (place : Where) (kind : BlockKind) (first : Token) {names : List Token} {name : RawName} (rest : List Token) → MayOpen place → heading_kind first ≡ Some kind → IsName (kind_word kind) names name →
-    item_at end place (first ∷ (names ++ rest)) ≡ Fits (Opens first.line kind name None) (length names) (Heading kind (last_line first.line names))
+heading_found : (end : Line) (place : Where) (kind : BlockKind) (first : Token) {names : List Token} {name : RawName} (rest : List Token)
+    → MayOpen place → heading_kind first ≡ Some kind → IsName (kind_word kind) names name
+    → item_at end place (first ∷ (names ++ rest)) ≡ Fits (Opens first.line kind name None) (length names) (Heading kind (last_line first.line names))
 unfolding item_at
 heading_found end Start kind first rest may is named = opened_found _ kind _ first rest is named
 heading_found end (Table line) kind first rest may is named = absurd may
@@ -149,7 +153,7 @@ form_found end place next tokens item size (symbol line name a its b type c comm
     ∙ ap (λ (o : Option SymbolLine). symbol_found line (name ∷ behind_name) name o)
     (if_true (is_behind line name) _ _ behind
     ∙ if_true _ _ _ (both _ _ (both _ _ (both (is_quoted_kind name.kind) (is_next name.line a its) quoted_name one) two) three))
-    ∙ ap (λ (found : SymbolAddress). Fits (Symbol (symbol_with name found)) 6 (Table name.line)) (address_read (trimmed its.text) address is)
+    ∙ ap (λ (found : SymbolAddress). Fits (Symbol (symbol_with name found)) 6 (Table name.line)) (address_read (trimmed_field its.text) address is)
 form_found end place next tokens item size (table_end line first rest ends) = if_true (ends_table line first rest) _ _ ends
 form_found end place next tokens item size (skipped_line kind line first rest is) = if_true (is_skipped line first rest) _ _ is
 form_found end place next tokens item size (begin kind line first rest no_line no_data word) =
@@ -163,14 +167,17 @@ form_found end place next tokens item size (data_end kind first sign rest word e
     if_true (is_word (codes "END_STRUCT") first) _ _ word ∙ if_true (is_semicolon sign) _ _ ends
 form_found end place next tokens item size (struct_end kind its level levels first front rest items word is) =
     if_true (is_word (codes "END_STRUCT") first) _ _ word
-    ∙ ap (λ (found : Read (List InitialItem)). struct_found kind its level.line levels (first ∷ (front ++ rest)) found) (ending_read its level.in_array front items is rest)
+    ∙ ap (λ (found : Read (List InitialItem)). struct_found kind its level.line levels (first ∷ (front ++ rest)) found)
+    (ending_read its level.in_array front items is rest)
 form_found end place next tokens item size (declaration kind its levels name front rest type no_end is) =
     if_false (ends_level its levels name) _ _ no_end
-    ∙ ap (λ (found : Read Written). declaration_found kind its levels (name ∷ (front ++ rest)) name found) (declaration_read its (left_of levels) name front type is rest)
+    ∙ ap (λ (found : Read Written). declaration_found kind its levels (name ∷ (front ++ rest)) name found)
+    (declaration_read its (left_of levels) name front type is rest)
 form_found end place next tokens item size (begin_behind kind before first rest word) = if_true (is_word (codes "BEGIN") first) _ _ word
 form_found end place next tokens item size (later_section kind before its first rest word may) =
     if_false (is_word (codes "BEGIN") first) _ _ (no_begin_word its first word)
-    ∙ ap (λ (o : Option Section). section_found kind (misfit_reason (Behind kind before) (first ∷ rest)) first o) (section_read kind (Some before) its first word may)
+    ∙ ap (λ (o : Option Section). section_found kind (misfit_reason (Behind kind before) (first ∷ rest)) first o)
+    (section_read kind (Some before) its first word may)
 form_found end place next tokens item size (value first front rest its no_end is) =
     let size : length (first ∷ front) - 1 ≡ length front = omega arith in
     if_false (is_end block.Db first) _ _ no_end
@@ -187,7 +194,7 @@ form_found end place next tokens item size (statement kind first more sign rest 
 -- From what is found to a form
 
 -- what is found at a place is a form, a misfit without a statement, or a statement that is no instruction
-data Reads : Where → Token → List Token → Found → Type 0 where
+data Reads : Where → Token → List Token → NextItem → Type 0 where
   fits : {place next : Where} {first : Token} {rest : List Token} {item : Item} {size : ℕ} →
       IsForm place (first ∷ rest) item size next → Reads place first rest (Fits item size next)
   misses : (place : Where) (first : Token) (rest : List Token) →
@@ -208,17 +215,20 @@ data ReadsName : List ℕ → List Token → Read RawName → Type 0 where
   named : {kind : List ℕ} {names : List Token} {name : RawName} (rest : List Token) →
       IsName kind names name → ReadsName kind (names ++ rest) (read.Fits name (length names))
 
-number_reads : (kind : List ℕ) (word number : Token) (rest : List Token) (o : Option ℕ) → is_quoted_kind word.kind ≡ false → is_word kind word ≡ true → number_word number ≡ o →
-    ReadsName kind (word ∷ number ∷ rest) (fitting 2 (option_map Number o))
+number_reads : (kind : List ℕ) (word number : Token) (rest : List Token) (o : Option ℕ)
+    → is_quoted_kind word.kind ≡ false → is_word kind word ≡ true → number_word number ≡ o
+    → ReadsName kind (word ∷ number ∷ rest) (fitting 2 (option_map Number o))
 number_reads kind word number rest (Some n) no_quotes is found = named rest (apart kind word number n no_quotes is found)
 number_reads kind word number rest None no_quotes is found = unnamed
 
-behind_reads : (kind : List ℕ) (word : Token) (rest : List Token) → is_quoted_kind word.kind ≡ false → is_word kind word ≡ true → ReadsName kind (word ∷ rest) (fitting 2 (option_map Number (number_behind rest)))
+behind_reads : (kind : List ℕ) (word : Token) (rest : List Token) → is_quoted_kind word.kind ≡ false
+    → is_word kind word ≡ true → ReadsName kind (word ∷ rest) (fitting 2 (option_map Number (number_behind rest)))
 behind_reads kind word [] no_quotes is = unnamed
 behind_reads kind word (number ∷ rest) no_quotes is = number_reads kind word number rest (number_word number) no_quotes is refl
 
-within_reads : (kind : List ℕ) (word : Token) (rest : List Token) (b : Bool) (o : Option ℕ) → is_quoted_kind word.kind ≡ false → is_word kind word ≡ false → is_numbered kind word ≡ b →
-    kept_number (drop (length kind) word.text) ≡ o → ReadsName kind (word ∷ rest) (fitting 1 (option_map Number (if b then o else None)))
+within_reads : (kind : List ℕ) (word : Token) (rest : List Token) (b : Bool) (o : Option ℕ)
+    → is_quoted_kind word.kind ≡ false → is_word kind word ≡ false → is_numbered kind word ≡ b
+    → kept_number (drop (length kind) word.text) ≡ o → ReadsName kind (word ∷ rest) (fitting 1 (option_map Number (if b then o else None)))
 within_reads kind word rest true (Some n) no_quotes no_word numbered found = named rest (together kind word n no_quotes no_word numbered found)
 within_reads kind word rest true None no_quotes no_word numbered found = unnamed
 within_reads kind word rest false o no_quotes no_word numbered found = unnamed
@@ -231,15 +241,17 @@ name_reads kind (first ∷ rest) =
     (λ no_quotes. choose R (is_word kind first) _ _ (λ is. behind_reads kind first rest no_quotes is)
     (λ no_word. within_reads kind first rest (is_numbered kind first) (kept_number (drop (length kind) first.text)) no_quotes no_word refl refl))
 
-opened_reads : (place : Where) (kind : BlockKind) (first : Token) (tokens : List Token) (found : Read RawName) → MayOpen place → Reads place first tokens (Misfit first.line (misfit_reason place (first ∷ tokens))) → heading_kind first ≡ Some kind →
-    ReadsName (kind_word kind) tokens found → Reads place first tokens (opened (misfit_reason place (first ∷ tokens)) kind first tokens found)
+opened_reads : (place : Where) (kind : BlockKind) (first : Token) (tokens : List Token) (found : Read RawName) → MayOpen place
+    → Reads place first tokens (Misfit first.line (misfit_reason place (first ∷ tokens))) → heading_kind first ≡ Some kind
+    → ReadsName (kind_word kind) tokens found → Reads place first tokens (block_heading (misfit_reason place (first ∷ tokens)) kind first tokens found)
 opened_reads place kind first tokens found may missed is unnamed = missed
 opened_reads place kind first tokens found may missed is (named {names = names} {name = name} rest of_name) =
     let R : Line → Type 0 = λ line. Reads place first (names ++ rest) (Fits (Opens first.line kind name None) (length names) (Heading kind line)) in
     subst R (sym (name_line first.line rest of_name)) (fits (heading place kind first rest may is of_name))
 
-kind_reads : (place : Where) (other : Found) (first : Token) (rest : List Token) (o : Option BlockKind) → MayOpen place → Reads place first rest (Misfit first.line (misfit_reason place (first ∷ rest))) → heading_kind first ≡ o →
-    (heading_kind first ≡ None → Reads place first rest other) → Reads place first rest (opened_by (misfit_reason place (first ∷ rest)) o other first rest)
+kind_reads : (place : Where) (other : NextItem) (first : Token) (rest : List Token) (o : Option BlockKind) → MayOpen place
+    → Reads place first rest (Misfit first.line (misfit_reason place (first ∷ rest))) → heading_kind first ≡ o
+    → (heading_kind first ≡ None → Reads place first rest other) → Reads place first rest (opened_by (misfit_reason place (first ∷ rest)) o other first rest)
 kind_reads place other first rest None may missed is reads = reads is
 kind_reads place other first rest (Some kind) may missed is reads =
     opened_reads place kind first rest (name_at (kind_word kind) rest) may missed is (name_reads (kind_word kind) rest)
@@ -248,7 +260,7 @@ kind_reads place other first rest (Some kind) may missed is reads =
 
 table_reads : (first : Token) (rest : List Token) → heading_kind first ≡ None → Reads Start first rest (table_at (first ∷ rest) first)
 table_reads first rest no_heading =
-    let R : Found → Type 0 = λ found. Reads Start first rest found in
+    let R : NextItem → Type 0 = λ found. Reads Start first rest found in
     choose R (is_word (codes "SYMBOL_TABLE") first) _ _ (λ word. fits (table first rest no_heading word)) (λ no_word. misses Start first rest refl)
 
 symbol_reads : (line : Line) (name : Token) (rest : List Token) → ends_table line name rest ≡ false → is_behind line name ≡ true →
@@ -265,16 +277,16 @@ symbol_reads line name (a ∷ its ∷ b ∷ type ∷ c ∷ comment ∷ rest) no_
     choose R (is_quoted_kind name.kind && is_next name.line a its && is_next name.line b type && is_next name.line c comment) _ _
     (λ all. let three = left_true (is_quoted_kind name.kind && is_next name.line a its && is_next name.line b type) (is_next name.line c comment) all in
     let two = left_true (is_quoted_kind name.kind && is_next name.line a its) (is_next name.line b type) three in
-    fits (symbol line name a its b type c comment rest (address_of (trimmed its.text)) no_end behind
+    fits (symbol line name a its b type c comment rest (address_of (trimmed_field its.text)) no_end behind
     (left_true (is_quoted_kind name.kind) (is_next name.line a its) two) (right_true (is_quoted_kind name.kind) (is_next name.line a its) two)
     (right_true (is_quoted_kind name.kind && is_next name.line a its) (is_next name.line b type) three)
     (right_true (is_quoted_kind name.kind && is_next name.line a its && is_next name.line b type) (is_next name.line c comment) all)
-    (address_is (trimmed its.text))))
+    (address_is (trimmed_field its.text))))
     (λ other. misses (Table line) name (a ∷ its ∷ b ∷ type ∷ c ∷ comment ∷ rest) refl)
 
 in_table_reads : (line : Line) (first : Token) (rest : List Token) → Reads (Table line) first rest (in_table line (first ∷ rest) first rest)
 in_table_reads line first rest =
-    let R : Found → Type 0 = λ found. Reads (Table line) first rest found in
+    let R : NextItem → Type 0 = λ found. Reads (Table line) first rest found in
     let S : Option SymbolLine → Type 0 = λ found. Reads (Table line) first rest (symbol_found line (first ∷ rest) first found) in
     choose R (ends_table line first rest) _ _ (λ ends. fits (table_end line first rest ends))
     (λ no_end. choose S (is_behind line first) _ _ (λ behind. symbol_reads line first rest no_end behind)
@@ -282,9 +294,11 @@ in_table_reads line first rest =
 
 -- a section that opens
 
-opens_reads : (place : Where) (kind : BlockKind) (before : Option Section) (first : Token) (rest : List Token) → Reads place first rest (Misfit first.line (misfit_reason place (first ∷ rest))) →
-    ((its : Section) → is_word (section_word its) first ≡ true → may_open kind before its ≡ true → Reads place first rest (Fits (Starts its) 0 (Inside kind its []))) →
-    Reads place first rest (section_found kind (misfit_reason place (first ∷ rest)) first (section_at kind before first))
+opens_reads : (place : Where) (kind : BlockKind) (before : Option Section) (first : Token) (rest : List Token)
+    → Reads place first rest (Misfit first.line (misfit_reason place (first ∷ rest)))
+    → ((its : Section) → is_word (section_word its) first ≡ true → may_open kind before its ≡ true
+    → Reads place first rest (Fits (Starts its) 0 (Inside kind its [])))
+    → Reads place first rest (section_found kind (misfit_reason place (first ∷ rest)) first (section_at kind before first))
 opens_reads place kind before first rest missed opens = by (section_at kind before first) (section_is kind before first)
   where
     by : (o : Option Section) → OpensHere kind before first o → Reads place first rest (section_found kind (misfit_reason place (first ∷ rest)) first o)
@@ -293,20 +307,24 @@ opens_reads place kind before first rest missed opens = by (section_at kind befo
 
 -- behind a heading
 
-behind_heading_reads : (kind : BlockKind) (line : Line) (first : Token) (rest : List Token) → Reads (Heading kind line) first rest (behind_heading kind line (first ∷ rest) first rest)
+behind_heading_reads : (kind : BlockKind) (line : Line) (first : Token) (rest : List Token)
+    → Reads (Heading kind line) first rest (behind_heading kind line (first ∷ rest) first rest)
 behind_heading_reads kind line first rest =
-    let R : Found → Type 0 = λ found. Reads (Heading kind line) first rest found in
+    let R : NextItem → Type 0 = λ found. Reads (Heading kind line) first rest found in
     choose R (is_skipped line first rest) _ _ (λ is. fits (skipped_line kind line first rest is))
     (λ no_line. choose R (begins_body kind first) _ _
     (λ all. fits (begin kind line first rest no_line (not_true (is_data kind) (left_true (not (is_data kind)) (is_word (codes "BEGIN") first) all))
     (right_true (not (is_data kind)) (is_word (codes "BEGIN") first) all)))
-    (λ no_begin. opens_reads (Heading kind line) kind None first rest (misses (Heading kind line) first rest refl) (λ its word may. fits (first_section kind line its first rest no_line no_begin word may))))
+    (λ no_begin. opens_reads (Heading kind line) kind None first rest (misses (Heading kind line) first rest refl)
+    (λ its word may. fits (first_section kind line its first rest no_line no_begin word may))))
 
 -- among declarations
 
 -- the end of a STRUCT that does not fit has the line of its declaration
-unclosed : (kind : BlockKind) (section : Section) (level : Level) (levels : List Level) (first : Token) (rest : List Token) (found : Read (List InitialItem)) → is_word (codes "END_STRUCT") first ≡ true →
-    ending_at section level.in_array rest ≡ found → Reads (Inside kind section (level ∷ levels)) first rest (Misfit level.line (read_reason (first ∷ rest) found))
+unclosed : (kind : BlockKind) (section : Section) (level : Level) (levels : List Level) (first : Token) (rest : List Token) (found : Read (List InitialItem))
+    → is_word (codes "END_STRUCT") first ≡ true
+    → ending_at section level.in_array rest ≡ found
+    → Reads (Inside kind section (level ∷ levels)) first rest (Misfit level.line (read_reason (first ∷ rest) found))
 unclosed kind section level levels first rest found word is =
     let R : Line → Reason → Type 0 = λ line reason. Reads (Inside kind section (level ∷ levels)) first rest (Misfit line reason) in
     let place = Inside kind section (level ∷ levels) in
@@ -316,9 +334,10 @@ unclosed kind section level levels first rest found word is =
     if_true (is_word (codes "END_STRUCT") first) _ _ word ∙ ap (λ (r : Read (List InitialItem)). read_reason (first ∷ rest) r) is in
     subst (λ (l : Line). R l said) line (subst (λ (r : Reason). R (misfit_line place first) r) reason (misses place first rest refl))
 
-struct_reads : (kind : BlockKind) (section : Section) (level : Level) (levels : List Level) (first : Token) (rest : List Token) (found : Read (List InitialItem)) → is_word (codes "END_STRUCT") first ≡ true →
-    ending_at section level.in_array rest ≡ found → FrontOf rest (IsEnding section level.in_array) found →
-    Reads (Inside kind section (level ∷ levels)) first rest (struct_found kind section level.line levels (first ∷ rest) found)
+struct_reads : (kind : BlockKind) (section : Section) (level : Level) (levels : List Level) (first : Token)
+    (rest : List Token) (found : Read (List InitialItem)) → is_word (codes "END_STRUCT") first ≡ true
+    → ending_at section level.in_array rest ≡ found → FrontOf rest (IsEnding section level.in_array) found
+    → Reads (Inside kind section (level ∷ levels)) first rest (struct_found kind section level.line levels (first ∷ rest) found)
 struct_reads kind section level levels first rest (read.Fits items size) word is f =
     let R : List Token → ℕ → Type 0 = λ ts n. Reads (Inside kind section (level ∷ levels)) first ts (Fits (Closes items) n (Inside kind section levels)) in
     subst (λ (ts : List Token). R ts size) f.is
@@ -327,16 +346,18 @@ struct_reads kind section level levels first rest (read.LeftOut its) word is f =
 struct_reads kind section level levels first rest read.No word is f = unclosed kind section level levels first rest read.No word is
 
 -- the end of a data block's STRUCT that does not fit has its own
-unended : (kind : BlockKind) (first : Token) (rest : List Token) → is_word (codes "END_STRUCT") first ≡ true → Reads (Inside kind part.Own []) first rest (Misfit first.line BadStatement)
+unended : (kind : BlockKind) (first : Token) (rest : List Token) → is_word (codes "END_STRUCT") first ≡ true
+    → Reads (Inside kind part.Own []) first rest (Misfit first.line BadStatement)
 unended kind first rest word =
     let R : Reason → Type 0 = λ reason. Reads (Inside kind part.Own []) first rest (Misfit first.line reason) in
     let reason : misfit_reason (Inside kind part.Own []) (first ∷ rest) ≡ BadStatement = if_true (is_word (codes "END_STRUCT") first) _ _ word in
     subst R reason (misses (Inside kind part.Own []) first rest refl)
 
-end_reads : (kind : BlockKind) (section : Section) (first : Token) (rest : List Token) → ends_level section [] first ≡ true → Reads (Inside kind section []) first rest (section_end_found kind section first rest)
+end_reads : (kind : BlockKind) (section : Section) (first : Token) (rest : List Token) → ends_level section [] first ≡ true
+    → Reads (Inside kind section []) first rest (section_end_found kind section first rest)
 end_reads kind part.Own first [] word = unended kind first [] word
 end_reads kind part.Own first (sign ∷ rest) word =
-    let R : Found → Type 0 = λ found. Reads (Inside kind part.Own []) first (sign ∷ rest) found in
+    let R : NextItem → Type 0 = λ found. Reads (Inside kind part.Own []) first (sign ∷ rest) found in
     choose R (is_semicolon sign) _ _ (λ ends. fits (data_end kind first sign rest word ends)) (λ no_end. unended kind first (sign ∷ rest) word)
 end_reads kind part.Input first rest word = fits (section_end kind part.Input first rest refl word)
 end_reads kind part.Output first rest word = fits (section_end kind part.Output first rest refl word)
@@ -347,15 +368,18 @@ end_reads kind part.Temp first rest word = fits (section_end kind part.Temp firs
 closing_reads : (kind : BlockKind) (section : Section) (levels : List Level) (first : Token) (rest : List Token) → ends_level section levels first ≡ true →
     Reads (Inside kind section levels) first rest (closing_at kind section levels (first ∷ rest) first rest)
 closing_reads kind section [] first rest word = end_reads kind section first rest word
-closing_reads kind section (level ∷ levels) first rest word = struct_reads kind section level levels first rest (ending_at section level.in_array rest) word refl (ending_front section level.in_array rest)
+closing_reads kind section (level ∷ levels) first rest word =
+    struct_reads kind section level levels first rest (ending_at section level.in_array rest) word refl (ending_front section level.in_array rest)
 
 -- a declaration that does not fit has the line of its name
-inside_line : (kind : BlockKind) (section : Section) (levels : List Level) (first : Token) → ends_level section levels first ≡ false → level_line levels first ≡ first.line
+inside_line : (kind : BlockKind) (section : Section) (levels : List Level) (first : Token)
+    → ends_level section levels first ≡ false → level_line levels first ≡ first.line
 inside_line kind section [] first no_end = refl
 inside_line kind section (level ∷ levels) first no_end = if_false (is_word (codes "END_STRUCT") first) _ _ no_end
 
-undeclared : (kind : BlockKind) (section : Section) (levels : List Level) (first : Token) (rest : List Token) (found : Read Written) → ends_level section levels first ≡ false → declaration_at section (left_of levels) first rest ≡ found →
-    Reads (Inside kind section levels) first rest (Misfit first.line (declaration_reason (first ∷ rest) found))
+undeclared : (kind : BlockKind) (section : Section) (levels : List Level) (first : Token) (rest : List Token) (found : Read Written)
+    → ends_level section levels first ≡ false → declaration_at section (left_of levels) first rest ≡ found
+    → Reads (Inside kind section levels) first rest (Misfit first.line (declaration_reason (first ∷ rest) found))
 undeclared kind section levels first rest found no_end is =
     let R : Line → Reason → Type 0 = λ line reason. Reads (Inside kind section levels) first rest (Misfit line reason) in
     let place = Inside kind section levels in
@@ -364,8 +388,10 @@ undeclared kind section levels first rest found no_end is =
     subst (λ (l : Line). R l (declaration_reason (first ∷ rest) found)) (inside_line kind section levels first no_end)
     (subst (λ (r : Reason). R (misfit_line place first) r) reason (misses place first rest refl))
 
-declaration_reads : (kind : BlockKind) (section : Section) (levels : List Level) (first : Token) (rest : List Token) (found : Read Written) → ends_level section levels first ≡ false → declaration_at section (left_of levels) first rest ≡ found →
-    FrontOf rest (IsDeclaration section (left_of levels) first) found → Reads (Inside kind section levels) first rest (declaration_found kind section levels (first ∷ rest) first found)
+declaration_reads : (kind : BlockKind) (section : Section) (levels : List Level) (first : Token) (rest : List Token) (found : Read Written)
+    → ends_level section levels first ≡ false → declaration_at section (left_of levels) first rest ≡ found
+    → FrontOf rest (IsDeclaration section (left_of levels) first) found
+    → Reads (Inside kind section levels) first rest (declaration_found kind section levels (first ∷ rest) first found)
 declaration_reads kind section levels first rest (read.Fits type size) no_end is f =
     let R : List Token → ℕ → Type 0 = λ ts n. Reads (Inside kind section levels) first ts
     (Fits (Declares first.text first.line type) n (Inside kind section (levels_behind levels first.line type.innermost (length type.arrays)))) in
@@ -374,11 +400,13 @@ declaration_reads kind section levels first rest (read.Fits type size) no_end is
 declaration_reads kind section levels first rest (read.LeftOut its) no_end is f = undeclared kind section levels first rest (read.LeftOut its) no_end is
 declaration_reads kind section levels first rest read.No no_end is f = undeclared kind section levels first rest read.No no_end is
 
-inside_reads : (kind : BlockKind) (section : Section) (levels : List Level) (first : Token) (rest : List Token) → Reads (Inside kind section levels) first rest (inside_at kind section levels (first ∷ rest) first rest)
+inside_reads : (kind : BlockKind) (section : Section) (levels : List Level) (first : Token) (rest : List Token)
+    → Reads (Inside kind section levels) first rest (inside_at kind section levels (first ∷ rest) first rest)
 inside_reads kind section levels first rest =
-    let R : Found → Type 0 = λ found. Reads (Inside kind section levels) first rest found in
+    let R : NextItem → Type 0 = λ found. Reads (Inside kind section levels) first rest found in
     choose R (ends_level section levels first) _ _ (λ word. closing_reads kind section levels first rest word)
-    (λ no_end. declaration_reads kind section levels first rest (declaration_at section (left_of levels) first rest) no_end refl (declaration_front section (left_of levels) first rest))
+    (λ no_end. declaration_reads kind section levels first rest
+    (declaration_at section (left_of levels) first rest) no_end refl (declaration_front section (left_of levels) first rest))
 
 -- among the initial values of a data block
 
@@ -388,9 +416,12 @@ unvalued first rest found is =
     let R : Reason → Type 0 = λ reason. Reads Values first rest (Misfit first.line reason) in
     subst R (ap (λ (r : Read RawInitial). read_reason (first ∷ rest) r) is) (misses Values first rest refl)
 
-value_fits : (first : Token) (rest front behind : List Token) (its : RawInitial) (size : ℕ) → is_end block.Db first ≡ false → front ++ behind ≡ first ∷ rest → length front ≡ size →
-    IsInitial first.line front its → Reads Values first rest (Fits (Initial its) (size - 1) Values)
-value_fits first rest [] behind its size no_end at sized is = let some : 1 ≤ length {A = Token} [] = initial_some first.line [] its is in absurd (omega (arith, some))
+value_fits : (first : Token) (rest front behind : List Token) (its : RawInitial) (size : ℕ)
+    → is_end block.Db first ≡ false → front ++ behind ≡ first ∷ rest → length front ≡ size
+    → IsInitial first.line front its → Reads Values first rest (Fits (Initial its) (size - 1) Values)
+value_fits first rest [] behind its size no_end at sized is =
+    let some : 1 ≤ length {A = Token} [] = initial_some first.line [] its is in
+    absurd (omega (arith, some))
 value_fits first rest (head ∷ front) behind its size no_end at sized is =
     let same : head ≡ first = cc in
     let tail : front ++ behind ≡ rest = cc in
@@ -407,15 +438,17 @@ value_reads first rest read.No no_end is f = unvalued first rest read.No is
 
 values_reads : (first : Token) (rest : List Token) → Reads Values first rest (values_at (first ∷ rest) first)
 values_reads first rest =
-    let R : Found → Type 0 = λ found. Reads Values first rest found in
+    let R : NextItem → Type 0 = λ found. Reads Values first rest found in
     choose R (is_end block.Db first) _ _ (λ word. fits (values_end first rest word))
     (λ no_end. value_reads first rest (path_value_at first.line (first ∷ rest)) no_end refl (initial_front first.line (first ∷ rest)))
 
-behind_reads_begin : (kind : BlockKind) (before : Section) (first : Token) (rest : List Token) → Reads (Behind kind before) first rest (behind_at kind before (first ∷ rest) first)
+behind_reads_begin : (kind : BlockKind) (before : Section) (first : Token) (rest : List Token)
+    → Reads (Behind kind before) first rest (behind_at kind before (first ∷ rest) first)
 behind_reads_begin kind before first rest =
-    let R : Found → Type 0 = λ found. Reads (Behind kind before) first rest found in
+    let R : NextItem → Type 0 = λ found. Reads (Behind kind before) first rest found in
     choose R (is_word (codes "BEGIN") first) _ _ (λ word. fits (begin_behind kind before first rest word))
-    (λ no_word. opens_reads (Behind kind before) kind (Some before) first rest (misses (Behind kind before) first rest refl) (λ its word may. fits (later_section kind before its first rest word may)))
+    (λ no_word. opens_reads (Behind kind before) kind (Some before) first rest (misses (Behind kind before) first rest refl)
+    (λ its word may. fits (later_section kind before its first rest word may)))
 
 -- in a body
 
@@ -429,8 +462,10 @@ unfolding instruction_of
 never [] e = absurd cc
 never (first ∷ rest) e = never_lost first.line (statement_said (first ∷ rest)) e
 
-statement_reads : (kind : BlockKind) (first : Token) (rest : List Token) (said : Result RawInstr Rejection) → is_skipped_alone first ≡ false → is_end kind first ≡ false →
-    is_complete (first ∷ rest) ≡ true → instruction_of (statement_at (first ∷ rest)) ≡ said → Reads (Body kind) first rest (statement_found (Body kind) (first ∷ rest) first.line said)
+statement_reads : (kind : BlockKind) (first : Token) (rest : List Token) (said : Result RawInstr Rejection)
+    → is_skipped_alone first ≡ false → is_end kind first ≡ false
+    → is_complete (first ∷ rest) ≡ true → instruction_of (statement_at (first ∷ rest)) ≡ said
+    → Reads (Body kind) first rest (statement_found (Body kind) (first ∷ rest) first.line said)
 statement_reads kind first rest (Ok instr) no_skip no_end complete is =
     let tokens = first ∷ rest in
     let reaches : statement_size tokens < length tokens = ltb-true _ _ complete in
@@ -443,13 +478,14 @@ statement_reads kind first rest (Ok instr) no_skip no_end complete is =
     let P : List Token → Type 0 = λ ts. Reads (Body kind) first ts (Fits (Instr instr) (length (first ∷ s.front)) (Body kind)) in
     let Q : ℕ → Type 0 = λ n. Reads (Body kind) first rest (Fits (Instr instr) n (Body kind)) in
     subst Q (sym whole) (subst P (sym s.split)
-    (fits (statement kind first s.front s.sign s.rest instr no_skip no_end (size_open first s.front no_sign ∙ omega (arith, s.alone)) (sym (ap instruction_of front) ∙ is) s.ends)))
+    (fits (statement kind first s.front s.sign s.rest instr no_skip no_end
+    (size_open first s.front no_sign ∙ omega (arith, s.alone)) (sym (ap instruction_of front) ∙ is) s.ends)))
 statement_reads kind first rest (Err (Refused its_line reason)) no_skip no_end complete is = refuses kind first rest its_line reason no_skip no_end complete is
 statement_reads kind first rest (Err NoMemory) no_skip no_end complete is = absurd (never (statement_at (first ∷ rest)) is)
 
 body_reads : (kind : BlockKind) (first : Token) (rest : List Token) → Reads (Body kind) first rest (body_at kind (first ∷ rest) first)
 body_reads kind first rest =
-    let R : Found → Type 0 = λ found. Reads (Body kind) first rest found in
+    let R : NextItem → Type 0 = λ found. Reads (Body kind) first rest found in
     choose R (is_skipped_alone first) _ _ (λ is. fits (skipped_word kind first rest is))
     (λ no_skip. choose R (is_end kind first) _ _ (λ word. fits (end_word kind first rest no_skip word))
     (λ no_end. choose R (is_complete (first ∷ rest)) _ _
@@ -457,9 +493,11 @@ body_reads kind first rest =
     (λ cut. misses (Body kind) first rest cut)))
 
 token_reads : (place : Where) (first : Token) (rest : List Token) → Reads place first rest (at_token place (first ∷ rest) first rest)
-token_reads Start first rest = kind_reads Start _ first rest (heading_kind first) tt (misses Start first rest refl) refl (λ no_heading. table_reads first rest no_heading)
+token_reads Start first rest =
+    kind_reads Start _ first rest (heading_kind first) tt (misses Start first rest refl) refl (λ no_heading. table_reads first rest no_heading)
 token_reads (Table line) first rest = in_table_reads line first rest
-token_reads Between first rest = kind_reads Between _ first rest (heading_kind first) tt (misses Between first rest refl) refl (λ no_heading. misses Between first rest refl)
+token_reads Between first rest =
+    kind_reads Between _ first rest (heading_kind first) tt (misses Between first rest refl) refl (λ no_heading. misses Between first rest refl)
 token_reads (Heading kind line) first rest = behind_heading_reads kind line first rest
 token_reads (Inside kind its levels) first rest = inside_reads kind its levels first rest
 token_reads (Behind kind before) first rest = behind_reads_begin kind before first rest
@@ -473,18 +511,21 @@ formless end place tokens line reason misfit item size next is =
     let found : item_at end place tokens ≡ Fits item size next = form_found end place next tokens item size is in
     let apart : Fits item size next ≡ Misfit line reason = sym found ∙ misfit in absurd cc
 
-missed : (end : Line) (place : Where) (first : Token) (rest : List Token) (reason : Reason) → Says place first rest reason → HasNoForm place (first ∷ rest) → has_statement place (first ∷ rest) ≡ false →
-    IsItem end place (first ∷ rest) (Misfit (misfit_line place first) reason)
+missed : (end : Line) (place : Where) (first : Token) (rest : List Token) (reason : Reason)
+    → Says place first rest reason → HasNoForm place (first ∷ rest) → has_statement place (first ∷ rest) ≡ false
+    → IsItem end place (first ∷ rest) (Misfit (misfit_line place first) reason)
 missed end place first rest reason (by_left kind out) no_form no_statement = left_out first rest kind no_form out
 missed end place first rest reason (by_plain is no_left) no_form no_statement =
     subst (λ (r : Reason). IsItem end place (first ∷ rest) (Misfit (misfit_line place first) r)) is (none first rest no_form no_left no_statement)
 
-settled : (end : Line) (place : Where) (first : Token) (rest : List Token) (found : Found) → Reads place first rest found → item_at end place (first ∷ rest) ≡ found →
-    IsItem end place (first ∷ rest) found
+settled : (end : Line) (place : Where) (first : Token) (rest : List Token) (found : NextItem)
+    → Reads place first rest found → item_at end place (first ∷ rest) ≡ found
+    → IsItem end place (first ∷ rest) found
 settled end place first rest found (fits is) e = form is
 settled end place first rest found (misses its_place its_first its_rest no_statement) e =
     missed end place first rest (misfit_reason place (first ∷ rest)) (says place first rest) (formless end place (first ∷ rest) _ _ e) no_statement
-settled end place first rest found (refuses kind its_first its_rest its_line reason no_skip no_end complete is) e = no_instruction kind first rest no_skip no_end complete is
+settled end place first rest found (refuses kind its_first its_rest its_line reason no_skip no_end complete is) e =
+    no_instruction kind first rest no_skip no_end complete is
 
 end_is : (end : Line) (place : Where) → IsItem end place [] (item_at end place [])
 unfolding item_at
@@ -510,30 +551,35 @@ sound end place (first ∷ rest) = token_is end place first rest
 
 -- two answers of the relation to one place are one
 
-one_left : (end : Line) (place : Where) (first : Token) (rest : List Token) (kind : Kind) (found : Found) → IsItem end place (first ∷ rest) found → HasNoForm place (first ∷ rest) →
-    LeavesOutForm place (first ∷ rest) kind → found ≡ Misfit (misfit_line place first) (Unsupported kind)
+one_left : (end : Line) (place : Where) (first : Token) (rest : List Token) (kind : Kind) (found : NextItem)
+    → IsItem end place (first ∷ rest) found → HasNoForm place (first ∷ rest)
+    → LeavesOutForm place (first ∷ rest) kind → found ≡ Misfit (misfit_line place first) (Unsupported kind)
 one_left end place first rest kind found (form is) no_form out = absurd (no_form _ _ _ is)
-one_left end place first rest kind found (no_instruction its its_first its_rest no_skip no_end complete is) no_form out = absurd (no_left_body its first rest kind out)
+one_left end place first rest kind found (no_instruction its its_first its_rest no_skip no_end complete is) no_form out =
+    absurd (no_left_body its first rest kind out)
 one_left end place first rest kind found (left_out its_first its_rest its no_other its_out) no_form out =
     let same : Unsupported its ≡ Unsupported kind = sym (left_says place first rest its its_out) ∙ left_says place first rest kind out in
     ap (λ (reason : Reason). Misfit (misfit_line place first) reason) same
 one_left end place first rest kind found (none its_first its_rest no_other no_left no_more) no_form out = absurd (no_left kind out)
 
-one : (end : Line) (place : Where) (first : Token) (rest : List Token) (found : Found) → IsItem end place (first ∷ rest) found → HasNoForm place (first ∷ rest) →
-    ((kind : Kind) → LeavesOutForm place (first ∷ rest) kind → ⊥) → has_statement place (first ∷ rest) ≡ false → found ≡ Misfit (misfit_line place first) (plain_reason place (first ∷ rest))
+one : (end : Line) (place : Where) (first : Token) (rest : List Token) (found : NextItem)
+    → IsItem end place (first ∷ rest) found → HasNoForm place (first ∷ rest)
+    → ((kind : Kind) → LeavesOutForm place (first ∷ rest) kind → ⊥) → has_statement place (first ∷ rest) ≡ false
+    → found ≡ Misfit (misfit_line place first) (plain_reason place (first ∷ rest))
 one end place first rest found (form is) no_form no_left no_statement = absurd (no_form _ _ _ is)
 one end place first rest found (no_instruction kind its_first its_rest no_skip no_end complete is) no_form no_left no_statement = absurd cc
 one end place first rest found (left_out its_first its_rest kind no_other out) no_form no_left no_statement = absurd (no_left kind out)
 one end place first rest found (none its_first its_rest no_other none_left no_more) no_form no_left no_statement = refl
 
-pub complete : (end : Line) (place : Where) (tokens : List Token) (found : Found) → IsItem end place tokens found → item_at end place tokens ≡ found
+pub complete : (end : Line) (place : Where) (tokens : List Token) (found : NextItem) → IsItem end place tokens found → item_at end place tokens ≡ found
 unfolding item_at
 complete end place tokens found (form {next = next} {item = item} {size = size} is) = form_found end place next tokens item size is
 complete end place tokens found (no_instruction kind first rest no_skip no_end whole is) =
     if_false (is_skipped_alone first) _ _ no_skip ∙ if_false (is_end kind first) _ _ no_end
     ∙ if_true (is_complete (first ∷ rest)) _ _ whole
     ∙ ap (λ (r : Result RawInstr Rejection). statement_found (Body kind) (first ∷ rest) first.line r) is
-complete end place tokens found (left_out first rest kind no_form out) = one_left end place first rest kind (item_at end place (first ∷ rest)) (sound end place (first ∷ rest)) no_form out
+complete end place tokens found (left_out first rest kind no_form out) =
+    one_left end place first rest kind (item_at end place (first ∷ rest)) (sound end place (first ∷ rest)) no_form out
 complete end place tokens found (none first rest no_form no_left no_statement) =
     one end place first rest (item_at end place (first ∷ rest)) (sound end place (first ∷ rest)) no_form no_left no_statement
 complete end place tokens found at_start = refl

@@ -25,9 +25,9 @@ use Rattle.stl_grammar.specs.declared.declaration.Section.{Section}
 use Rattle.stl_grammar.specs.declared.declaration.Written.{Written}
 use Rattle.stl_grammar.specs.declared.item.Where.{Where}
 use Rattle.stl_grammar.specs.declared.item.Where.TheVariants.{Start, Table, Between, Heading, Inside, Behind, Body, Values}
-use Rattle.stl_statements.specs.Words.{is_quoted_kind, is_word}
-use Rattle.stl_statements.specs.declared.mnemonic.Read.{Read}
-use Rattle.stl_statements.specs.declared.mnemonic.Read.TheVariants as read
+use Rattle.stl_statement_grammar.specs.Words.{is_quoted_kind, is_word}
+use Rattle.stl_statement_grammar.specs.declared.mnemonic.Read.{Read}
+use Rattle.stl_statement_grammar.specs.declared.mnemonic.Read.TheVariants as read
 use Rattle.stl_tree.specs.declared.raw.BlockKind.{BlockKind}
 use Rattle.stl_tree.specs.declared.raw.BlockKind.TheVariants as block
 use Rattle.stl_tree.specs.declared.raw.InitialItem.{InitialItem}
@@ -49,7 +49,9 @@ sfb_starts : (word : Token) (rest : List Token) → has_number (codes "SFB") wor
 sfb_starts word rest h = number_starts (codes "SFB") 115 (102 ∷ 98 ∷ []) word rest refl h
 
 no_instance : (b : ℕ) (first : Token) (rest : List Token) → Starts b first → (102 ≡ b → ⊥) → is_instance first rest ≡ false
-no_instance b first rest starts other = or_from (is_quoted_kind first.kind) (has_number (codes "FB") first rest) (word_no_quoted first starts.kind_is) (by (has_number (codes "FB") first rest) refl)
+no_instance b first rest starts other =
+    or_from (is_quoted_kind first.kind) (has_number (codes "FB") first rest)
+    (word_no_quoted first starts.kind_is) (by (has_number (codes "FB") first rest) refl)
   where
     by : (is : Bool) → has_number (codes "FB") first rest ≡ is → is ≡ false
     by true is = absurd (other (starts_apart 102 b first (fb_starts first rest is) starts))
@@ -70,7 +72,8 @@ system_no_instance first rest is = no_instance 115 first rest (sfb_starts first 
 
 -- From a form that is left out to the reason
 
-type_says : (place : Where) (first : Token) (rest : List Token) → MayOpen place → is_word (codes "TYPE") first ≡ true → misfit_reason place (first ∷ rest) ≡ Unsupported UserType
+type_says : (place : Where) (first : Token) (rest : List Token) → MayOpen place
+    → is_word (codes "TYPE") first ≡ true → misfit_reason place (first ∷ rest) ≡ Unsupported UserType
 type_says Start first rest may word = if_true (is_word (codes "TYPE") first) _ _ word
 type_says (Table line) first rest may word = absurd may
 type_says Between first rest may word = if_true (is_word (codes "TYPE") first) _ _ word
@@ -97,9 +100,11 @@ tokens_say place tokens k (form.at_a_struct_end kind part level levels first res
     ∙ ap (λ (r : Read (List InitialItem)). read_reason (first ∷ rest) r) (ending_left part level.in_array rest its out)
     ∙ if_true (is_complete (first ∷ rest)) _ _ complete
 tokens_say place tokens k (form.in_a_value first rest its out complete) =
-    ap (λ (r : Read RawInitial). read_reason (first ∷ rest) r) (initial_left first.line (first ∷ rest) its out) ∙ if_true (is_complete (first ∷ rest)) _ _ complete
+    ap (λ (r : Read RawInitial). read_reason (first ∷ rest) r) (initial_left first.line (first ∷ rest) its out)
+    ∙ if_true (is_complete (first ∷ rest)) _ _ complete
 
-pub left_says : (place : Where) (first : Token) (rest : List Token) (k : Kind) → LeavesOutForm place (first ∷ rest) k → misfit_reason place (first ∷ rest) ≡ Unsupported k
+pub left_says : (place : Where) (first : Token) (rest : List Token) (k : Kind)
+    → LeavesOutForm place (first ∷ rest) k → misfit_reason place (first ∷ rest) ≡ Unsupported k
 left_says place first rest k out = tokens_say place (first ∷ rest) k out
 
 -- Where nothing is left out
@@ -116,7 +121,8 @@ clash : {A : Type 0} (b : Bool) → b ≡ true → b ≡ false → A
 clash b one two = let apart : true ≡ false = sym one ∙ two in absurd cc
 
 -- where a block may open only a type of the user's own is left out
-only_type : (place : Where) (tokens : List Token) (k : Kind) → LeavesOutForm place tokens k → (first : Token) (rest : List Token) → tokens ≡ first ∷ rest → MayOpen place → is_word (codes "TYPE") first ≡ true
+only_type : (place : Where) (tokens : List Token) (k : Kind) → LeavesOutForm place tokens k
+    → (first : Token) (rest : List Token) → tokens ≡ first ∷ rest → MayOpen place → is_word (codes "TYPE") first ≡ true
 only_type place tokens k (form.user_type its head more may word) first rest e its_may =
     let same : head ≡ first = cc in subst (λ (t : Token). is_word (codes "TYPE") t ≡ true) same word
 only_type place tokens k (form.data_of_a_type line head more is) first rest e may = absurd may
@@ -162,7 +168,8 @@ no_left_body kind first rest k out = none_plain (Body kind) (first ∷ rest) k o
 opening_says : (place : Where) (first : Token) (rest : List Token) → MayOpen place → (reason : Reason) → plain_reason place (first ∷ rest) ≡ reason →
     Says place first rest (if is_word (codes "TYPE") first then Unsupported UserType else reason)
 opening_says place first rest may reason is =
-    choose (Says place first rest) (is_word (codes "TYPE") first) (Unsupported UserType) reason (λ word. by_left UserType (form.user_type place first rest may word))
+    choose (Says place first rest) (is_word (codes "TYPE") first) (Unsupported UserType) reason
+    (λ word. by_left UserType (form.user_type place first rest may word))
     (λ no_word. by_plain is (λ k out. clash (is_word (codes "TYPE") first) (only_type place (first ∷ rest) k out first rest refl may) no_word))
 
 -- where the STRUCT of a data block may stand
@@ -173,10 +180,12 @@ data_left line first rest k (form.user_type place head more may word) = absurd m
 data_left line first rest k (form.data_of_a_type its head more is) = inl is
 data_left line first rest k (form.data_of_the_system its head more is) = inr is
 
-no_data_left : (line : Line) (first : Token) (rest : List Token) → ((is_user_type first rest ≡ true) ⊎ (has_number (codes "SFB") first rest ≡ true) → ⊥) → NoneLeft (Heading block.Db line) first rest
+no_data_left : (line : Line) (first : Token) (rest : List Token)
+    → ((is_user_type first rest ≡ true) ⊎ (has_number (codes "SFB") first rest ≡ true) → ⊥) → NoneLeft (Heading block.Db line) first rest
 no_data_left line first rest none k out = none (data_left line first rest k out)
 
-instance_apart : (first : Token) (rest : List Token) → is_instance first rest ≡ true → (is_user_type first rest ≡ true) ⊎ (has_number (codes "SFB") first rest ≡ true) → ⊥
+instance_apart : (first : Token) (rest : List Token) → is_instance first rest ≡ true
+    → (is_user_type first rest ≡ true) ⊎ (has_number (codes "SFB") first rest ≡ true) → ⊥
 instance_apart first rest is (inl user) = clash (is_instance first rest) is (user_no_instance first rest user)
 instance_apart first rest is (inr system) = clash (is_instance first rest) is (system_no_instance first rest system)
 
@@ -191,8 +200,10 @@ data_says line first rest =
     choose R (is_instance first rest) (Unsupported NotBuilt) _
     (λ is. by_plain (ap (λ (b : Bool). if b then Unsupported NotBuilt else BadStatement) is) (no_data_left line first rest (instance_apart first rest is)))
     (λ no. choose R (is_user_type first rest) (Unsupported UserType) _ (λ user. by_left UserType (form.data_of_a_type line first rest user))
-    (λ no_user. choose R (has_number (codes "SFB") first rest) (Unsupported SystemCall) BadStatement (λ system. by_left SystemCall (form.data_of_the_system line first rest system))
-    (λ no_system. by_plain (ap (λ (b : Bool). if b then Unsupported NotBuilt else BadStatement) no) (no_data_left line first rest (neither first rest no_user no_system)))))
+    (λ no_user. choose R (has_number (codes "SFB") first rest) (Unsupported SystemCall) BadStatement
+    (λ system. by_left SystemCall (form.data_of_the_system line first rest system))
+    (λ no_system. by_plain (ap (λ (b : Bool). if b then Unsupported NotBuilt else BadStatement) no)
+    (no_data_left line first rest (neither first rest no_user no_system)))))
 
 -- among declarations
 
@@ -200,39 +211,55 @@ record CutDeclaration (kind : BlockKind) (section : Section) (levels : List Leve
   out : LeavesOutDeclaration section (left_of levels) first rest k
   whole : is_complete (first ∷ rest) ≡ true
 
-inside_left : (kind : BlockKind) (section : Section) (levels : List Level) (first : Token) (rest : List Token) (k : Kind) → LeavesOutForm (Inside kind section levels) (first ∷ rest) k → ends_level section levels first ≡ false →
-    CutDeclaration kind section levels first rest k
+inside_left : (kind : BlockKind) (section : Section) (levels : List Level) (first : Token) (rest : List Token) (k : Kind)
+    → LeavesOutForm (Inside kind section levels) (first ∷ rest) k → ends_level section levels first ≡ false
+    → CutDeclaration kind section levels first rest k
 inside_left kind section levels first rest k (form.user_type place head more may word) no_end = absurd may
-inside_left kind section levels first rest k (form.in_a_declaration its its_section its_levels head more its_kind other out complete) no_end = record { out = out; whole = complete }
-inside_left kind section levels first rest k (form.at_a_struct_end its its_section level its_levels head more its_kind word out complete) no_end = clash (is_word (codes "END_STRUCT") first) word no_end
+inside_left kind section levels first rest k (form.in_a_declaration its its_section its_levels head more its_kind other out complete) no_end =
+    record { out = out; whole = complete }
+inside_left kind section levels first rest k (form.at_a_struct_end its its_section level its_levels head more its_kind word out complete) no_end =
+    clash (is_word (codes "END_STRUCT") first) word no_end
 
 record CutEnding (kind : BlockKind) (section : Section) (level : Level) (first : Token) (rest : List Token) (k : Kind) : Type 0 where
   out : LeavesOutEnding section level.in_array rest k
   whole : is_complete (first ∷ rest) ≡ true
 
-struct_left : (kind : BlockKind) (section : Section) (level : Level) (levels : List Level) (first : Token) (rest : List Token) (k : Kind) → LeavesOutForm (Inside kind section (level ∷ levels)) (first ∷ rest) k →
-    is_word (codes "END_STRUCT") first ≡ true → CutEnding kind section level first rest k
+struct_left : (kind : BlockKind) (section : Section) (level : Level) (levels : List Level) (first : Token) (rest : List Token) (k : Kind)
+    → LeavesOutForm (Inside kind section (level ∷ levels)) (first ∷ rest) k
+    → is_word (codes "END_STRUCT") first ≡ true → CutEnding kind section level first rest k
 struct_left kind section level levels first rest k (form.user_type place head more may word) is = absurd may
-struct_left kind section level levels first rest k (form.in_a_declaration its its_section its_levels head more its_kind no_end out complete) is = clash (is_word (codes "END_STRUCT") first) is no_end
-struct_left kind section level levels first rest k (form.at_a_struct_end its its_section its_level its_levels head more its_kind word out complete) is = record { out = out; whole = complete }
+struct_left kind section level levels first rest k (form.in_a_declaration its its_section its_levels head more its_kind no_end out complete) is =
+    clash (is_word (codes "END_STRUCT") first) is no_end
+struct_left kind section level levels first rest k (form.at_a_struct_end its its_section its_level its_levels head more its_kind word out complete) is =
+    record { out = out; whole = complete }
 
-top_left : (kind : BlockKind) (section : Section) (first : Token) (rest : List Token) (k : Kind) → LeavesOutForm (Inside kind section []) (first ∷ rest) k → ends_level section [] first ≡ true → ⊥
+top_left : (kind : BlockKind) (section : Section) (first : Token) (rest : List Token) (k : Kind)
+    → LeavesOutForm (Inside kind section []) (first ∷ rest) k → ends_level section [] first ≡ true → ⊥
 top_left kind section first rest k (form.user_type place head more may word) is = may
-top_left kind section first rest k (form.in_a_declaration its its_section its_levels head more its_kind no_end out complete) is = clash (ends_level section [] first) is no_end
+top_left kind section first rest k (form.in_a_declaration its its_section its_levels head more its_kind no_end out complete) is =
+    clash (ends_level section [] first) is no_end
 
 -- plain reasons among declarations
 
-plain_at_end : (kind : BlockKind) (section : Section) (levels : List Level) (first : Token) (rest : List Token) → ends_level section levels first ≡ true → plain_reason (Inside kind section levels) (first ∷ rest) ≡ BadStatement
+plain_at_end : (kind : BlockKind) (section : Section) (levels : List Level) (first : Token) (rest : List Token)
+    → ends_level section levels first ≡ true → plain_reason (Inside kind section levels) (first ∷ rest) ≡ BadStatement
 plain_at_end kind section levels first rest ends =
-    ap (λ (b : Bool). if (if b || begins_with_name (first ∷ rest) then false else is_not_built false false (first ∷ rest)) then Unsupported NotBuilt else BadStatement) ends
+    ap
+    (λ (b : Bool). if (if b || begins_with_name (first ∷ rest) then false else is_not_built false false (first ∷ rest)) then Unsupported NotBuilt
+    else BadStatement) ends
 
-plain_behind : (kind : BlockKind) (section : Section) (levels : List Level) (first : Token) (rest : List Token) → ends_level section levels first ≡ false →
-    plain_reason (Inside kind section levels) (first ∷ rest) ≡ (if begins_with_name (first ∷ rest) then BadStatement else reason_with false false (first ∷ rest))
+plain_behind : (kind : BlockKind) (section : Section) (levels : List Level) (first : Token) (rest : List Token) → ends_level section levels first ≡ false
+    → plain_reason (Inside kind section levels) (first ∷ rest)
+    ≡ (if begins_with_name (first ∷ rest) then BadStatement else reason_with false false (first ∷ rest))
 plain_behind kind section levels first rest no_end =
-    ap (λ (b : Bool). if (if b || begins_with_name (first ∷ rest) then false else is_not_built false false (first ∷ rest)) then Unsupported NotBuilt else BadStatement) no_end
+    ap
+    (λ (b : Bool). if (if b || begins_with_name (first ∷ rest) then false else is_not_built false false (first ∷ rest)) then Unsupported NotBuilt
+    else BadStatement) no_end
     ∙ by (begins_with_name (first ∷ rest)) (is_not_built false false (first ∷ rest))
   where
-    by : (b c : Bool) → (if (if b then false else c) then Unsupported NotBuilt else BadStatement) ≡ (if b then BadStatement else if c then Unsupported NotBuilt else BadStatement)
+    by : (b c : Bool)
+        → (if (if b then false else c) then Unsupported NotBuilt else BadStatement)
+        ≡ (if b then BadStatement else if c then Unsupported NotBuilt else BadStatement)
     by true c = refl
     by false c = refl
 
@@ -242,8 +269,9 @@ lost kind r one two = let apart : read.LeftOut kind ≡ read.No = sym one ∙ tw
 lost_fits : {A : Type 0} (kind : Kind) (r : Read A) (a : A) (size : ℕ) → r ≡ read.LeftOut kind → r ≡ read.Fits a size → ⊥
 lost_fits kind r a size one two = let apart : read.LeftOut kind ≡ read.Fits a size = sym one ∙ two in absurd cc
 
-struct_says : (kind : BlockKind) (section : Section) (level : Level) (levels : List Level) (first : Token) (rest : List Token) → is_word (codes "END_STRUCT") first ≡ true →
-    Says (Inside kind section (level ∷ levels)) first rest (read_reason (first ∷ rest) (ending_at section level.in_array rest))
+struct_says : (kind : BlockKind) (section : Section) (level : Level) (levels : List Level) (first : Token) (rest : List Token)
+    → is_word (codes "END_STRUCT") first ≡ true
+    → Says (Inside kind section (level ∷ levels)) first rest (read_reason (first ∷ rest) (ending_at section level.in_array rest))
 struct_says kind section level levels first rest word = by (ending_at section level.in_array rest) refl (ending_out section level.in_array rest)
   where
     none : ((k : Kind) → ending_at section level.in_array rest ≡ read.LeftOut k → ⊥) → NoneLeft (Inside kind section (level ∷ levels)) first rest
@@ -265,7 +293,8 @@ closing_says kind section [] first rest ends = by_plain (plain_at_end kind secti
 closing_says kind section (level ∷ levels) first rest ends = struct_says kind section level levels first rest ends
 
 -- a declaration in which something is left out begins with a name and a colon
-left_begins : (section : Section) (left : ℕ) (name : Token) (rest : List Token) (k : Kind) → LeavesOutDeclaration section left name rest k → begins_with_name (name ∷ rest) ≡ true
+left_begins : (section : Section) (left : ℕ) (name : Token) (rest : List Token) (k : Kind)
+    → LeavesOutDeclaration section left name rest k → begins_with_name (name ∷ rest) ≡ true
 left_begins section left name rest k (declared.in_type colon more its named out) = and_from _ _ named.name_is named.colon_is
 left_begins section left name rest k (declared.with_date colon front more type named is date has) = and_from _ _ named.name_is named.colon_is
 left_begins section left name rest k (declared.in_ending colon front more type its named is has out) = and_from _ _ named.name_is named.colon_is
@@ -278,20 +307,23 @@ declaration_says kind section levels first rest no_end =
     none : ((k : Kind) → declaration_at section (left_of levels) first rest ≡ read.LeftOut k → ⊥) → NoneLeft (Inside kind section levels) first rest
     none never k out = never k (declaration_left section (left_of levels) first rest k (inside_left kind section levels first rest k out no_end).out)
 
-    by : (r : Read Written) → declaration_at section (left_of levels) first rest ≡ r → OutOf (λ k. LeavesOutDeclaration section (left_of levels) first rest k) r →
-        Says (Inside kind section levels) first rest (declaration_reason (first ∷ rest) r)
+    by : (r : Read Written) → declaration_at section (left_of levels) first rest ≡ r → OutOf (λ k. LeavesOutDeclaration section (left_of levels) first rest k) r
+        → Says (Inside kind section levels) first rest (declaration_reason (first ∷ rest) r)
     by read.No e out = by_plain (plain_behind kind section levels first rest no_end) (none (λ k is. lost k _ is e))
     by (read.Fits type size) e out = by_plain (plain_behind kind section levels first rest no_end) (none (λ k is. lost_fits k _ type size is e))
     by (read.LeftOut k) e out =
         choose (Says (Inside kind section levels) first rest) (is_complete (first ∷ rest)) (Unsupported k) BadStatement
         (λ complete. by_left k (form.in_a_declaration kind section levels first rest k no_end out complete))
         (λ cut. by_plain
-        (plain_behind kind section levels first rest no_end ∙ if_true (begins_with_name (first ∷ rest)) _ _ (left_begins section (left_of levels) first rest k out))
+        (plain_behind kind section levels first rest no_end
+        ∙ if_true (begins_with_name (first ∷ rest)) _ _ (left_begins section (left_of levels) first rest k out))
         (λ its left. clash (is_complete (first ∷ rest)) (inside_left kind section levels first rest its left no_end).whole cut))
 
-inside_says : (kind : BlockKind) (section : Section) (levels : List Level) (first : Token) (rest : List Token) → Says (Inside kind section levels) first rest (misfit_reason (Inside kind section levels) (first ∷ rest))
+inside_says : (kind : BlockKind) (section : Section) (levels : List Level) (first : Token) (rest : List Token)
+    → Says (Inside kind section levels) first rest (misfit_reason (Inside kind section levels) (first ∷ rest))
 inside_says kind section levels first rest =
-    choose (Says (Inside kind section levels) first rest) (ends_level section levels first) _ _ (λ ends. closing_says kind section levels first rest ends) (λ no_end. declaration_says kind section levels first rest no_end)
+    choose (Says (Inside kind section levels) first rest) (ends_level section levels first) _ _
+    (λ ends. closing_says kind section levels first rest ends) (λ no_end. declaration_says kind section levels first rest no_end)
 
 -- among the initial values of a data block
 
@@ -309,22 +341,26 @@ value_says first rest = by (path_value_at first.line (first ∷ rest)) refl (ini
     none : ((k : Kind) → path_value_at first.line (first ∷ rest) ≡ read.LeftOut k → ⊥) → NoneLeft Values first rest
     none never k out = never k (initial_left first.line (first ∷ rest) k (value_left first rest k out).out)
 
-    by : (r : Read RawInitial) → path_value_at first.line (first ∷ rest) ≡ r → OutOf (λ k. LeavesOutInitial (first ∷ rest) k) r → Says Values first rest (read_reason (first ∷ rest) r)
+    by : (r : Read RawInitial) → path_value_at first.line (first ∷ rest) ≡ r
+        → OutOf (λ k. LeavesOutInitial (first ∷ rest) k) r → Says Values first rest (read_reason (first ∷ rest) r)
     by read.No e out = by_plain refl (none (λ k is. lost k _ is e))
     by (read.Fits its size) e out = by_plain refl (none (λ k is. lost_fits k _ its size is e))
     by (read.LeftOut k) e out =
-        choose (Says Values first rest) (is_complete (first ∷ rest)) (Unsupported k) BadStatement (λ complete. by_left k (form.in_a_value first rest k out complete))
+        choose (Says Values first rest) (is_complete (first ∷ rest)) (Unsupported k) BadStatement
+        (λ complete. by_left k (form.in_a_value first rest k out complete))
         (λ cut. by_plain refl (λ its left. clash (is_complete (first ∷ rest)) (value_left first rest its left).whole cut))
 
 -- at each place
 
-heading_says : (kind : BlockKind) (line : Line) (first : Token) (rest : List Token) → Says (Heading kind line) first rest (misfit_reason (Heading kind line) (first ∷ rest))
+heading_says : (kind : BlockKind) (line : Line) (first : Token) (rest : List Token)
+    → Says (Heading kind line) first rest (misfit_reason (Heading kind line) (first ∷ rest))
 heading_says block.Ob line first rest = by_plain refl (λ k out. none_plain (Heading block.Ob line) (first ∷ rest) k out tt)
 heading_says block.Fc line first rest = by_plain refl (λ k out. none_plain (Heading block.Fc line) (first ∷ rest) k out tt)
 heading_says block.Fb line first rest = by_plain refl (λ k out. none_plain (Heading block.Fb line) (first ∷ rest) k out tt)
 heading_says block.Db line first rest = data_says line first rest
 
-behind_says : (kind : BlockKind) (section : Section) (first : Token) (rest : List Token) → Says (Behind kind section) first rest (misfit_reason (Behind kind section) (first ∷ rest))
+behind_says : (kind : BlockKind) (section : Section) (first : Token) (rest : List Token)
+    → Says (Behind kind section) first rest (misfit_reason (Behind kind section) (first ∷ rest))
 behind_says block.Ob section first rest = by_plain refl (λ k out. none_plain (Behind block.Ob section) (first ∷ rest) k out tt)
 behind_says block.Fc section first rest = by_plain refl (λ k out. none_plain (Behind block.Fc section) (first ∷ rest) k out tt)
 behind_says block.Fb section first rest = by_plain refl (λ k out. none_plain (Behind block.Fb section) (first ∷ rest) k out tt)

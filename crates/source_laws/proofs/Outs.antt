@@ -4,9 +4,9 @@ use Rattle.std.proofs.Math.Seq.{drop-append_seam}
 use Rattle.s7_base.specs.declared.reason.Kind.{Kind}
 use Rattle.s7_base.specs.declared.token.Token.{Token}
 use Rattle.stl_places.proofs.Fronts.{Front, FrontOf}
-use Rattle.stl_statements.specs.Readers.{and_then, fitting, further, or_else, read_as}
-use Rattle.stl_statements.specs.declared.mnemonic.Read.{Read}
-use Rattle.stl_statements.specs.declared.mnemonic.Read.TheVariants.{Fits, LeftOut, No}
+use Rattle.stl_statement_grammar.specs.Readers.{and_then, fitting, further, or_else, read_as}
+use Rattle.stl_statement_grammar.specs.declared.mnemonic.Read.{Read}
+use Rattle.stl_statement_grammar.specs.declared.mnemonic.Read.TheVariants.{Fits, LeftOut, No}
 
 -- the kind of what was left out is so
 abbrev pub OutOf : {A : Type 0} → (Kind → Type 0) → Read A → Type 0
@@ -43,8 +43,9 @@ pub dropped : (tokens : List Token) (size : ℕ) (P : List Token → Type 0) (f 
 dropped tokens size P f =
     ap (λ (n : ℕ). drop n tokens) (sym f.size_is) ∙ ap (λ (ts : List Token). drop (length f.front) ts) (sym f.is) ∙ drop-append_seam f.front f.rest
 
-pub and_then_out : {A B : Type 0} (tokens : List Token) (P : List Token → A → Type 0) (Q : Kind → Type 0) (r : Read A) (next : A → List Token → Read B) → FrontOf tokens P r → OutOf Q r →
-    ((front rest : List Token) (a : A) → front ++ rest ≡ tokens → P front a → OutOf Q (next a rest)) → OutOf Q (and_then tokens r next)
+pub and_then_out : {A B : Type 0} (tokens : List Token) (P : List Token → A → Type 0) (Q : Kind → Type 0) (r : Read A) (next : A → List Token → Read B)
+    → FrontOf tokens P r → OutOf Q r
+    → ((front rest : List Token) (a : A) → front ++ rest ≡ tokens → P front a → OutOf Q (next a rest)) → OutOf Q (and_then tokens r next)
 and_then_out tokens P Q No next f p h = tt
 and_then_out tokens P Q (LeftOut kind) next f p h = p
 and_then_out {B = B} tokens P Q (Fits a size) next f p h =
@@ -54,5 +55,6 @@ and_then_out {B = B} tokens P Q (Fits a size) next f p h =
 pub or_left : {A : Type 0} (a b : Read A) (kind : Kind) → a ≡ LeftOut kind → or_else a b ≡ LeftOut kind
 or_left a b kind e = ap (λ (r : Read _). or_else r b) e
 
-pub and_then_left : {A B : Type 0} (tokens : List Token) (r : Read A) (next : A → List Token → Read B) (kind : Kind) → r ≡ LeftOut kind → and_then tokens r next ≡ LeftOut kind
+pub and_then_left : {A B : Type 0} (tokens : List Token) (r : Read A) (next : A → List Token → Read B) (kind : Kind)
+    → r ≡ LeftOut kind → and_then tokens r next ≡ LeftOut kind
 and_then_left tokens r next kind e = ap (λ (x : Read _). and_then tokens x next) e

@@ -7,13 +7,14 @@ use Rattle.stl_constants.proofs.Reading.{if_false, if_true, other_word}
 use Rattle.stl_grammar.specs.Sections.{formal_or_inner, formal_section, if_open, inner_section, may_open, section_at, section_named, section_word}
 use Rattle.stl_grammar.specs.declared.declaration.Section.{Section}
 use Rattle.stl_grammar.specs.declared.declaration.Section.TheVariants as part
-use Rattle.stl_statements.specs.Words.{is_word}
+use Rattle.stl_statement_grammar.specs.Words.{is_word}
 use Rattle.stl_tree.specs.declared.raw.BlockKind.{BlockKind}
 
 -- From a word to its section
 
-no_formal : (word : Token) (text : List ℕ) → is_word text word ≡ true → is_same_word (codes "VAR_INPUT") text ≡ false → is_same_word (codes "VAR_OUTPUT") text ≡ false →
-    is_same_word (codes "VAR_IN_OUT") text ≡ false → formal_section word ≡ None
+no_formal : (word : Token) (text : List ℕ) → is_word text word ≡ true
+    → is_same_word (codes "VAR_INPUT") text ≡ false → is_same_word (codes "VAR_OUTPUT") text ≡ false
+    → is_same_word (codes "VAR_IN_OUT") text ≡ false → formal_section word ≡ None
 no_formal word text is a b c =
     if_false (is_word (codes "VAR_INPUT") word) _ _ (other_word text (codes "VAR_INPUT") word is a)
     ∙ if_false (is_word (codes "VAR_OUTPUT") word) _ _ (other_word text (codes "VAR_OUTPUT") word is b)
@@ -29,7 +30,8 @@ named_read : (section : Section) (word : Token) → is_word (section_word sectio
 named_read part.Input word is = formal_read word part.Input (if_true (is_word (codes "VAR_INPUT") word) _ _ is)
 named_read part.Output word is =
     formal_read word part.Output
-    (if_false (is_word (codes "VAR_INPUT") word) _ _ (other_word (codes "VAR_OUTPUT") (codes "VAR_INPUT") word is refl) ∙ if_true (is_word (codes "VAR_OUTPUT") word) _ _ is)
+    (if_false (is_word (codes "VAR_INPUT") word) _ _ (other_word (codes "VAR_OUTPUT") (codes "VAR_INPUT") word is refl)
+    ∙ if_true (is_word (codes "VAR_OUTPUT") word) _ _ is)
 named_read part.InOut word is =
     formal_read word part.InOut
     (if_false (is_word (codes "VAR_INPUT") word) _ _ (other_word (codes "VAR_IN_OUT") (codes "VAR_INPUT") word is refl)
@@ -45,8 +47,9 @@ named_read part.Own word is =
     ∙ if_false (is_word (codes "VAR_TEMP") word) _ _ (other_word (codes "STRUCT") (codes "VAR_TEMP") word is refl)
     ∙ if_true (is_word (codes "STRUCT") word) _ _ is)
 
-pub section_read : (kind : BlockKind) (before : Option Section) (section : Section) (word : Token) → is_word (section_word section) word ≡ true → may_open kind before section ≡ true →
-    section_at kind before word ≡ Some section
+pub section_read : (kind : BlockKind) (before : Option Section) (section : Section) (word : Token)
+    → is_word (section_word section) word ≡ true → may_open kind before section ≡ true
+    → section_at kind before word ≡ Some section
 section_read kind before section word is may =
     ap (λ (o : Option Section). if_open kind before o) (named_read section word is) ∙ if_true (may_open kind before section) _ _ may
 
@@ -68,8 +71,9 @@ Named word (Some section) = is_word (section_word section) word ≡ true
 formal_is : (word : Token) → Named word (formal_section word)
 formal_is word = by (is_word (codes "VAR_INPUT") word) refl (is_word (codes "VAR_OUTPUT") word) refl (is_word (codes "VAR_IN_OUT") word) refl
   where
-    by : (a : Bool) → is_word (codes "VAR_INPUT") word ≡ a → (b : Bool) → is_word (codes "VAR_OUTPUT") word ≡ b → (c : Bool) → is_word (codes "VAR_IN_OUT") word ≡ c →
-        Named word (if a then Some part.Input else if b then Some part.Output else if c then Some part.InOut else None)
+    by : (a : Bool) → is_word (codes "VAR_INPUT") word ≡ a → (b : Bool)
+        → is_word (codes "VAR_OUTPUT") word ≡ b → (c : Bool) → is_word (codes "VAR_IN_OUT") word ≡ c
+        → Named word (if a then Some part.Input else if b then Some part.Output else if c then Some part.InOut else None)
     by true is b is_b c is_c = is
     by false no_a true is c is_c = is
     by false no_a false no_b true is = is
@@ -100,7 +104,8 @@ OpensHere kind before word (Some section) = (is_word (section_word section) word
 pub section_is : (kind : BlockKind) (before : Option Section) (word : Token) → OpensHere kind before word (section_at kind before word)
 section_is kind before word = by (section_named word) (named_is word)
   where
-    at : (section : Section) → is_word (section_word section) word ≡ true → (b : Bool) → may_open kind before section ≡ b → OpensHere kind before word (if b then Some section else None)
+    at : (section : Section) → is_word (section_word section) word ≡ true → (b : Bool)
+        → may_open kind before section ≡ b → OpensHere kind before word (if b then Some section else None)
     at section is true may = (is, may)
     at section is false may = tt
 

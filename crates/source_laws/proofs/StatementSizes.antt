@@ -42,9 +42,11 @@ pub split_of : (tokens : List Token) → statement_size tokens < length tokens �
 split_of [] h = absurd (omega arith)
 split_of (first ∷ rest) h =
     split_by (is_semicolon first) first rest refl
-    (λ (test : is_semicolon first ≡ false). split_of rest (let e : statement_size (first ∷ rest) ≡ 1 + statement_size rest = size_open first rest test in omega arith))
+    (λ (test : is_semicolon first ≡ false). split_of rest (let e : statement_size (first ∷ rest) ≡ 1 + statement_size rest =
+    size_open first rest test in omega arith))
 
-pub taken : (tokens front : List Token) (sign : Token) (rest : List Token) (size : ℕ) → tokens ≡ front ++ (sign ∷ rest) → size ≡ length front → take size tokens ≡ front
+pub taken : (tokens front : List Token) (sign : Token) (rest : List Token) (size : ℕ)
+    → tokens ≡ front ++ (sign ∷ rest) → size ≡ length front → take size tokens ≡ front
 taken tokens front sign rest size split e =
     ap (λ (n : ℕ). take n tokens) e ∙ ap (λ (ts : List Token). take (length front) ts) split ∙ take-append_seam front (sign ∷ rest)
 

@@ -1,14 +1,14 @@
-//! Laws of STL sources: what stands at a place of a text is what the forms of items, declarations, initial values and
-//! addresses say, and the verdict accepts exactly the texts of this grammar.
+//! Laws of STL sources: what is written at a place of a text is what the forms of items, declarations,
+//! initial values and addresses say, and the verdict accepts exactly the texts of this grammar.
 //!
-//! Stands on `stl_grammar` and `stl_rules`, which have all definitions, and on laws of constants and places of
+//! Uses `stl_grammar` and `stl_rules`, which have all definitions, and laws of constants and places of
 //! `stl_constants` and `stl_places`. It computes nothing: the contracts of its functions are the laws.
 #![tactic(auto)]
 
 ghost use Rattle.stl_grammar.specs.Grammar.{ItemsHaveForms};
 ghost use Rattle.stl_rules.specs.Accepting.{AcceptsTheGrammar};
 
-/// What stands at a place of a text is what the forms of items say.
+/// What is read at a place of a text is what the forms of items say.
 pub fn items_have_forms()
     ensures { ItemsHaveForms }
 {}

@@ -1,5 +1,6 @@
--- The forms of an ST text: expressions that keep their brackets, statements, declarations and units,
--- each with the lines that a tree has.
+-- The forms of a Structured Text. Expressions that keep their brackets, statements, declarations and units, each with
+-- the lines that a tree has.
+-- Held against: IEC 61131-3, 'Structured Text' and 'Program organization units'.
 use Rattle.std.specs.Prelude.{ℕ, List, Bool}
 use Rattle.s7_base.specs.declared.reason.Line.{Line}
 use Rattle.s7_base.specs.declared.word.Width.{Width}

@@ -1,5 +1,6 @@
--- The grammar of an ST text: which forms are of the language, the tokens that they spell, and the
--- tree of a text before its names are looked up.
+-- The grammar of a Structured Text. Which forms are of the language, the tokens that they spell, and the tree of a
+-- text before its names are looked up.
+-- Held against: IEC 61131-3, 'Structured Text' and 'Program organization units'.
 use Rattle.std.specs.Prelude.{◌≡◌, ℕ, ◌≤◌, ◌<◌, ℤ, pos, Bool, true, false, nat_le, List, [], ◌∷◌, ◌++◌}
 use Rattle.s7_base.specs.declared.reason.Line.{Line}
 use Rattle.st_grammar.specs.Forms.{Form, literal, variable, group, prefix, infix_of, apply, shift, select, Actuals, no_actual, actual, Labels, label, more_labels, Statement, assign, write, invoke, choice, choice_else, cases, cases_else, loop, jump, Statements, none, empty, further, Arms, no_arm, arm, CaseArms, no_case, case_arm, Items, no_item, single, times, GlobalType, plain, bytes, Globals, no_global, global, Locals, no_local, local, Section, absent, present, Head, Units, no_unit, unit, Source}
@@ -9,8 +10,8 @@ use Rattle.st_grammar.specs.declared.kind.Fixed.TheVariants as fixed
 use Rattle.st_grammar.specs.declared.kind.Function.TheVariants as function
 use Rattle.st_grammar.specs.declared.kind.Jump.{Jump}
 use Rattle.st_grammar.specs.declared.kind.Jump.TheVariants as jump_word
-use Rattle.st_grammar.specs.declared.kind.Kind.{Kind}
-use Rattle.st_grammar.specs.declared.kind.Kind.TheVariants as kind
+use Rattle.st_grammar.specs.declared.kind.GrammarKind.{GrammarKind}
+use Rattle.st_grammar.specs.declared.kind.GrammarKind.TheVariants as kind
 use Rattle.st_grammar.specs.declared.kind.Lead.TheVariants as lead
 use Rattle.st_grammar.specs.declared.kind.Literal.{Literal}
 use Rattle.st_grammar.specs.declared.kind.Literal.TheVariants as lit
@@ -60,7 +61,7 @@ level (select f g h) = 0
 
 -- What is of the language
 
--- a decimal without a type is a DINT, and has no greater value
+-- a decimal without a type is a DINT, and is not above the greatest DINT
 abbrev pub is_value : Literal → Bool
 is_value (lit.Decimal n) = nat_le n 2147483647
 is_value (lit.Byte b) = true
@@ -77,7 +78,7 @@ Binds (apply op f) = Binds f
 Binds (shift op f g) = Binds f × Binds g
 Binds (select f g h) = Binds f × Binds g × Binds h
 
--- EXIT and CONTINUE stand inside a WHILE alone
+-- EXIT and CONTINUE are inside a WHILE alone
 abbrev pub may_jump : Bool → Jump → Bool
 may_jump inside jump_word.Exit = inside
 may_jump inside jump_word.Continue = inside
@@ -127,7 +128,7 @@ abbrev mutual
   CasesFit inside no_case = Unit {0}
   CasesFit inside (case_arm others labels body) = CasesFit inside others × LabelsFit labels × AllFit inside body
 
--- a global stands at a direct variable
+-- a global is at a direct variable
 abbrev pub is_direct : RawVar → Bool
 is_direct (var.Name name) = false
 is_direct (var.Direct area block w byte bit) = true
@@ -137,7 +138,7 @@ abbrev pub is_global : List ℕ → GlobalType → Bool
 is_global name (plain ty) = is_free name
 is_global name (bytes last items) = names_block name
 
--- each global stands at a direct variable, and its name goes with what is declared
+-- each global is at a direct variable, and its name goes with what is declared
 abbrev pub GlobalsFit : Globals → Type 0
 GlobalsFit no_global = Unit {0}
 GlobalsFit (global others name line v place ty) = GlobalsFit others × (is_direct v ≡ true) × (is_global name ty ≡ true)
@@ -157,7 +158,7 @@ abbrev pub LocalsFit : Locals → Type 0
 LocalsFit no_local = Unit {0}
 LocalsFit (local others name line ty) = LocalsFit others × (may_name_local name ≡ true)
 
--- what holds of a section if it is there
+-- a property of a section, if the section exists
 abbrev pub IfPresent : {X : Type 0} → (X → Type 0) → Section X → Type 0
 IfPresent P absent = Unit {0}
 IfPresent P (present x) = P x
@@ -167,8 +168,7 @@ abbrev pub HeadFits : Bool → Section Locals → Type 0
 HeadFits program absent = Unit {0}
 HeadFits program (present formals) = (program ≡ false) × FormalsFit formals
 
--- each unit has a name that a unit may have, sections that may stand in it, and statements of the
--- language
+-- each unit has a name that a unit may have, sections that it may have, and statements of the language
 abbrev pub UnitsFit : Units → Type 0
 UnitsFit no_unit = Unit {0}
 UnitsFit (unit others head formals locals body) =
@@ -182,12 +182,12 @@ SourceFits source = IfPresent GlobalsFit source.globals × UnitsFit source.units
 -- What is spelled: each form before the tokens after it
 
 -- the token of an operator before its operand
-abbrev pub prefix_kind : Prefix → Kind
+abbrev pub prefix_kind : Prefix → GrammarKind
 prefix_kind before.Minus = kind.Fixed (fixed.Between binary.Sub)
 prefix_kind before.Not = kind.Fixed fixed.Not
 
 -- the tokens of an expression, before those after it
-abbrev pub spell : Form → List Kind → List Kind
+abbrev pub spell : Form → List GrammarKind → List GrammarKind
 spell (literal c) more = kind.Literal c ∷ more
 spell (variable v line) more = kind.Variable v line ∷ more
 spell (group f) more = kind.Fixed fixed.Open ∷ spell f (kind.Fixed fixed.Close ∷ more)
@@ -203,30 +203,30 @@ spell (select f g h) more =
     ∷ spell f (kind.Fixed fixed.Comma ∷ spell g (kind.Fixed fixed.Comma ∷ spell h (kind.Fixed fixed.Close ∷ more)))
 
 -- a comma after the actuals, before the next one
-abbrev pub comma_behind : Actuals → List Kind → List Kind
+abbrev pub comma_behind : Actuals → List GrammarKind → List GrammarKind
 comma_behind no_actual more = more
 comma_behind (actual others name line v place) more = kind.Fixed fixed.Comma ∷ more
 
 -- the tokens of a call's actuals, formal `:=` variable, with commas between them
-abbrev pub spell_actuals : Actuals → List Kind → List Kind
+abbrev pub spell_actuals : Actuals → List GrammarKind → List GrammarKind
 spell_actuals no_actual more = more
 spell_actuals (actual others name line v place) more =
     spell_actuals others
     (comma_behind others (kind.Variable (var.Name name) line ∷ kind.Fixed fixed.Becomes ∷ kind.Variable v place ∷ more))
 
 -- the tokens of an arm's labels, with commas between them
-abbrev pub spell_labels : Labels → List Kind → List Kind
+abbrev pub spell_labels : Labels → List GrammarKind → List GrammarKind
 spell_labels (label c) more = kind.Literal c ∷ more
 spell_labels (more_labels others c) more = spell_labels others (kind.Fixed fixed.Comma ∷ kind.Literal c ∷ more)
 
 -- the word before the test of an arm: IF for the first, ELSIF for the others
-abbrev pub arm_word : Line → Arms → Kind
+abbrev pub arm_word : Line → Arms → GrammarKind
 arm_word line no_arm = kind.Lead lead.If line
 arm_word line (arm others e body) = kind.Fixed fixed.Elsif
 
 -- the tokens of statements, before those after them
 abbrev mutual
-  pub spell_one : Statement → List Kind → List Kind
+  pub spell_one : Statement → List GrammarKind → List GrammarKind
   spell_one (assign line v e) more = kind.Variable v line ∷ kind.Fixed fixed.Becomes ∷ spell e more
   spell_one (write line w p e) more =
       kind.Lead (lead.AreaWrite w) line ∷ kind.Fixed fixed.Open
@@ -248,31 +248,31 @@ abbrev mutual
   spell_one (jump line word) more = kind.Lead (lead.Jump word) line ∷ more
 
   -- statements in their order, each with its `;`; an empty one is its `;` alone
-  pub spell_all : Statements → List Kind → List Kind
+  pub spell_all : Statements → List GrammarKind → List GrammarKind
   spell_all none more = more
   spell_all (empty before) more = spell_all before (kind.Fixed fixed.Semicolon ∷ more)
   spell_all (further before s) more = spell_all before (spell_one s (kind.Fixed fixed.Semicolon ∷ more))
 
   -- the arms of an IF that begins on a line: word, test, THEN and statements
-  pub spell_arms : Line → Arms → List Kind → List Kind
+  pub spell_arms : Line → Arms → List GrammarKind → List GrammarKind
   spell_arms line no_arm more = more
   spell_arms line (arm others e body) more =
       spell_arms line others (arm_word line others ∷ spell e (kind.Fixed fixed.Then ∷ spell_all body more))
 
   -- the arms of a CASE: labels, `:` and statements
-  pub spell_cases : CaseArms → List Kind → List Kind
+  pub spell_cases : CaseArms → List GrammarKind → List GrammarKind
   spell_cases no_case more = more
   spell_cases (case_arm others labels body) more =
       spell_cases others (spell_labels labels (kind.Fixed fixed.Colon ∷ spell_all body more))
 
 -- a comma after the bytes, before the next ones
-abbrev pub comma_past : Items → List Kind → List Kind
+abbrev pub comma_past : Items → List GrammarKind → List GrammarKind
 comma_past no_item more = more
 comma_past (single others b) more = kind.Fixed fixed.Comma ∷ more
 comma_past (times others count b) more = kind.Fixed fixed.Comma ∷ more
 
 -- the tokens of the bytes of a data block, `16#0A` or `3(16#0A)`, with commas between them
-abbrev pub spell_items : Items → List Kind → List Kind
+abbrev pub spell_items : Items → List GrammarKind → List GrammarKind
 spell_items no_item more = more
 spell_items (single others b) more = spell_items others (comma_past others (kind.Literal (lit.Byte b) ∷ more))
 spell_items (times others count b) more =
@@ -282,25 +282,25 @@ spell_items (times others count b) more =
     ∷ kind.Fixed fixed.Close ∷ more))
 
 -- `:=` and the bytes in square brackets, if there are any
-abbrev pub spell_initial : Items → List Kind → List Kind
+abbrev pub spell_initial : Items → List GrammarKind → List GrammarKind
 spell_initial no_item more = more
 spell_initial items more =
     kind.Fixed fixed.Becomes ∷ kind.Fixed fixed.OpenSquare ∷ spell_items items (kind.Fixed fixed.CloseSquare ∷ more)
 
 -- `ARRAY[0..k] OF BYTE` before the tokens after it
-abbrev pub spell_array : ℕ → List Kind → List Kind
+abbrev pub spell_array : ℕ → List GrammarKind → List GrammarKind
 spell_array last more =
     kind.Fixed fixed.Array ∷ kind.Fixed fixed.OpenSquare ∷ kind.Literal (lit.Decimal 0) ∷ kind.Fixed fixed.Dots
     ∷ kind.Literal (lit.Decimal last)
     ∷ kind.Fixed fixed.CloseSquare ∷ kind.Fixed fixed.Of ∷ kind.Fixed (fixed.Type type.Byte) ∷ more
 
 -- the tokens of a global's type, for a data block with its bytes
-abbrev pub spell_type : GlobalType → List Kind → List Kind
+abbrev pub spell_type : GlobalType → List GrammarKind → List GrammarKind
 spell_type (plain ty) more = kind.Fixed (fixed.Type ty) ∷ more
 spell_type (bytes last items) more = spell_array last (spell_initial items more)
 
 -- the tokens of globals: name, AT, place, `:`, type and `;`
-abbrev pub spell_globals : Globals → List Kind → List Kind
+abbrev pub spell_globals : Globals → List GrammarKind → List GrammarKind
 spell_globals no_global more = more
 spell_globals (global others name line v place ty) more =
     spell_globals others
@@ -308,49 +308,50 @@ spell_globals (global others name line v place ty) more =
     ∷ spell_type ty (kind.Fixed fixed.Semicolon ∷ more))
 
 -- the tokens of formals or locals: name, `:`, type and `;`
-abbrev pub spell_locals : Locals → List Kind → List Kind
+abbrev pub spell_locals : Locals → List GrammarKind → List GrammarKind
 spell_locals no_local more = more
 spell_locals (local others name line ty) more =
     spell_locals others
     (kind.Variable (var.Name name) line ∷ kind.Fixed fixed.Colon ∷ kind.Fixed (fixed.Type ty)
     ∷ kind.Fixed fixed.Semicolon ∷ more)
 
--- a section from its word to END_VAR, if it is there
-abbrev pub spell_section : {X : Type 0} → Kind → (X → List Kind → List Kind) → Section X → List Kind → List Kind
+-- a section from its word to END_VAR, if it exists
+abbrev pub spell_section : {X : Type 0} → GrammarKind → (X → List GrammarKind → List GrammarKind)
+    → Section X → List GrammarKind → List GrammarKind
 spell_section word spelled absent more = more
 spell_section word spelled (present x) more = word ∷ spelled x (kind.Fixed fixed.EndVar ∷ more)
 
 -- the first word of a unit: PROGRAM or FUNCTION, with its line
-abbrev pub unit_word : Bool → Line → Kind
+abbrev pub unit_word : Bool → Line → GrammarKind
 unit_word true line = kind.Lead lead.Program line
 unit_word false line = kind.Lead lead.Function line
 
 -- the last word of a unit: END_PROGRAM or END_FUNCTION
-abbrev pub end_word : Bool → Kind
+abbrev pub end_word : Bool → GrammarKind
 end_word true = kind.Fixed fixed.EndProgram
 end_word false = kind.Fixed fixed.EndFunction
 
--- the tokens of the section VAR_IN_OUT of a function, if it is there
-abbrev pub spell_formals : Section Locals → List Kind → List Kind
+-- the tokens of the section VAR_IN_OUT of a function, if it exists
+abbrev pub spell_formals : Section Locals → List GrammarKind → List GrammarKind
 spell_formals formals more = spell_section (kind.Fixed fixed.VarInOut) spell_locals formals more
 
--- the tokens of the section VAR_TEMP of a unit, if it is there
-abbrev pub spell_temps : Section Locals → List Kind → List Kind
+-- the tokens of the section VAR_TEMP of a unit, if it exists
+abbrev pub spell_temps : Section Locals → List GrammarKind → List GrammarKind
 spell_temps locals more = spell_section (kind.Fixed fixed.VarTemp) spell_locals locals more
 
 -- the tokens of a unit's heading: its first word and its name
-abbrev pub spell_head : Head → List Kind → List Kind
+abbrev pub spell_head : Head → List GrammarKind → List GrammarKind
 spell_head head more = unit_word head.program head.line ∷ kind.Variable (var.Name head.name) head.place ∷ more
 
 -- the tokens of units: heading, sections, statements and end word
-abbrev pub spell_units : Units → List Kind → List Kind
+abbrev pub spell_units : Units → List GrammarKind → List GrammarKind
 spell_units no_unit more = more
 spell_units (unit others head formals locals body) more =
     spell_units others
     (spell_head head (spell_formals formals (spell_temps locals (spell_all body (end_word head.program ∷ more)))))
 
 -- the whole text, with its end
-abbrev pub spell_source : Source → List Kind
+abbrev pub spell_source : Source → List GrammarKind
 spell_source source =
     spell_section (kind.Fixed fixed.VarGlobal) spell_globals source.globals
     (spell_units source.units (kind.Fixed fixed.End ∷ []))
@@ -471,10 +472,10 @@ abbrev pub tree_locals : Locals → List RawLocal
 tree_locals no_local = []
 tree_locals (local others name line ty) = tree_locals others ++ record { name = name; line = line; ty = ty } ∷ []
 
--- what a section holds; nothing if it is missing
-abbrev pub held : {X Y : Type 0} → (X → List Y) → Section X → List Y
-held trees absent = []
-held trees (present x) = trees x
+-- the declarations of a section; none if it is missing
+abbrev pub section_items : {X Y : Type 0} → (X → List Y) → Section X → List Y
+section_items trees absent = []
+section_items trees (present x) = trees x
 
 -- the units of a text in their order
 abbrev pub tree_units : Units → List RawPou
@@ -485,11 +486,11 @@ tree_units (unit others head formals locals body) =
       program = head.program;
       name = head.name;
       line = head.line;
-      formals = held tree_locals formals;
-      locals = held tree_locals locals;
+      formals = section_items tree_locals formals;
+      locals = section_items tree_locals locals;
       body = tree_all body;
     } ∷ []
 
 -- the tree of a whole text before its names are looked up
 abbrev pub raw_tree : Source → RawSt
-raw_tree source = record { globals = held tree_globals source.globals; pous = tree_units source.units }
+raw_tree source = record { globals = section_items tree_globals source.globals; pous = tree_units source.units }

@@ -1,5 +1,6 @@
--- The syntax of an ST text: its tree before names are looked up, or the line and the reason of its
--- refusal. First all tokens count, then syntax and depth from the front.
+-- The raw tree of a text. It is the tree before names are looked up, or the line and the reason of a refusal: first
+-- all tokens count, then syntax and depth from the front.
+-- Held against: IEC 61131-3, 'Structured Text', and this project's own rules.
 use Rattle.std.specs.Prelude.{◌≡◌, ℕ, ◌≤◌, ◌<◌, List, [], ◌∷◌, ◌++◌, length, drop, map, Ok, Err}
 use Rattle.s7_base.specs.Tokens.{line_at_end}
 use Rattle.s7_base.specs.declared.reason.Line.{Line}
@@ -14,18 +15,18 @@ use Rattle.st_grammar.specs.Kinds.{kind_of}
 use Rattle.st_tree.specs.Depth.{deepest}
 use Rattle.st_grammar.specs.Levels.{levels_source}
 use Rattle.st_grammar.specs.declared.kind.Fixed.TheVariants as fixed
-use Rattle.st_grammar.specs.declared.kind.Kind.{Kind}
-use Rattle.st_grammar.specs.declared.kind.Kind.TheVariants as kind
+use Rattle.st_grammar.specs.declared.kind.GrammarKind.{GrammarKind}
+use Rattle.st_grammar.specs.declared.kind.GrammarKind.TheVariants as kind
 use Rattle.st_tree.specs.declared.raw.RawSt.{RawSt}
 
--- a kind, and the line on which it stands
+-- a kind, and its line
 pub record Lined : Type 0 where
-  pub kind : Kind
+  pub kind : GrammarKind
   pub line : Line
 
--- what a token stands for, with its line
-abbrev pub lined : StToken → Lined
-lined token = record { kind = kind_of token; line = token.line }
+-- the kind of a token, with its line
+abbrev pub with_line : StToken → Lined
+with_line token = record { kind = kind_of token; line = token.line }
 
 -- the end of a text on its last line
 abbrev pub end_on : Line → Lined
@@ -33,14 +34,14 @@ end_on line = record { kind = kind.Fixed fixed.End; line = line }
 
 -- the kinds of a text's tokens with that of its end
 abbrev pub all_lined : List StToken → Line → List Lined
-all_lined tokens line = map lined tokens ++ end_on line ∷ []
+all_lined tokens line = map with_line tokens ++ end_on line ∷ []
 
--- what tokens stand for, without their lines
-abbrev pub kinds : List Lined → List Kind
+-- the kinds of tokens, without their lines
+abbrev pub kinds : List Lined → List GrammarKind
 kinds items = map (λ (item : Lined). item.kind) items
 
 -- these kinds are a text
-pub record Reads (all : List Kind) (source : Source) : Type 0 where
+pub record Reads (all : List GrammarKind) (source : Source) : Type 0 where
   pub fits : SourceFits source
   pub spelled : spell_source source ≡ all
 
@@ -50,21 +51,21 @@ AllWithin most [] = Unit {0}
 AllWithin most (level ∷ others) = (level ≤ most) × AllWithin most others
 
 -- some text begins with these kinds
-pub record Begins (front : List Kind) : Type 0 where
+pub record Begins (front : List GrammarKind) : Type 0 where
   pub source : Source
-  pub more : List Kind
+  pub more : List GrammarKind
   pub reads : Reads (front ++ more) source
 
 -- the levels of these kinds in the text that begins with them, the last one first
-abbrev pub levels_in : {front : List Kind} → Begins front → List ℕ
+abbrev pub levels_in : {front : List GrammarKind} → Begins front → List ℕ
 levels_in begins = drop (length begins.more) (levels_source begins.source)
 
 -- some text begins with these kinds, and none of them makes a level too many
-pub record BeginsWithin (front : List Kind) : Type 0 where
+pub record BeginsWithin (front : List GrammarKind) : Type 0 where
   pub begins : Begins front
   pub within : AllWithin deepest (levels_in begins)
 
--- the first token that cannot follow, or the end where it cannot, stands on this line
+-- the first token that cannot follow, or the end where it cannot, is on this line
 pub record FirstWrong (all : List Lined) (line : Line) : Type 0 where
   pub front : List Lined
   pub item : Lined
@@ -74,7 +75,7 @@ pub record FirstWrong (all : List Lined) (line : Line) : Type 0 where
   pub may_begin : BeginsWithin (kinds front)
   pub cannot_follow : Begins (kinds front ++ item.kind ∷ []) → ⊥
 
--- the first token that makes a level too many stands on this line
+-- the first token that makes a level too many is on this line
 pub record FirstDeep (all : List Lined) (line : Line) : Type 0 where
   pub front : List Lined
   pub item : Lined

@@ -83,7 +83,7 @@ pub enum Fixed {
     EndWhile,
     Not,
 
-    /// `-` too, which also stands before an operand.
+    /// `-` too, which is also an operator before an operand.
     Between(BinaryOp),
 
     Type(StType),
@@ -110,10 +110,10 @@ pub enum Word {
     Truth(bool),
 }
 
-/// What a token stands for in the grammar; with its line where a statement, a declaration or a unit may
-/// begin with it.
+/// What a token is in the grammar; with its line where a statement, a declaration or a unit may begin with
+/// it.
 #[derive(Drop)]
-pub enum Kind {
+pub enum GrammarKind {
     Fixed(Fixed),
     Lead(Lead, Line),
 
@@ -122,6 +122,6 @@ pub enum Kind {
 
     Literal(Literal),
 
-    /// No token of the language.
+    /// A token that the grammar does not have.
     Misfit,
 }

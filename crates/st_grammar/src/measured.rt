@@ -2,7 +2,7 @@
 
 use st_tree::RawExpr;
 
-/// An expression, and how high its tree is.
+/// An expression, and the height of its tree.
 #[derive(Drop)]
 pub struct Measured {
     pub tree: RawExpr,

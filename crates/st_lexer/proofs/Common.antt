@@ -1,5 +1,5 @@
 -- The names that proofs on this crate and above it cite most, passed on from one place. Declares nothing.
-pub use Rattle.st_lexer.specs.Direct.{area_at, area_named, begins_with_block, bit_at, bit_behind, bit_variable, block_at, data_at, direct_at, direct_of, kept, lettered_at, place_at, unlettered_at, whole_variable}
+pub use Rattle.st_lexer.specs.Direct.{area_at, area_named, begins_with_block, bit_at, bit_behind, bit_variable, block_at, data_at, direct_at, direct_of, clamped_value, lettered_at, place_at, unlettered_at, whole_variable}
 pub use Rattle.st_lexer.specs.Literals.{base_at, begins_with_digit, digits_behind, digits_size, greatest, is_digit_to, is_in_range, is_signed, literal_at, literal_behind, literal_of_number, number_at, number_behind, number_to, or_else, stands_to, truth_behind, truth_named, type_at, type_named, type_of_base, value_behind, value_from, word_size}
 pub use Rattle.st_lexer.specs.Pieces.{token_seen}
 pub use Rattle.st_lexer.specs.Spelled.{ends_word, has_value, is_bit_of, is_block_of, is_byte, is_decimal, is_kept}

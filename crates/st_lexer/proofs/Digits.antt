@@ -37,10 +37,13 @@ no_digit base b h = by (is_digit_to base b) refl
 
 pub digits_word : (base : Base) (ds : List ℕ) → list_all (is_digit_to base) ds ≡ true → list_all is_word_byte ds ≡ true
 digits_word base [] h = refl
-digits_word base (d ∷ ds) h = let both = and_both (is_digit_to base d) (list_all (is_digit_to base) ds) h in rw (digit_word base d both.0, digits_word base ds both.1) refl
+digits_word base (d ∷ ds) h =
+    let both = and_both (is_digit_to base d) (list_all (is_digit_to base) ds) h in
+    rw (digit_word base d both.0, digits_word base ds both.1) refl
 
 -- digits end where they are not gone on with
-pub size_of_digits : (base : Base) (ds more : List ℕ) → list_all (is_digit_to base) ds ≡ true → ends_word more ≡ true → digits_size base (ds ++ more) ≡ length ds
+pub size_of_digits : (base : Base) (ds more : List ℕ) → list_all (is_digit_to base) ds ≡ true
+    → ends_word more ≡ true → digits_size base (ds ++ more) ≡ length ds
 size_of_digits base [] [] h e = refl
 size_of_digits base [] (b ∷ more) h e =
     let word : is_word_byte b ≡ false = not_true (is_word_byte b) (and_both (not (is_word_byte b)) (not (b == 35)) e).0 in

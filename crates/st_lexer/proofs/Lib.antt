@@ -6,7 +6,7 @@ pub mod LiteralCuts
 pub mod NumberCuts
 pub mod PlaceCuts
 mod Sizes
-mod StTokenRows
+mod StTokenCases
 pub mod TokenFacts
 mod TokenLaws
 pub mod Words

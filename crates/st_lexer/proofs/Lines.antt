@@ -4,7 +4,8 @@ use Rattle.std.proofs.lemmas.List.Sums.{sum_by-cons}
 use Rattle.std.specs.Prelude.{count_by}
 use Rattle.st_lexer.proofs.Common.{line_behind, line_past, Cuts, here, next, StToken}
 
-by_test : (test : Bool) (line : ℕ) (past : ℕ → ℕ) (n : ℕ) → past (line_after line) ≡ min (line_after line + n) (2 ^ 32 - 1) → past line ≡ min (line + n) (2 ^ 32 - 1)
+by_test : (test : Bool) (line : ℕ) (past : ℕ → ℕ) (n : ℕ)
+    → past (line_after line) ≡ min (line_after line + n) (2 ^ 32 - 1) → past line ≡ min (line + n) (2 ^ 32 - 1)
     → past (if test then line_after line else line) ≡ min (line + (cond test 1 0 + n)) (2 ^ 32 - 1)
 by_test true line past n p q = omega (arith, p)
 by_test false line past n p q = omega (arith, q)

@@ -48,7 +48,8 @@ lint_word = record { at = λ x. refl; piece = λ x. refl }
 
 -- a text after a type is a literal where its number is found
 typed_is : (ty : StType) (word x : List ℕ) (n : ℤ) → IsType ty word → nat_le (unsigned_abs n) (greatest ty (int_lt n (pos 0))) ≡ true
-    → ((more : List ℕ) → ends_word more ≡ true → number_behind ty (length word) (x ++ more) ≡ Some (literal ty (int_lt n (pos 0)) (unsigned_abs n) (length word + length x)))
+    → ((more : List ℕ) → ends_word more ≡ true
+    → number_behind ty (length word) (x ++ more) ≡ Some (literal ty (int_lt n (pos 0)) (unsigned_abs n) (length word + length x)))
     → IsLiteral (word ++ x) ty n
 typed_is ty word x n is_type kept number = literal_is (word ++ x) ty n at (λ more ends. piece more ends)
   where
@@ -59,7 +60,9 @@ typed_is ty word x n is_type kept number = literal_is (word ++ x) ty n at (λ mo
 
     piece : (more : List ℕ) → ends_word more ≡ true → piece_at ((word ++ x) ++ more) ≡ Some (token sort.Literal (length (word ++ x)))
     piece more ends =
-        ap piece_at (append_assoc word x more) ∙ is_type.piece (x ++ more) ∙ ap (λ (text : List ℕ). ranged_piece (literal_at text)) (sym (append_assoc word x more))
+        ap piece_at (append_assoc word x more)
+        ∙ is_type.piece (x ++ more)
+        ∙ ap (λ (text : List ℕ). ranged_piece (literal_at text)) (sym (append_assoc word x more))
         ∙ ap ranged_piece (at more ends) ∙ if_true (nat_le (unsigned_abs n) (greatest ty (int_lt n (pos 0)))) _ _ kept
 
 -- a pattern after its type
@@ -67,7 +70,8 @@ pattern_behind : (ty : StType) (before count m : ℕ) (more : List ℕ) → is_s
     → number_behind ty before ((codes "16#" ++ hexadecimal count m) ++ more) ≡ Some (literal ty false m (before + length (codes "16#" ++ hexadecimal count m)))
 pattern_behind ty before count m more unsigned some below small ends =
     let size : 3 + length (hexadecimal count m) ≡ length (codes "16#" ++ hexadecimal count m) = omega arith in
-    rw unsigned (ap (option_map (literal_of_number ty false before)) (marked_at m (hexadecimal count m) more (hexadecimal_digits count m some below small) ends).1
+    rw unsigned
+    (ap (option_map (literal_of_number ty false before)) (marked_at m (hexadecimal count m) more (hexadecimal_digits count m some below small) ends).1
     ∙ ap (λ (k : ℕ). Some (literal ty false m (before + k))) size)
 
 -- no decimal begins with `-`
@@ -105,7 +109,8 @@ no_minus : (ty : StType) (minus : Bool) (m : ℕ) → is_signed ty ≡ false →
 no_minus ty true m unsigned h = absurd (let signed = (and_both (is_signed ty) (nat_le m (greatest ty true)) h).0 in cc)
 no_minus ty false m unsigned h = refl
 
-pattern_is : (ty : StType) (word : List ℕ) (count : ℕ) (n : ℤ) → IsType ty word → is_signed ty ≡ false → 0 < count → unsigned_abs n < past count → unsigned_abs n < 2 ^ 64
+pattern_is : (ty : StType) (word : List ℕ) (count : ℕ) (n : ℤ) → IsType ty word
+    → is_signed ty ≡ false → 0 < count → unsigned_abs n < past count → unsigned_abs n < 2 ^ 64
     → has_value ty n ≡ true → IsLiteral (word ++ (codes "16#" ++ hexadecimal count (unsigned_abs n))) ty n
 pattern_is ty word count n is_type unsigned some below small h =
     let plus : int_lt n (pos 0) ≡ false = no_minus ty (int_lt n (pos 0)) (unsigned_abs n) unsigned h in
@@ -129,7 +134,8 @@ number_stands (b ∷ rest) h =
     let no_letter : is_letter b ≡ false = grind (arith, nat_tests) in
     if_false (is_blank b) _ _ no_blank ∙ if_false (is_letter b) _ _ no_letter ∙ if_true (is_digit_to base.Ten b) _ _ h
 
-decimal_literal : (m : ℕ) (more : List ℕ) → m < 2 ^ 64 → ends_word more ≡ true → literal_at (decimal m ++ more) ≡ Some (literal type.Dint false m (length (decimal m)))
+decimal_literal : (m : ℕ) (more : List ℕ) → m < 2 ^ 64 → ends_word more ≡ true
+    → literal_at (decimal m ++ more) ≡ Some (literal type.Dint false m (length (decimal m)))
 decimal_literal m more small ends =
     let d : Digits base.Ten m (decimal m) = decimal_digits m small in
     let size : 0 + length (decimal m) ≡ length (decimal m) = omega arith in
@@ -145,7 +151,8 @@ decimal_is n plus small = literal_is (decimal (unsigned_abs n)) type.Dint n
     ∙ ap (λ (minus : Bool). Some (literal type.Dint minus (unsigned_abs n) (length (decimal (unsigned_abs n))))) (sym plus))
     piece
   where
-    piece : (more : List ℕ) → ends_word more ≡ true → piece_at (decimal (unsigned_abs n) ++ more) ≡ Some (token sort.Literal (length (decimal (unsigned_abs n))))
+    piece : (more : List ℕ) → ends_word more ≡ true
+        → piece_at (decimal (unsigned_abs n) ++ more) ≡ Some (token sort.Literal (length (decimal (unsigned_abs n))))
     piece more ends =
         let d : Digits base.Ten (unsigned_abs n) (decimal (unsigned_abs n)) = decimal_digits (unsigned_abs n) small in
         number_stands (decimal (unsigned_abs n) ++ more) (begins_digit base.Ten (decimal (unsigned_abs n)) more d.digits d.some)
@@ -155,7 +162,8 @@ decimal_is n plus small = literal_is (decimal (unsigned_abs n)) type.Dint n
 not_below : (m : ℕ) → int_lt (pos m) (pos 0) ≡ false
 not_below m = grind (arith, nat_tests)
 
-byte_literal : (b : ℕ) (more : List ℕ) → b < 256 → ends_word more ≡ true → literal_at (byte_text b ++ more) ≡ Some (literal type.Dword false b (length (byte_text b)))
+byte_literal : (b : ℕ) (more : List ℕ) → b < 256 → ends_word more ≡ true
+    → literal_at (byte_text b ++ more) ≡ Some (literal type.Dword false b (length (byte_text b)))
 byte_literal b more small ends =
     let found = marked_at b (hexadecimal 2 b) more (hexadecimal_digits 2 b (omega arith) small (omega arith)) ends in
     let size : 0 + (3 + length (hexadecimal 2 b)) ≡ length (codes "16#" ++ hexadecimal 2 b) = omega arith in
@@ -199,7 +207,8 @@ dint_is : (n : ℤ) (minus : Bool) → int_lt n (pos 0) ≡ minus → unsigned_a
 dint_is n true e small h = integer_is type.Dint (codes "DINT#") n dint_word refl small h
 dint_is n false e small h = decimal_is n e small
 
-typed : (ty : StType) (n : ℤ) → is_number ty ≡ true → unsigned_abs n < 2 ^ 64 → nat_le (unsigned_abs n) (greatest ty (int_lt n (pos 0))) ≡ true → has_value ty n ≡ true
+typed : (ty : StType) (n : ℤ) → is_number ty ≡ true → unsigned_abs n < 2 ^ 64
+    → nat_le (unsigned_abs n) (greatest ty (int_lt n (pos 0))) ≡ true → has_value ty n ≡ true
     → IsLiteral (literal_text ty n) ty n
 unfolding literal_text
 typed type.Bool n is small kept h = absurd cc
@@ -219,11 +228,15 @@ literals_stand = record {
   in_plain = λ n h.
       let small : n < 2 ^ 64 = omega (arith, below n 2147483647 h) in
       let d : Digits base.Ten n (decimal n) = decimal_digits n small in
-      let alone : decimal n ++ [] ≡ decimal n = append-nil (decimal n) in
-      (ap base_at (sym alone) ∙ (decimal_at n [] small refl).0, ap (begins_with_digit base.Ten) (sym alone) ∙ begins_digit base.Ten (decimal n) [] d.digits d.some);
+      let alone : decimal n ++ [] ≡ decimal n = append-nil (decimal n) in (
+        ap base_at (sym alone) ∙ (decimal_at n [] small refl).0,
+        ap (begins_with_digit base.Ten) (sym alone) ∙ begins_digit base.Ten (decimal n) [] d.digits d.some,
+      );
   byte = λ b h. byte_is b (below b 255 h);
   in_byte = λ b h.
       let small : b < 256 = below b 255 h in
-      let alone : byte_text b ++ [] ≡ byte_text b = append-nil (byte_text b) in
-      (ap base_at (sym alone) ∙ (marked_at b (hexadecimal 2 b) [] (hexadecimal_digits 2 b (omega arith) small (omega arith)) refl).0, length_of_hexadecimal 2 b);
+      let alone : byte_text b ++ [] ≡ byte_text b = append-nil (byte_text b) in (
+        ap base_at (sym alone) ∙ (marked_at b (hexadecimal 2 b) [] (hexadecimal_digits 2 b (omega arith) small (omega arith)) refl).0,
+        length_of_hexadecimal 2 b,
+      );
 }

@@ -24,7 +24,8 @@ no_second a w more h e = none_of_two a _ (by w more h e)
     by (b ∷ w) more h e = rw (word_no_mark b (and_both (is_word_byte b) (list_all is_word_byte w) h).0) refl
 
 -- a mark of one byte and `#` does not stand at the front
-no_short_mark : (m : ℕ) (w more : List ℕ) → list_all is_word_byte w ≡ true → 0 < length w → ends_word more ≡ true → starts_with nat_eq (w ++ more) (m ∷ 35 ∷ []) ≡ false
+no_short_mark : (m : ℕ) (w more : List ℕ) → list_all is_word_byte w ≡ true → 0 < length w
+    → ends_word more ≡ true → starts_with nat_eq (w ++ more) (m ∷ 35 ∷ []) ≡ false
 no_short_mark m [] more h some e = absurd (omega arith)
 no_short_mark m (d ∷ w) more h some e = no_second (nat_eq m d) w more (and_both (is_word_byte d) (list_all is_word_byte w) h).1 e
 
@@ -47,7 +48,8 @@ pub decimal_base : (ds more : List ℕ) → list_all is_word_byte ds ≡ true �
 decimal_base ds more h some e = rw (no_long_mark ds more h some e, no_short_mark 56 ds more h some e, no_short_mark 50 ds more h some e) refl
 
 -- the number of a decimal
-pub decimal_to : (n : ℕ) (more : List ℕ) → n < 2 ^ 64 → ends_word more ≡ true → number_to Ten (decimal n ++ more) ≡ Some (record { value = n; size = length (decimal n) })
+pub decimal_to : (n : ℕ) (more : List ℕ) → n < 2 ^ 64 → ends_word more ≡ true
+    → number_to Ten (decimal n ++ more) ≡ Some (record { value = n; size = length (decimal n) })
 decimal_to n more small e =
     let d : Digits Ten n (decimal n) = decimal_digits n small in
     let size : 0 + length (decimal n) ≡ length (decimal n) = omega arith in
@@ -70,5 +72,6 @@ pub marked_at : (n : ℕ) (ds more : List ℕ) → Digits Sixteen n ds → ends_
 marked_at n ds more d e =
     let digit : begins_with_digit Sixteen (ds ++ more) ≡ true = begins_digit Sixteen ds more d.digits d.some in
     let sixteen : base_at (codes "16#" ++ (ds ++ more)) ≡ Sixteen = if_true (begins_with_digit Sixteen (ds ++ more)) _ _ digit in
-    let to : number_to Sixteen (codes "16#" ++ (ds ++ more)) ≡ Some (digits_behind 3 Sixteen (ds ++ more)) = if_true (begins_with_digit Sixteen (ds ++ more)) _ _ digit in
+    let to : number_to Sixteen (codes "16#" ++ (ds ++ more)) ≡ Some (digits_behind 3 Sixteen (ds ++ more)) =
+    if_true (begins_with_digit Sixteen (ds ++ more)) _ _ digit in
     (sixteen, ap (λ (base : Base). number_to base (codes "16#" ++ (ds ++ more))) sixteen ∙ to ∙ ap Some (number_of_digits 3 Sixteen n ds more d e))

@@ -4,7 +4,7 @@ use Rattle.memory_areas.specs.declared.place.AreaName.TheVariants as area
 use Rattle.s7_base.specs.declared.word.Width.TheVariants as width
 use Rattle.st_lexer.proofs.NumberCuts.{decimal_to}
 use Rattle.st_lexer.proofs.Words.{and_both, if_false}
-use Rattle.st_lexer.proofs.Common.{kept, bit_variable, whole_variable, bit_behind, place_at, lettered_at, block_at, direct_at, begins_with_digit, number_to, ends_word, is_kept, is_bit_of, is_block_of, place_in, direct_piece, piece_at, Direct, Number}
+use Rattle.st_lexer.proofs.Common.{clamped_value, bit_variable, whole_variable, bit_behind, place_at, lettered_at, block_at, direct_at, begins_with_digit, number_to, ends_word, is_kept, is_bit_of, is_block_of, place_in, direct_piece, piece_at, Direct, Number}
 use Rattle.st_lexer.specs.Direct.{bit_of_byte, numbered_at}
 use Rattle.st_lexer.specs.SpellingLaws.{IsDirect, PlacesAreTokens}
 use Rattle.st_lexer.specs.declared.number.Base.TheVariants.{Ten}
@@ -21,7 +21,7 @@ number n size = record { value = n; size = size }
 keeps : (n : ℕ) → is_kept n ≡ true → n < 2 ^ 32
 keeps n h = grind (arith, nat_tests)
 
-kept_same : (n size : ℕ) → is_kept n ≡ true → kept (number n size) ≡ n
+kept_same : (n size : ℕ) → is_kept n ≡ true → clamped_value (number n size) ≡ n
 kept_same n size h = omega (arith, keeps n h)
 
 decimal_kept : (n : ℕ) (more : List ℕ) → is_kept n ≡ true → ends_word more ≡ true → number_to Ten (decimal n ++ more) ≡ Some (number n (length (decimal n)))
@@ -35,21 +35,27 @@ abbrev numbers : Width → ℕ → ℕ → List ℕ
 numbers w byte bit = decimal byte ++ bit_text w bit
 
 bit_found : (a : AreaName) (block : Option ℕ) (before byte bit : ℕ) (more : List ℕ) → is_kept byte ≡ true → is_kept bit ≡ true → ends_word more ≡ true
-    → place_at a block (Some width.Bit) before (numbers width.Bit byte bit ++ more) ≡ Some (variable_of a block width.Bit byte bit (before + length (numbers width.Bit byte bit)))
+    → place_at a block (Some width.Bit) before (numbers width.Bit byte bit ++ more)
+    ≡ Some (variable_of a block width.Bit byte bit (before + length (numbers width.Bit byte bit)))
 bit_found a block before byte bit more h k ends =
     let size : before + length (decimal byte) + 1 + length (decimal bit) ≡ before + length (decimal byte ++ 46 ∷ decimal bit) =
     omega (arith, length-append (decimal byte) (46 ∷ decimal bit)) in
     ap (place_at a block (Some width.Bit) before) (append_assoc (decimal byte) (46 ∷ decimal bit) more)
-    ∙ ap (λ (o : Option Number). bit_behind a block before o (decimal byte ++ 46 ∷ (decimal bit ++ more))) (decimal_kept byte (46 ∷ (decimal bit ++ more)) h refl)
+    ∙ ap (λ (o : Option Number). bit_behind a block before o (decimal byte ++ 46 ∷ (decimal bit ++ more)))
+    (decimal_kept byte (46 ∷ (decimal bit ++ more)) h refl)
     ∙ ap (bit_of_byte a block before (number byte (length (decimal byte)))) (drop-append_seam (decimal byte) (46 ∷ (decimal bit ++ more)))
     ∙ ap (option_map (bit_variable a block before (number byte (length (decimal byte))))) (decimal_kept bit more k ends)
-    ∙ ap (λ (n : ℕ). Some (variable_of a block width.Bit n (kept (number bit (length (decimal bit)))) (before + length (decimal byte) + 1 + length (decimal bit))))
+    ∙ ap (λ (n : ℕ).
+    Some (variable_of a block width.Bit n (clamped_value (number bit (length (decimal bit)))) (before + length (decimal byte) + 1 + length (decimal bit))))
     (kept_same byte (length (decimal byte)) h)
-    ∙ ap (λ (n : ℕ). Some (variable_of a block width.Bit byte n (before + length (decimal byte) + 1 + length (decimal bit)))) (kept_same bit (length (decimal bit)) k)
+    ∙ ap (λ (n : ℕ). Some (variable_of a block width.Bit byte n (before + length (decimal byte) + 1 + length (decimal bit))))
+    (kept_same bit (length (decimal bit)) k)
     ∙ ap (λ (n : ℕ). Some (variable_of a block width.Bit byte bit n)) size
 
-whole_found : (a : AreaName) (block : Option ℕ) (w : Width) (before byte bit : ℕ) (more : List ℕ) → is_kept byte ≡ true → (bit == 0) ≡ true → ends_word more ≡ true
-    → option_map (whole_variable a block w before) (number_to Ten ((decimal byte ++ []) ++ more)) ≡ Some (variable_of a block w byte bit (before + length (decimal byte ++ [])))
+whole_found : (a : AreaName) (block : Option ℕ) (w : Width) (before byte bit : ℕ) (more : List ℕ)
+    → is_kept byte ≡ true → (bit == 0) ≡ true → ends_word more ≡ true
+    → option_map (whole_variable a block w before) (number_to Ten ((decimal byte ++ []) ++ more))
+    ≡ Some (variable_of a block w byte bit (before + length (decimal byte ++ [])))
 whole_found a block w before byte bit more h k ends =
     ap (λ (text : List ℕ). option_map (whole_variable a block w before) (number_to Ten (text ++ more))) (append-nil (decimal byte))
     ∙ ap (option_map (whole_variable a block w before)) (decimal_kept byte more h ends)
@@ -58,7 +64,8 @@ whole_found a block w before byte bit more h k ends =
     ∙ ap (λ (text : List ℕ). Some (variable_of a block w byte bit (before + length text))) (sym (append-nil (decimal byte)))
 
 -- the numbers of a place, whatever stands after them
-numbers_found : (a : AreaName) (block : Option ℕ) (w : Width) (before byte bit : ℕ) (more : List ℕ) → is_kept byte ≡ true → is_bit_of w bit ≡ true → ends_word more ≡ true
+numbers_found : (a : AreaName) (block : Option ℕ) (w : Width) (before byte bit : ℕ) (more : List ℕ)
+    → is_kept byte ≡ true → is_bit_of w bit ≡ true → ends_word more ≡ true
     → place_at a block (Some w) before (numbers w byte bit ++ more) ≡ Some (variable_of a block w byte bit (before + length (numbers w byte bit)))
 numbers_found a block width.Bit before byte bit more h k ends = bit_found a block before byte bit more h k ends
 numbers_found a block width.Byte before byte bit more h k ends = whole_found a block width.Byte before byte bit more h k ends
@@ -73,7 +80,8 @@ no_digit width.Byte x = refl
 no_digit width.Word x = refl
 no_digit width.Dword x = refl
 
-letter_found : (a : AreaName) (block : Option ℕ) (w : Width) (before : ℕ) (x : List ℕ) → lettered_at a block before (width_word w ++ x) ≡ place_at a block (Some w) (before + 1) x
+letter_found : (a : AreaName) (block : Option ℕ) (w : Width) (before : ℕ) (x : List ℕ)
+    → lettered_at a block before (width_word w ++ x) ≡ place_at a block (Some w) (before + 1) x
 letter_found a block width.Bit before x = refl
 letter_found a block width.Byte before x = refl
 letter_found a block width.Word before x = refl
@@ -86,7 +94,8 @@ letter_size width.Word = refl
 letter_size width.Dword = refl
 
 -- a place stands after the letters of an area, where no digit stands after them
-area_found : (a : AreaName) (x : List ℕ) → begins_with_digit Ten x ≡ false → direct_at ((codes "%" ++ area_word a) ++ x) ≡ lettered_at a None (length (codes "%" ++ area_word a)) x
+area_found : (a : AreaName) (x : List ℕ) → begins_with_digit Ten x ≡ false
+    → direct_at ((codes "%" ++ area_word a) ++ x) ≡ lettered_at a None (length (codes "%" ++ area_word a)) x
 area_found area.I x h = if_false (begins_with_digit Ten x) _ _ h
 area_found area.Q x h = if_false (begins_with_digit Ten x) _ _ h
 area_found area.M x h = if_false (begins_with_digit Ten x) _ _ h
@@ -95,7 +104,8 @@ area_found area.Db x h = ap (λ (o : Option Number). block_at o x) (if_false (be
 area_found area.Di x h = refl
 
 -- and after those of a data block with its number
-block_found : (n : ℕ) (x : List ℕ) → is_kept n ≡ true → direct_at (codes "%DB" ++ (decimal n ++ (codes ".DB" ++ x))) ≡ lettered_at area.Db (Some n) (length (decimal n) + 6) x
+block_found : (n : ℕ) (x : List ℕ) → is_kept n ≡ true
+    → direct_at (codes "%DB" ++ (decimal n ++ (codes ".DB" ++ x))) ≡ lettered_at area.Db (Some n) (length (decimal n) + 6) x
 block_found n x h =
     ap (λ (o : Option Number). block_at o (decimal n ++ (codes ".DB" ++ x))) (decimal_kept n (codes ".DB" ++ x) h refl)
     ∙ ap (numbered_at (number n (length (decimal n)))) (drop-append_seam (decimal n) (codes ".DB" ++ x))
@@ -105,15 +115,18 @@ block_found n x h =
 
 -- a text is a direct variable where its place is found, whatever stands after it
 direct_is : (a : AreaName) (block : Option ℕ) (w : Width) (byte bit : ℕ)
-    → ((more : List ℕ) → ends_word more ≡ true → direct_at (place_in a block w byte bit ++ more) ≡ Some (variable_of a block w byte bit (length (place_in a block w byte bit))))
-    → ((more : List ℕ) → piece_at (place_in a block w byte bit ++ more) ≡ direct_piece (direct_at (place_in a block w byte bit ++ more))) → IsDirect a block w byte bit
+    → ((more : List ℕ) → ends_word more ≡ true
+    → direct_at (place_in a block w byte bit ++ more) ≡ Some (variable_of a block w byte bit (length (place_in a block w byte bit))))
+    → ((more : List ℕ) → piece_at (place_in a block w byte bit ++ more) ≡ direct_piece (direct_at (place_in a block w byte bit ++ more)))
+    → IsDirect a block w byte bit
 direct_is a block w byte bit at piece = record {
   is_token = λ more ends. record { found = piece more ∙ ap direct_piece (at more ends); size = refl };
   found = ap direct_at (sym (append-nil (place_in a block w byte bit))) ∙ at [] refl;
 }
 
 -- the text of a place with the letters before it
-place_apart : (front : List ℕ) (w : Width) (byte bit : ℕ) (more : List ℕ) → (front ++ place_text w byte bit) ++ more ≡ front ++ (width_word w ++ (numbers w byte bit ++ more))
+place_apart : (front : List ℕ) (w : Width) (byte bit : ℕ) (more : List ℕ)
+    → (front ++ place_text w byte bit) ++ more ≡ front ++ (width_word w ++ (numbers w byte bit ++ more))
 place_apart front w byte bit more =
     append_assoc front (place_text w byte bit) more
     ∙ ap (λ (x : List ℕ). front ++ (x ++ more)) (append_assoc (width_word w) (decimal byte) (bit_text w bit))
@@ -132,7 +145,8 @@ place_size front w byte bit =
 
 -- a place whose letters are found
 placed : (a : AreaName) (block : Option ℕ) (front : List ℕ) (before : ℕ) (w : Width) (byte bit : ℕ) (more : List ℕ)
-    → direct_at (front ++ (width_word w ++ (numbers w byte bit ++ more))) ≡ lettered_at a block before (width_word w ++ (numbers w byte bit ++ more)) → before ≡ length front
+    → direct_at (front ++ (width_word w ++ (numbers w byte bit ++ more))) ≡ lettered_at a block before (width_word w ++ (numbers w byte bit ++ more))
+    → before ≡ length front
     → is_kept byte ≡ true → is_bit_of w bit ≡ true → ends_word more ≡ true
     → direct_at ((front ++ place_text w byte bit) ++ more) ≡ Some (variable_of a block w byte bit (length (front ++ place_text w byte bit)))
 placed a block front before w byte bit more letters e h k ends =

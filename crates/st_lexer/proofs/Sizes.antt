@@ -16,7 +16,8 @@ use Rattle.st_tree.specs.declared.token.StKind.TheVariants as sort
 abbrev pub Within : {X : Type 0} → (X → ℕ) → ℕ → Option X → Type 0
 Within size most o = IfSome o (λ x. IsWithin (size x) most)
 
-choose : {X : Type 0} (size : X → ℕ) (most : ℕ) (b : Bool) (x y : Option X) → (b ≡ true → Within size most x) → (b ≡ false → Within size most y) → Within size most (if b then x else y)
+choose : {X : Type 0} (size : X → ℕ) (most : ℕ) (b : Bool) (x y : Option X) → (b ≡ true → Within size most x)
+    → (b ≡ false → Within size most y) → Within size most (if b then x else y)
 choose size most true x y p q = p refl
 choose size most false x y p q = q refl
 
@@ -26,7 +27,8 @@ widen size most more None h w = tt
 widen size most more (Some x) h w = record { some = w.some; enough = omega (arith, h, w.enough) }
 
 -- what is made of it takes so many bytes more
-mapped : {X Y : Type 0} (of : X → ℕ) (size : Y → ℕ) (f : X → Y) (before most more : ℕ) → before + most ≤ more → ((x : X) → size (f x) ≡ before + of x) → (o : Option X)
+mapped : {X Y : Type 0} (of : X → ℕ) (size : Y → ℕ) (f : X → Y) (before most more : ℕ)
+    → before + most ≤ more → ((x : X) → size (f x) ≡ before + of x) → (o : Option X)
     → Within of most o → Within size more (option_map f o)
 mapped of size f before most more h e None w = tt
 mapped of size f before most more h e (Some x) w =
@@ -88,7 +90,8 @@ literal_bytes literal = literal.size
 truth_within : (before most : ℕ) (word : List ℕ) → 0 < before → length word ≤ most → Within literal_bytes (before + most) (truth_named before word)
 truth_within before most word some h =
     choose literal_bytes (before + most) (is_same_word word (codes "TRUE")) _ _ (λ e. record { some = omega (arith, some); enough = omega (arith, h) })
-    (λ e. choose literal_bytes (before + most) (is_same_word word (codes "FALSE")) _ None (λ e. record { some = omega (arith, some); enough = omega (arith, h) }) (λ e. tt))
+    (λ e. choose literal_bytes (before + most) (is_same_word word (codes "FALSE")) _ None
+    (λ e. record { some = omega (arith, some); enough = omega (arith, h) }) (λ e. tt))
 
 or_within : (most : ℕ) (o p : Option Literal) → Within literal_bytes most o → Within literal_bytes most p → Within literal_bytes most (or_else o p)
 or_within most (Some x) p v w = v
@@ -98,7 +101,8 @@ or_within most None p v w = w
 as_literal : (kind : StType) (minus : Bool) (before more : ℕ) (bytes : List ℕ) (to : Base) → before + length bytes ≤ more →
     Within literal_bytes more (option_map (literal_of_number kind minus before) (number_to to bytes))
 as_literal kind minus before more bytes to h =
-    mapped number_bytes literal_bytes (literal_of_number kind minus before) before (length bytes) more h (λ n. refl) (number_to to bytes) (number_within to bytes)
+    mapped number_bytes literal_bytes (literal_of_number kind minus before) before
+    (length bytes) more h (λ n. refl) (number_to to bytes) (number_within to bytes)
 
 truth_behind_within : (before : ℕ) (bytes : List ℕ) → 0 < before → Within literal_bytes (before + length bytes) (truth_behind before bytes)
 truth_behind_within before bytes some =
@@ -145,7 +149,8 @@ behind_within (Some kind) bytes e =
     let rest = drop before bytes in
     let less : word_size bytes < length bytes = type_before bytes kind e in
     let left : length rest ≡ length bytes - before = length-drop before bytes in
-    widen literal_bytes (before + length rest) (length bytes) (value_behind kind before rest) (omega (arith, less, left)) (value_within kind before rest (omega arith))
+    widen literal_bytes (before + length rest) (length bytes) (value_behind kind before rest)
+    (omega (arith, less, left)) (value_within kind before rest (omega arith))
 
 literal_within : (bytes : List ℕ) → Within literal_bytes (length bytes) (literal_at bytes)
 literal_within bytes = behind_within (type_at bytes) bytes refl
@@ -169,19 +174,22 @@ bit_within name block before (Some byte) bytes w =
     (omega (arith, some, less, left, w.enough)) (λ n. refl) (number_to base.Ten (drop 1 rest)) (number_within base.Ten (drop 1 rest)))
     (λ h. tt)
 
-whole_within : (name : AreaName) (block : Option ℕ) (wide : Width) (before : ℕ) (bytes : List ℕ) → Within direct_bytes (before + length bytes) (whole_at name block wide before bytes)
+whole_within : (name : AreaName) (block : Option ℕ) (wide : Width) (before : ℕ) (bytes : List ℕ)
+    → Within direct_bytes (before + length bytes) (whole_at name block wide before bytes)
 whole_within name block wide before bytes =
     mapped number_bytes direct_bytes (whole_variable name block wide before) before (length bytes) (before + length bytes) (omega arith) (λ n. refl)
     (number_to base.Ten bytes) (number_within base.Ten bytes)
 
-place_within : (name : AreaName) (block : Option ℕ) (wide : Option Width) (before : ℕ) (bytes : List ℕ) → Within direct_bytes (before + length bytes) (place_at name block wide before bytes)
+place_within : (name : AreaName) (block : Option ℕ) (wide : Option Width) (before : ℕ) (bytes : List ℕ)
+    → Within direct_bytes (before + length bytes) (place_at name block wide before bytes)
 place_within name block None before bytes = tt
 place_within name block (Some width.Bit) before bytes = bit_within name block before (number_to base.Ten bytes) bytes (number_within base.Ten bytes)
 place_within name block (Some width.Byte) before bytes = whole_within name block width.Byte before bytes
 place_within name block (Some width.Word) before bytes = whole_within name block width.Word before bytes
 place_within name block (Some width.Dword) before bytes = whole_within name block width.Dword before bytes
 
-lettered_within : (name : AreaName) (block : Option ℕ) (before : ℕ) (bytes : List ℕ) → Within direct_bytes (before + length bytes) (lettered_at name block before bytes)
+lettered_within : (name : AreaName) (block : Option ℕ) (before : ℕ) (bytes : List ℕ)
+    → Within direct_bytes (before + length bytes) (lettered_at name block before bytes)
 lettered_within name block before [] = tt
 lettered_within name block before (letter ∷ rest) =
     widen direct_bytes (before + 1 + length rest) (before + suc (length rest)) (lettered_at name block before (letter ∷ rest)) (omega arith)
@@ -218,7 +226,8 @@ data_within (letter ∷ rest) =
     widen direct_bytes (3 + length rest) (2 + suc (length rest)) (data_at (letter ∷ rest)) (omega arith)
     (choose direct_bytes (3 + length rest) (to_ascii_uppercase letter == 66) (block_at (number_to base.Ten rest) rest) other
     (λ h. block_within (number_to base.Ten rest) rest (number_within base.Ten rest))
-    (λ h. choose direct_bytes (3 + length rest) (to_ascii_uppercase letter == 73) (lettered_at area.Di None 3 rest) None (λ h. lettered_within area.Di None 3 rest) (λ h. tt)))
+    (λ h. choose direct_bytes (3 + length rest) (to_ascii_uppercase letter == 73)
+    (lettered_at area.Di None 3 rest) None (λ h. lettered_within area.Di None 3 rest) (λ h. tt)))
 
 area_within : (o : Option AreaName) (letter : ℕ) (bytes : List ℕ) → Within direct_bytes (2 + length bytes) (area_at o letter bytes)
 area_within (Some name) letter bytes = unlettered_within name bytes
@@ -229,7 +238,8 @@ direct_within [] = tt
 direct_within (percent ∷ []) = tt
 direct_within (percent ∷ letter ∷ rest) =
     widen direct_bytes (2 + length rest) (suc (suc (length rest))) (direct_at (percent ∷ letter ∷ rest)) (omega arith)
-    (choose direct_bytes (2 + length rest) (percent == 37) _ None (λ h. area_within (area_named (to_ascii_uppercase letter)) (to_ascii_uppercase letter) rest) (λ h. tt))
+    (choose direct_bytes (2 + length rest) (percent == 37) _ None
+    (λ h. area_within (area_named (to_ascii_uppercase letter)) (to_ascii_uppercase letter) rest) (λ h. tt))
 
 -- Pieces
 
@@ -269,10 +279,13 @@ comment_within (first ∷ rest) =
     (λ h. mapped itself itself suc 1 (length rest) (suc (length rest)) (omega arith) (λ n. omega arith) (comment_size rest) (comment_within rest))
 
 sign_within : (first : ℕ) (rest : List ℕ) → Within piece_size (suc (length rest)) (sign_piece first rest)
-sign_within first [] = choose piece_size (suc 0) (is_sign first) (Some (token sort.Sign 1)) None (λ h. record { some = omega arith; enough = omega arith }) (λ h. tt)
+sign_within first [] =
+    choose piece_size (suc 0) (is_sign first) (Some (token sort.Sign 1)) None (λ h. record { some = omega arith; enough = omega arith }) (λ h. tt)
 sign_within first (second ∷ rest) =
-    choose piece_size (suc (suc (length rest))) (is_double_sign first second) (Some (token sort.Sign 2)) _ (λ h. record { some = omega arith; enough = omega arith })
-    (λ h. choose piece_size (suc (suc (length rest))) (is_sign first) (Some (token sort.Sign 1)) None (λ h. record { some = omega arith; enough = omega arith }) (λ h. tt))
+    choose piece_size (suc (suc (length rest))) (is_double_sign first second)
+    (Some (token sort.Sign 2)) _ (λ h. record { some = omega arith; enough = omega arith })
+    (λ h. choose piece_size (suc (suc (length rest))) (is_sign first) (Some (token sort.Sign 1)) None
+    (λ h. record { some = omega arith; enough = omega arith }) (λ h. tt))
 
 mark_within : (first : ℕ) (rest : List ℕ) → Within piece_size (suc (length rest)) (mark_piece first rest)
 mark_within first rest =

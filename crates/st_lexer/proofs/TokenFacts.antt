@@ -3,7 +3,7 @@ use Rattle.st_tree.proofs.Common.{◌≡◌, ℕ, zero, suc, ◌+◌, ◌-◌, B
 use Rattle.memory_areas.specs.declared.place.AreaName.TheVariants as area
 use Rattle.s7_base.specs.declared.word.Width.TheVariants as width
 use Rattle.st_lexer.proofs.Words.{and_both, letter_word}
-use Rattle.st_lexer.proofs.Common.{kept, bit_variable, whole_variable, bit_behind, bit_at, place_at, lettered_at, unlettered_at, begins_with_block, block_at, data_at, area_named, area_at, direct_at, is_digit_to, begins_with_digit, base_at, number_to, number_at, greatest, is_signed, literal_of_number, truth_named, or_else, truth_behind, number_behind, value_behind, word_size, type_at, type_of_base, literal_behind, literal_at, has_value, is_kept, is_block_of, Piece, gap, token, is_blank, is_letter, ranged_piece, number_piece, word_piece, direct_piece, other_piece, mark_piece, sign_piece, comment_size, is_sign, is_double_sign, piece_at, piece_size, line_behind, token_of, Cut, prepend_tokens, with_piece, cut_from, great_from, first_bad, answer, tokens_of, is_word, HasPlace, HasValue, IsOfSort, IsOfItsSort, Direct, Literal, Base, Number, StToken, StType}
+use Rattle.st_lexer.proofs.Common.{clamped_value, bit_variable, whole_variable, bit_behind, bit_at, place_at, lettered_at, unlettered_at, begins_with_block, block_at, data_at, area_named, area_at, direct_at, is_digit_to, begins_with_digit, base_at, number_to, number_at, greatest, is_signed, literal_of_number, truth_named, or_else, truth_behind, number_behind, value_behind, word_size, type_at, type_of_base, literal_behind, literal_at, has_value, is_kept, is_block_of, Piece, gap, token, is_blank, is_letter, ranged_piece, number_piece, word_piece, direct_piece, other_piece, mark_piece, sign_piece, comment_size, is_sign, is_double_sign, piece_at, piece_size, line_behind, token_of, Cut, prepend_tokens, with_piece, cut_from, great_from, first_bad, answer, tokens_of, is_word, HasPlace, HasValue, IsOfSort, IsOfItsSort, Direct, Literal, Base, Number, StToken, StType}
 use Rattle.st_lexer.specs.Direct.{width_named}
 use Rattle.st_lexer.specs.TokenFacts.{TokensAreOfTheirSorts}
 use Rattle.st_lexer.specs.declared.number.Base.TheVariants as base
@@ -79,14 +79,15 @@ literal_value_of bytes = sign_value (literal_at bytes) (behind_sign (type_at byt
 
 -- Direct variables
 
-kept_is : (number : Number) → is_kept (kept number) ≡ true
+kept_is : (number : Number) → is_kept (clamped_value number) ≡ true
 kept_is number = grind (arith, nat_tests)
 
 bit_place : (name : AreaName) (block : Option ℕ) (before : ℕ) (o : Option Number) (bytes : List ℕ) → is_block_of name block ≡ true
     → IfSome (bit_behind name block before o bytes) HasPlace
 bit_place name block before None bytes h = tt
 bit_place name block before (Some byte) bytes h =
-    choose HasPlace (begins_with 46 (drop byte.size bytes)) _ None (λ e. bit_number name block before byte (number_to base.Ten (drop 1 (drop byte.size bytes))) h) (λ e. tt)
+    choose HasPlace (begins_with 46 (drop byte.size bytes)) _ None
+    (λ e. bit_number name block before byte (number_to base.Ten (drop 1 (drop byte.size bytes))) h) (λ e. tt)
   where
     bit_number : (name : AreaName) (block : Option ℕ) (before : ℕ) (byte : Number) (o : Option Number) → is_block_of name block ≡ true
         → IfSome (option_map (bit_variable name block before byte) o) HasPlace
@@ -110,7 +111,8 @@ width_place name block (Some width.Byte) before bytes h = whole_place name block
 width_place name block (Some width.Word) before bytes h = whole_place name block width.Word before (number_to base.Ten bytes) h (λ e. cc)
 width_place name block (Some width.Dword) before bytes h = whole_place name block width.Dword before (number_to base.Ten bytes) h (λ e. cc)
 
-lettered_place : (name : AreaName) (block : Option ℕ) (before : ℕ) (bytes : List ℕ) → is_block_of name block ≡ true → IfSome (lettered_at name block before bytes) HasPlace
+lettered_place : (name : AreaName) (block : Option ℕ) (before : ℕ) (bytes : List ℕ)
+    → is_block_of name block ≡ true → IfSome (lettered_at name block before bytes) HasPlace
 lettered_place name block before [] h = tt
 lettered_place name block before (letter ∷ rest) h = width_place name block (width_named (to_ascii_uppercase letter)) (before + 1) rest h
 
@@ -123,7 +125,7 @@ block_place : (o : Option Number) (bytes : List ℕ) → IfSome (block_at o byte
 block_place None bytes = lettered_place area.Db None 3 bytes refl
 block_place (Some block) bytes =
     choose HasPlace (begins_with_block (drop block.size bytes)) _ None
-    (λ e. lettered_place area.Db (Some (kept block)) (block.size + 6) (drop 3 (drop block.size bytes)) (kept_is block)) (λ e. tt)
+    (λ e. lettered_place area.Db (Some (clamped_value block)) (block.size + 6) (drop 3 (drop block.size bytes)) (kept_is block)) (λ e. tt)
 
 data_place : (bytes : List ℕ) → IfSome (data_at bytes) HasPlace
 data_place [] = tt
@@ -233,7 +235,8 @@ before_others (gap size) bytes line more h a = a
 before_others (token kind size) bytes line more h a =
     All-cons IsOfItsSort (record { kind = kind; text = take size bytes; line = record { 0 = line } }) more h a
 
-piece_sorts : (o : Option Piece) (bytes : List ℕ) (line : ℕ) (next : Piece → Cut) → IfSome o (Fits bytes) → ((piece : Piece) → All IsOfItsSort (next piece).tokens)
+piece_sorts : (o : Option Piece) (bytes : List ℕ) (line : ℕ) (next : Piece → Cut)
+    → IfSome o (Fits bytes) → ((piece : Piece) → All IsOfItsSort (next piece).tokens)
     → All IsOfItsSort (with_piece o line (λ piece. prepend_tokens (token_of piece bytes line) (next piece))).tokens
 piece_sorts None bytes line next h a = All-nil IsOfItsSort
 piece_sorts (Some piece) bytes line next h a = before_others piece bytes line (next piece).tokens h (a piece)

@@ -104,7 +104,8 @@ bad bytes tokens line rest cuts none e = answered bytes tokens (Some (record { 0
 
 -- a cut that goes to the end, with these tokens
 abbrev IsCut : ℕ → Type 0
-IsCut n = (line : ℕ) (bytes : List ℕ) → length bytes ≤ n → (cut_from 0 line bytes).bad ≡ None → (end : ℕ) × Cuts line bytes (cut_from 0 line bytes).tokens end []
+IsCut n =
+    (line : ℕ) (bytes : List ℕ) → length bytes ≤ n → (cut_from 0 line bytes).bad ≡ None → (end : ℕ) × Cuts line bytes (cut_from 0 line bytes).tokens end []
 
 cut_piece : (n : ℕ) → IsCut n → (line : ℕ) (bytes : List ℕ) (piece : Piece) → length bytes ≤ suc n → piece_at bytes ≡ Some piece →
     (cut_from 0 line bytes).bad ≡ None → (end : ℕ) × Cuts line bytes (cut_from 0 line bytes).tokens end []
@@ -137,7 +138,8 @@ is_cut zero line (b ∷ rest) h e = absurd (omega arith)
 is_cut (suc n) line (b ∷ rest) h e = cut_found n (is_cut n) line b rest (piece_at (b ∷ rest)) (omega arith) refl e
 
 -- an answer that is tokens is those of the cut
-answered_ok : (great bad : Option Line) (ts tokens : List StToken) → answer (first_bad great bad) ts ≡ Ok tokens → (great ≡ None) × ((bad ≡ None) × (ts ≡ tokens))
+answered_ok : (great bad : Option Line) (ts tokens : List StToken)
+    → answer (first_bad great bad) ts ≡ Ok tokens → (great ≡ None) × ((bad ≡ None) × (ts ≡ tokens))
 answered_ok (Some line) bad ts tokens e = absurd cc
 answered_ok None (Some line) ts tokens e = absurd cc
 answered_ok None None ts tokens e = (refl, (refl, cc))

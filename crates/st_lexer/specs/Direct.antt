@@ -1,4 +1,5 @@
--- Direct variables at the front of an ST text.
+-- Direct variables in a text. They begin with `%`, as `%IX0.7` and `%MW10`, and name a place.
+-- Held against: IEC 61131-3, 'Directly represented variables'.
 use Rattle.std.specs.Prelude.{ℕ, ◌+◌, ◌-◌, ◌^◌, min, Bool, false, ◌==◌, ◌&&◌, if◌then◌else◌, List, [], ◌∷◌, drop, Option, Some, None, option_map}
 use Rattle.std.specs.Char.{to_ascii_uppercase}
 use Rattle.s7_base.specs.Tokens.{begins_with}
@@ -11,12 +12,12 @@ use Rattle.st_lexer.specs.declared.direct.Direct.{Direct}
 use Rattle.st_lexer.specs.declared.number.Base.TheVariants.{Ten}
 use Rattle.st_lexer.specs.declared.number.Number.{Number}
 
--- Each place stands in an area, in the data block whose number is written or in none, and after so
--- many bytes of its direct variable.
+-- Each place is in an area, in the data block whose number is written or in none, and comes after `before` bytes of
+-- its direct variable.
 
--- a number that is too great is kept as the greatest
-abbrev pub kept : Number → ℕ
-kept number = min number.value (2 ^ 32 - 1)
+-- a number that is kept in 32 bits; one above 4,294,967,295 is kept as that number
+abbrev pub clamped_value : Number → ℕ
+clamped_value number = min number.value (2 ^ 32 - 1)
 
 -- the direct variable of a bit, `%IX0.7`; its text has `before` bytes, the byte's number, a point and
 -- the bit's number
@@ -26,31 +27,31 @@ bit_variable area block before byte bit =
       area = area;
       block = block;
       width = Bit;
-      byte = kept byte;
-      bit = kept bit;
+      byte = clamped_value byte;
+      bit = clamped_value bit;
       size = before + byte.size + 1 + bit.size;
     }
 
 -- the direct variable of a byte, a word or a double word, `%MW10`, with no bit number
 abbrev pub whole_variable : AreaName → Option ℕ → Width → ℕ → Number → Direct
 whole_variable area block width before byte =
-    record { area = area; block = block; width = width; byte = kept byte; bit = 0; size = before + byte.size }
+    record { area = area; block = block; width = width; byte = clamped_value byte; bit = 0; size = before + byte.size }
 
 -- the bit of a byte whose number was read: a point and the number of the bit must follow it
 abbrev pub bit_of_byte : AreaName → Option ℕ → ℕ → Number → List ℕ → Option Direct
 bit_of_byte area block before byte rest =
     if begins_with 46 rest then option_map (bit_variable area block before byte) (number_to Ten (drop 1 rest)) else None
 
--- the bit after the number of its byte; none where no number stands there
+-- the bit after the number of its byte; none where no number comes
 abbrev pub bit_behind : AreaName → Option ℕ → ℕ → Option Number → List ℕ → Option Direct
 bit_behind area block before None bytes = None
 bit_behind area block before (Some byte) bytes = bit_of_byte area block before byte (drop byte.size bytes)
 
--- the number of a byte, a point and that of a bit
+-- a bit after the letters of an area: the number of a byte, a point and that of a bit
 abbrev pub bit_at : AreaName → Option ℕ → ℕ → List ℕ → Option Direct
 bit_at area block before bytes = bit_behind area block before (number_to Ten bytes) bytes
 
--- the number of a byte, at which a byte or more begins
+-- a place of a byte or more after the letters of an area: the number of its first byte
 abbrev pub whole_at : AreaName → Option ℕ → Width → ℕ → List ℕ → Option Direct
 whole_at area block width before bytes = option_map (whole_variable area block width before) (number_to Ten bytes)
 
@@ -75,7 +76,7 @@ lettered_at area block before [] = None
 lettered_at area block before (letter ∷ rest) =
     place_at area block (width_named (to_ascii_uppercase letter)) (before + 1) rest
 
--- in I, Q, M and L the letter X of a bit may be left out
+-- a bit in I, Q, M or L without the letter X, which may be left out there
 abbrev pub unlettered_at : AreaName → List ℕ → Option Direct
 unlettered_at area bytes =
     if begins_with_digit Ten bytes then bit_at area None 2 bytes else lettered_at area None 2 bytes
@@ -85,10 +86,10 @@ abbrev pub begins_with_block : List ℕ → Bool
 begins_with_block (point ∷ d ∷ b ∷ rest) = point == 46 && to_ascii_uppercase d == 68 && to_ascii_uppercase b == 66
 begins_with_block bytes = false
 
--- after the number of a data block stands its place
+-- the place after the number of a data block
 abbrev pub numbered_at : Number → List ℕ → Option Direct
 numbered_at block rest =
-    if begins_with_block rest then lettered_at Db (Some (kept block)) (block.size + 6) (drop 3 rest) else None
+    if begins_with_block rest then lettered_at Db (Some (clamped_value block)) (block.size + 6) (drop 3 rest) else None
 
 -- a place in the data block whose number is written, or in the one that the DB register names
 abbrev pub block_at : Option Number → List ℕ → Option Direct

@@ -3,17 +3,17 @@ use Rattle.std.specs.Prelude.{ℕ, ◌<◌, ◌≤◌, map}
 use Rattle.st_lexer.specs.StTokens.{Piece, gap, token, Cut}
 use Rattle.st_lexer.specs.declared.lexer.Cut.{Cut as FoundCut}
 use Rattle.st_lexer.specs.declared.lexer.Lexeme.{Lexeme}
-use Rattle.st_lexer.specs.declared.lexer.Piece.{Piece as Found}
+use Rattle.st_lexer.specs.declared.lexer.Piece.{Piece as CutPiece}
 use Rattle.st_lexer.specs.declared.lexer.Piece.TheVariants as found
 use Rattle.st_tree.specs.declared.token.StToken.{StToken}
 
 -- a piece that the code found, as the definition has it: the sort of a token, and how many bytes the
 -- piece takes
-abbrev pub view : Found → Piece
+abbrev pub view : CutPiece → Piece
 view (found.Gap size) = gap size
 view (found.Token kind size) = token kind size
 
--- the token that stands at a place in a text
+-- the token at a place in a text
 abbrev pub token_seen : Lexeme → StToken
 token_seen lexeme = record { kind = lexeme.kind; text = lexeme.text.now; line = lexeme.line }
 

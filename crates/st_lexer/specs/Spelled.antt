@@ -17,23 +17,23 @@ is_decimal n = nat_le n (greatest type.Dint false)
 abbrev pub is_byte : ℕ → Bool
 is_byte b = nat_le b 255
 
--- a type has a value; only those with a sign have values below 0
+-- a type has a value; only types with a sign have values below 0
 abbrev pub has_value : StType → ℤ → Bool
 has_value ty n =
     if int_lt n (pos 0) then is_signed ty && nat_le (unsigned_abs n) (greatest ty true)
     else nat_le (unsigned_abs n) (greatest ty false)
 
--- a number of 32 bits, as far as numbers of places are kept
+-- a number of at most 32 bits, as numbers of places are kept
 abbrev pub is_kept : ℕ → Bool
 is_kept n = nat_lt n (2 ^ 32)
 
--- the number of a data block stands in its area alone
+-- only a place in the area of data blocks may have the number of one
 abbrev pub is_block_of : AreaName → Option ℕ → Bool
 is_block_of a None = true
 is_block_of area.Db (Some n) = is_kept n
 is_block_of a (Some n) = false
 
--- a byte or more has no bit number
+-- only a bit has a bit number other than 0
 abbrev pub is_bit_of : Width → ℕ → Bool
 is_bit_of width.Bit bit = is_kept bit
 is_bit_of w bit = bit == 0
@@ -42,7 +42,7 @@ is_bit_of w bit = bit == 0
 abbrev pub is_place : AreaName → Option ℕ → Width → ℕ → ℕ → Bool
 is_place a block w byte bit = is_block_of a block && is_kept byte && is_bit_of w bit
 
--- no byte stands first that would go on with a word, a number or a type before it
+-- the text does not begin with a byte that would continue a word, a number or a type before it
 abbrev pub ends_word : List ℕ → Bool
 ends_word [] = true
 ends_word (b ∷ rest) = not (is_word_byte b) && not (b == 35)

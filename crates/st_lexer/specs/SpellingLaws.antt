@@ -19,7 +19,7 @@ use Rattle.st_tree.specs.Words.{area_word}
 use Rattle.st_tree.specs.declared.expr.StType.{StType}
 use Rattle.st_tree.specs.declared.expr.StType.TheVariants as type
 
--- a text is one token of a sort, whatever stands after it that does not go on with it
+-- a text is one token of a sort, whatever comes after it that does not continue it
 abbrev pub IsToken : StKind → List ℕ → Type 0
 IsToken kind text = (more : List ℕ) → ends_word more ≡ true → Stands (token kind (length text)) text more
 

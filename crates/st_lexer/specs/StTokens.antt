@@ -1,6 +1,7 @@
--- The tokens of an ST text. A text is cut into pieces, each standing at the front of what the pieces
--- before it leave: gaps (a blank, a comment) and tokens. Where no piece stands is a bad token, and so
--- is a decimal that is too great for a DINT, but directly after `..` and before `(`.
+-- The tokens of a Structured Text. A text is cut into pieces, each at the front of what the pieces before it leave:
+-- gaps (a blank, a comment) and tokens. Where there is no piece is a bad token, and so is a decimal that is too great
+-- for a DINT, but directly after `..` and before `(`.
+-- Held against: IEC 61131-3, 'Identifiers', 'Keywords' and 'Comments'.
 use Rattle.std.specs.Prelude.{ℕ, suc, zero, ◌+◌, ◌-◌, Bool, false, not, ◌==◌, ◌&&◌, ◌||◌, if◌then◌else◌, List, [], ◌∷◌, ◌++◌, take, drop, codes, Option, Some, None, option_map, Result, Ok, Err, nat_eq}
 use Rattle.std.specs.Cmp.Lexicographic.{pointwise}
 use Rattle.std.specs.List.{list_any}
@@ -23,11 +24,11 @@ use Rattle.st_tree.specs.declared.token.StToken.{StToken}
 
 -- Bytes
 
--- space, TAB, CR and LF
+-- a byte is a space, TAB, CR or LF
 abbrev pub is_blank : ℕ → Bool
 is_blank b = b == 32 || b == 9 || b == 13 || b == 10
 
--- a sign of one character
+-- a byte is a sign of one character
 abbrev pub is_sign : ℕ → Bool
 is_sign b = list_any (λ sign. sign == b) (codes ":;,()[]+-*/=<>&")
 
@@ -48,12 +49,12 @@ abbrev pub piece_size : Piece → ℕ
 piece_size (gap size) = size
 piece_size (token kind size) = size
 
--- how many bytes stand up to the first `*)`, with it
+-- how many bytes come up to the first `*)`, with it
 abbrev pub comment_size : List ℕ → Option ℕ
 comment_size [] = None
 comment_size (first ∷ rest) = if first == 42 && begins_with 41 rest then Some 2 else option_map suc (comment_size rest)
 
--- a longest sign
+-- a longest sign of one or two characters
 abbrev pub sign_piece : ℕ → List ℕ → Option Piece
 sign_piece first [] = if is_sign first then Some (token sort.Sign 1) else None
 sign_piece first (second ∷ rest) =
@@ -73,12 +74,12 @@ abbrev pub ranged_piece : Option Literal → Option Piece
 ranged_piece None = None
 ranged_piece (Some literal) = if is_in_range literal then Some (token sort.Literal literal.size) else None
 
--- a decimal is one in any case; the tokens beside it tell whether it is too great
+-- a decimal is a piece in any case; the tokens next to it tell whether it is too great
 abbrev pub number_piece : Base → Option Literal → Option Piece
 number_piece Ten (Some literal) = Some (token sort.Literal literal.size)
 number_piece base literal = ranged_piece literal
 
--- a type and `#` begin a literal; another word stands alone
+-- the piece of a word: a type and `#` begin a literal; another word is one alone
 abbrev pub word_piece : Option StType → List ℕ → Option Piece
 word_piece None bytes = Some (token sort.Word (word_size bytes))
 word_piece (Some type) bytes = ranged_piece (literal_at bytes)
@@ -113,16 +114,16 @@ abbrev pub token_of : Piece → List ℕ → ℕ → List StToken
 token_of (gap size) bytes line = []
 token_of (token kind size) bytes line = record { kind = kind; text = take size bytes; line = record { 0 = line } } ∷ []
 
--- the tokens up to the end of a text or to where no piece stands, and the line of that place
+-- the tokens up to the end of a text or to where no piece begins, and the line of that place
 pub record Cut : Type 0 where
   pub tokens : List StToken
   pub bad : Option Line
 
--- tokens before others
+-- tokens before those of a cut
 abbrev pub prepend_tokens : List StToken → Cut → Cut
 prepend_tokens tokens more = record { tokens = tokens ++ more.tokens; bad = more.bad }
 
--- a piece and what comes of it, or the end of the tokens
+-- the cut by a piece, or the end of the tokens where there is no piece
 abbrev pub with_piece : Option Piece → ℕ → (Piece → Cut) → Cut
 with_piece None line next = record { tokens = []; bad = Some (record { 0 = line }) }
 with_piece (Some piece) line next = next piece
@@ -151,7 +152,7 @@ abbrev pub begins_with_bracket : List StToken → Bool
 begins_with_bracket [] = false
 begins_with_bracket (first ∷ rest) = has_text (codes "(") first
 
--- the line of the first decimal that is too great where it stands; the first token may stand after `..`
+-- the line of the first decimal that is too great at its place; the first token may come after `..`
 abbrev pub great_from : Bool → List StToken → Option Line
 great_from behind_dots [] = None
 great_from behind_dots (first ∷ rest) =
@@ -159,8 +160,7 @@ great_from behind_dots (first ∷ rest) =
     then Some first.line
     else great_from (has_text (codes "..") first) rest
 
--- the line of a decimal that is too great, or else that of the place where no piece stands, after all
--- tokens
+-- the line of a decimal that is too great, or else that of the place where no piece begins, after all tokens
 abbrev pub first_bad : Option Line → Option Line → Option Line
 first_bad (Some line) place = Some line
 first_bad None place = place

@@ -4,7 +4,7 @@ use Rattle.std.specs.Prelude.{◌≡◌, ℕ, Bool, true, false, ◌&&◌, List,
 use Rattle.std.specs.List.{list_all}
 use Rattle.s7_base.specs.Tokens.{is_word_byte}
 use Rattle.st_lexer.specs.Direct.{direct_of}
-use Rattle.st_lexer.specs.Literals.{literal_at, is_in_range, signed}
+use Rattle.st_lexer.specs.Literals.{literal_at, is_in_range, signed_value}
 use Rattle.st_lexer.specs.Spelled.{has_value, is_place}
 use Rattle.st_tree.specs.Naming.{is_letter}
 use Rattle.st_lexer.specs.StTokens.{tokens_of}
@@ -19,15 +19,15 @@ abbrev pub is_word : List ℕ → Bool
 is_word [] = false
 is_word (b ∷ w) = is_letter b && list_all is_word_byte w
 
--- a direct variable stands for a place with numbers of 32 bits
+-- a direct variable names a place with numbers of 32 bits
 abbrev pub HasPlace : Direct → Type 0
 HasPlace d = is_place d.area d.block d.width d.byte d.bit ≡ true
 
--- a type that has the number of a literal has its value; so a `-` stands only before types with a sign
+-- a type that has the number of a literal has its value; so there is a `-` only before numbers of types with a sign
 abbrev pub HasValue : Literal → Type 0
-HasValue found = is_in_range found ≡ true → has_value found.kind (signed found) ≡ true
+HasValue found = is_in_range found ≡ true → has_value found.kind (signed_value found) ≡ true
 
--- what a text of a sort is
+-- the property of a text of a sort
 abbrev pub IsOfSort : StKind → List ℕ → Type 0
 IsOfSort sort.Word text = is_word text ≡ true
 IsOfSort sort.Direct text = IfSome (direct_of text) HasPlace

@@ -12,7 +12,7 @@ abbrev pub line_past : ℕ → List ℕ → ℕ
 line_past line [] = line
 line_past line (b ∷ bytes) = line_past (line_behind b line) bytes
 
--- the piece that stands at the front of a text is these bytes of it
+-- a text begins with this piece, and these are its bytes
 pub record Stands (piece : Piece) (front rest : List ℕ) : Type 0 where
   pub found : piece_at (front ++ rest) ≡ Some piece
   pub size : piece_size piece ≡ length front
@@ -24,14 +24,14 @@ pub data Cuts : ℕ → List ℕ → List StToken → ℕ → List ℕ → Type 
       Stands piece front more → Cuts (line_past line front) more tokens end rest
       → Cuts line (front ++ more) (token_of piece (front ++ more) line ++ tokens) end rest
 
--- no piece stands at the front of a text that has not ended
+-- a text that has not ended begins with no piece
 pub record NoPiece (rest : List ℕ) : Type 0 where
   pub some : 0 < length rest
   pub none : piece_at rest ≡ None
 
--- a text has these tokens exactly where it is cut to its end and no decimal is too great where it
--- stands; the first that is too great is a bad token, and else the first place where no piece stands;
--- a text that is cut to its end ends on its last line
+-- a text has these tokens exactly where it is cut to its end and no decimal is too great at its place; the first that
+-- is too great is a bad token, and else the first place where no piece begins; a text that is cut to its end ends on
+-- its last line
 pub record TokensAreCut : Type 0 where
   pub sound : (bytes : List ℕ) (tokens : List StToken) → tokens_of bytes ≡ Ok tokens
       → ((line : ℕ) × Cuts 1 bytes tokens line []) × (great_from false tokens ≡ None)

@@ -1,6 +1,6 @@
 //! Direct variables at the front of a text.
 ghost use Rattle.std.specs.Prelude.{◌≡◌, ◌≤◌, ◌<◌, ◌+◌, ◌^◌, length, drop, IfSome, true};
-ghost use Rattle.st_lexer.specs.Direct.{kept, bit_variable, whole_variable, bit_of_byte, bit_at, whole_at, width_named, place_at, lettered_at, unlettered_at, begins_with_block, numbered_at, block_at, data_at, area_named, area_at, direct_at};
+ghost use Rattle.st_lexer.specs.Direct.{clamped_value, bit_variable, whole_variable, bit_of_byte, bit_at, whole_at, width_named, place_at, lettered_at, unlettered_at, begins_with_block, numbered_at, block_at, data_at, area_named, area_at, direct_at};
 ghost use Rattle.st_lexer.specs.Literals.{number_to};
 ghost use Rattle.st_lexer.specs.Pieces.{IsWithin};
 ghost use Rattle.st_lexer.specs.declared.number.Base.TheVariants.{Ten};
@@ -28,13 +28,13 @@ pub struct Direct {
     pub size: usize,
 }
 
-fn kept(number: Number) -> u32
-    ensures { result ≡ kept number }
+fn clamped_value(number: Number) -> u32
+    ensures { result ≡ clamped_value number }
 {
     u32::try_from(number.value).unwrap_or(u32::MAX)
 }
 
-/// The number of a byte, a point and that of a bit.
+/// A bit after the letters of an area: the number of a byte, a point and the number of a bit.
 fn bit_at(area: AreaName, block: Option<u32>, before: usize, bytes: &[u8]) -> Option<Direct>
     requires { before + length bytes.now < 2 ^ 64 }
     ensures direct { result ≡ bit_at area block before bytes.now }
@@ -50,13 +50,13 @@ fn bit_at(area: AreaName, block: Option<u32>, before: usize, bytes: &[u8]) -> Op
         area,
         block,
         width: Width::Bit,
-        byte: kept(byte),
-        bit: kept(bit),
+        byte: clamped_value(byte),
+        bit: clamped_value(bit),
         size: before + byte.size + 1 + bit.size,
     })
 }
 
-/// The number of a byte, at which a byte or more begins.
+/// A place of a byte or more after the letters of an area: the number of its first byte.
 fn whole_at(
     area: AreaName,
     block: Option<u32>,
@@ -73,7 +73,7 @@ fn whole_at(
         area,
         block,
         width,
-        byte: kept(byte),
+        byte: clamped_value(byte),
         bit: 0,
         size: before + byte.size,
     })
@@ -127,7 +127,7 @@ fn lettered_at(area: AreaName, block: Option<u32>, before: usize, bytes: &[u8]) 
     }
 }
 
-/// In I, Q, M and L the letter X of a bit may be left out.
+/// A bit in I, Q, M or L without the letter X, which may be left out there.
 fn unlettered_at(area: AreaName, bytes: &[u8]) -> Option<Direct>
     ensures direct { result ≡ unlettered_at area bytes.now }
     ensures within { IfSome result (λ direct. IsWithin direct.size (2 + length bytes.now)) }
@@ -139,7 +139,7 @@ fn unlettered_at(area: AreaName, bytes: &[u8]) -> Option<Direct>
     }
 }
 
-/// The text begins with `.DB`, in any case.
+/// Whether the text begins with `.DB`, in any case.
 fn begins_with_block(bytes: &[u8]) -> bool
     ensures test { result ≡ begins_with_block bytes.now }
     ensures within { result ≡ true → 3 ≤ length bytes.now }
@@ -161,7 +161,7 @@ fn numbered_at(block: Number, rest: &[u8]) -> Option<Direct>
     if begins_with_block(rest) {
         lettered_at(
             AreaName::Db,
-            Some(kept(block)),
+            Some(clamped_value(block)),
             block.size + 6,
             rest_after(rest, 3),
         )

@@ -1,5 +1,5 @@
-//! Cuts a text into pieces and keeps those that are tokens, where they stand in the text: a parser reads
-//! them there and copies no characters. `st_tokens` copies them out.
+//! Cuts a text into pieces and keeps those that are tokens, as parts of the text: a parser reads them there
+//! and copies no characters. `st_tokens` copies them.
 ghost use Rattle.std.specs.Prelude.{◌≡◌, ◌≤◌, ◌+◌, ◌++◌, ◌&&◌, ◌==◌, length, drop, take, map, false, Ok, Err, IfSome, IfOk, OnOk, option_map};
 ghost use Rattle.s7_base.specs.Tokens.{begins_with, line_size, line_at_end};
 ghost use Rattle.s7_base.specs.Answers.{Answers, IfRefused};
@@ -20,7 +20,7 @@ use s7_base::{Line, List, NoMemory, Reason, Rejection, begins_with, front_of, re
 use st_tree::{StKind, StToken};
 use std::alloc::Global;
 
-/// What stands at the front of a text, with its size in bytes.
+/// What a text begins with, and its size in bytes.
 #[derive(Clone, Copy)]
 pub enum Piece {
     /// A blank or a comment.
@@ -30,17 +30,17 @@ pub enum Piece {
     Token(StKind, usize),
 }
 
-/// A token where it stands in a text.
+/// A token as a part of a text.
 #[derive(Clone, Copy)]
 pub struct Lexeme<'t> {
     pub kind: StKind,
 
-    /// Its characters, a part of the text.
+    /// The characters of the token, a part of the text.
     pub text: &'t [u8],
     pub line: Line,
 }
 
-/// The tokens up to the end of a text or to where no piece stands, and the line of that place.
+/// The tokens up to the end of a text or to where no piece begins, and the line of that place.
 #[derive(Drop)]
 pub struct Cut<'t> {
     pub tokens: Vec<Lexeme<'t>>,
@@ -87,7 +87,7 @@ fn closes_comment(first: u8, behind: &[u8]) -> bool
     first == b'*' && begins_with(b')', behind)
 }
 
-/// How many bytes stand up to the first `*)`, with it.
+/// How many bytes come up to the first `*)`, with it.
 fn comment_size(bytes: &[u8]) -> Option<usize>
     ensures size { result ≡ comment_size bytes.now }
     ensures within { IfSome result (λ size. size ≤ length bytes.now) }
@@ -146,7 +146,7 @@ fn ranged_piece(literal: Option<Literal>) -> Option<Piece>
     }
 }
 
-/// A number as a piece; whether a decimal is too great, its neighbours tell.
+/// A number as a piece; whether a decimal is too great depends on its neighbours.
 fn number_piece(bytes: &[u8]) -> Option<Piece>
     ensures { option_map view result ≡ number_piece (base_at bytes.now) (literal_at bytes.now) }
 {
@@ -247,7 +247,7 @@ fn keep_token<'t>(
     Ok(())
 }
 
-/// Cuts a text up to its end or to where no piece stands.
+/// Cuts a text up to its end or to where no piece begins.
 fn cut_text<'t>(alloc: Global, bytes: &'t [u8]) -> Result<Cut<'t>, NoMemory>
     ensures { IfOk result (λ cut. cut_view cut ≡ cut_from 0 1 bytes.now) }
 {
@@ -269,7 +269,7 @@ fn cut_text<'t>(alloc: Global, bytes: &'t [u8]) -> Result<Cut<'t>, NoMemory>
     Ok(Cut { tokens, bad: None })
 }
 
-/// The text is that of a literal outside its type's range.
+/// Whether the text is that of a literal outside its type's range.
 fn is_great_literal(text: &[u8]) -> bool
     ensures { result ≡ is_great sort.Literal (literal_at text.now) }
 {
@@ -279,7 +279,7 @@ fn is_great_literal(text: &[u8]) -> bool
     }
 }
 
-/// The token is a literal outside its type's range.
+/// Whether the token is a literal outside its type's range.
 fn is_great(token: &Lexeme) -> bool
     ensures { result ≡ is_great token.now.kind (literal_at token.now.text.now) }
 {
@@ -304,7 +304,7 @@ fn begins_with_bracket(tokens: &[Lexeme]) -> bool
     }
 }
 
-/// The line of the first decimal that is too great where it stands.
+/// The line of the first decimal that is too great at its place.
 fn great_line(tokens: &[Lexeme]) -> Option<Line>
     ensures { result ≡ great_from false (map token_seen tokens.now) }
 {
@@ -327,7 +327,7 @@ fn first_bad(great: Option<Line>, place: Option<Line>) -> Option<Line>
     great.or(place)
 }
 
-/// The tokens of a text where they stand in it, or the line of its first bad token.
+/// The tokens of a text as parts of it, or the line of its first bad token.
 pub fn lexemes<'t>(alloc: Global, bytes: &'t [u8]) -> Result<Vec<Lexeme<'t>>, Rejection>
     ensures tokens { IfOk result (λ found. tokens_of bytes.now ≡ Ok (map token_seen found.items)) }
     ensures refused { IfRefused result (λ line reason. tokens_of bytes.now ≡ Err (Refused line reason)) }

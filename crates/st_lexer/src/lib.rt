@@ -1,9 +1,9 @@
 //! The tokens of a Structured Text.
 //!
-//! Stands on `s7_base`, `memory_areas` and `st_tree`, and its proofs on `digit_texts`. `specs/` has what
-//! the tokens of a text are, the value of a literal and the place of a direct variable; `token_laws` says
-//! the same of tokens as a relation, `token_facts` what the tokens of a text are by their sorts, and
-//! `spelling_laws` that what a canonical text writes for a word, a literal or a place is one token of it.
+//! Uses `s7_base`, `memory_areas` and `st_tree`, and its proofs `digit_texts`. `specs/` defines the tokens of
+//! a text, the value of a literal and the place of a direct variable; `token_laws` says the same of tokens as
+//! a relation, `token_facts` what the tokens of a text are by their sorts, and `spelling_laws` that what a
+//! canonical text writes for a word, a literal or a place is one token of it.
 #![tactic(auto)]
 
 pub use direct::{Direct, direct_at};

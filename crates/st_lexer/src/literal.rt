@@ -14,7 +14,7 @@ use st_tree::StType;
 pub struct Literal {
     pub kind: StType,
 
-    /// A `-` stands before the number.
+    /// Whether a `-` comes before the number.
     pub minus: bool,
 
     /// The number; that of `TRUE` is 1.
@@ -62,7 +62,7 @@ fn integer_named(word: &[u8]) -> Option<StType>
     }
 }
 
-/// The type of a word in any case.
+/// The type whose name this word is, in any case.
 pub fn type_named(word: &[u8]) -> Option<StType>
     ensures { result ≡ type_named word.now }
 {
@@ -154,7 +154,7 @@ fn value_behind(kind: StType, before: usize, bytes: &[u8]) -> Option<Literal>
     }
 }
 
-/// The type whose word is so many bytes at the front with `#` after it.
+/// The type whose name is the first `size` bytes of a text, with `#` after it.
 pub fn type_before(size: usize, bytes: &[u8]) -> Option<StType>
     ensures { result ≡ (if begins_with 35 (drop size bytes.now) then type_named (take size bytes.now) else None) }
 {
@@ -165,7 +165,7 @@ pub fn type_before(size: usize, bytes: &[u8]) -> Option<StType>
     }
 }
 
-/// The type whose word stands at the front with `#` after it.
+/// The type whose name a text begins with, with `#` after it.
 pub fn type_at(bytes: &[u8]) -> Option<StType>
     ensures { result ≡ type_at bytes.now }
 {
@@ -204,7 +204,8 @@ pub fn literal_at(bytes: &[u8]) -> Option<Literal>
     }
 }
 
-/// The same where the base of a number at the front is known.
+/// The longest literal at the front of a text, whether or not its type has the number. `base` is the base of
+/// a number at the front.
 pub fn literal_to(base: Base, bytes: &[u8]) -> Option<Literal>
     requires { base ≡ base_at bytes.now }
     ensures { result ≡ literal_at bytes.now }
@@ -215,7 +216,7 @@ pub fn literal_to(base: Base, bytes: &[u8]) -> Option<Literal>
     }
 }
 
-/// The type of the literal has its number.
+/// Whether the number of the literal is in the range of its type.
 pub fn is_in_range(literal: Literal) -> bool
     ensures { result ≡ is_in_range literal }
 {

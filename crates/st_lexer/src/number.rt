@@ -46,14 +46,14 @@ fn radix(base: Base) -> u8
     }
 }
 
-/// The byte is a digit of the base.
+/// Whether the byte is a digit of the base.
 pub fn is_digit_to(base: Base, b: u8) -> bool
     ensures { result ≡ is_digit_to base b }
 {
     digit_value(b) < radix(base)
 }
 
-/// The text begins with a digit of the base.
+/// Whether the text begins with a digit of the base.
 pub fn begins_with_digit(base: Base, bytes: &[u8]) -> bool
     ensures { result ≡ begins_with_digit base bytes.now }
 {

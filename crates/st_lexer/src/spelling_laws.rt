@@ -1,8 +1,8 @@
 //! Laws of what a canonical text writes. They compute nothing: their contracts are the laws.
 ghost use Rattle.st_lexer.specs.SpellingLaws.{LiteralsAreTokens, PlacesAreTokens, WordsAreTokens};
 
-/// A letter or `_` and more bytes of a word are one token, whatever stands after them that does not go
-/// on with it.
+/// A letter or `_` and more bytes of a word are one token, whatever comes after them that does not continue
+/// the word.
 pub fn words_are_tokens()
     ensures { WordsAreTokens }
 {}
@@ -13,7 +13,7 @@ pub fn literals_are_tokens()
     ensures { LiteralsAreTokens }
 {}
 
-/// The text of a place is one token, and its direct variable stands for that place.
+/// The text of a place is one token, and its direct variable means that place.
 pub fn places_are_tokens()
     ensures { PlacesAreTokens }
 {}

@@ -2,9 +2,9 @@
 use Rattle.std.proofs.Common.{◌≡◌, subst}
 use Rattle.st_parser.specs.TextLaws.{NotBoth, OneRefusal, OneTree}
 use Rattle.st_parser.specs.Texts.{by_rules, by_syntax}
-use Rattle.st_syntax_laws.proofs.OneSyntax.{not_both_syntaxes, one_raw_tree, one_syntax_refusal}
+use Rattle.st_reading_laws.proofs.OneSyntax.{not_both_syntaxes, one_raw_tree, one_syntax_refusal}
 use Rattle.st_tree.specs.declared.raw.RawSt.{RawSt}
-use Rattle.st_types_laws.proofs.OneAnswer as of_raw
+use Rattle.st_reading_laws.proofs.OneAnswer as of_raw
 use Rattle.st_rules.specs.Typed.{Breaks, HasTree}
 
 pub one_tree : OneTree

@@ -1,11 +1,11 @@
 -- Exactly the trees that some text reads as are proper.
-use Rattle.st_canonical.proofs.TextReads.{canonical_text_reads}
-use Rattle.st_canonical.specs.Canonical.{source_of}
+use Rattle.st_text_laws.proofs.TextReads.{canonical_text_reads}
+use Rattle.st_text_laws.specs.Canonical.{source_of}
 use Rattle.st_grammar.specs.Grammar.{raw_tree}
 use Rattle.st_parser.specs.TextLaws.{ProperReadsBack, Rereads, WhatIsReadIsProper}
-use Rattle.st_proper.proofs.Whole.{proper_has_form}
-use Rattle.st_proper.specs.CanonicalForms.{HasCanonicalForm}
-use Rattle.st_read_proper.proofs.ReadProper.{read_proper}
+use Rattle.st_text_laws.proofs.Whole.{proper_has_form}
+use Rattle.st_text_laws.specs.CanonicalForms.{HasCanonicalForm}
+use Rattle.st_text_laws.proofs.ReadProper.{read_proper}
 
 -- the canonical text of a proper tree reads as the tree
 pub proper_reads : ProperReadsBack

@@ -17,11 +17,11 @@ abbrev pub OneRefusal : Type 0
 OneRefusal =
     (bytes : List ℕ) (l m : Line) (q r : Reason) → IsRefusedText bytes l q → IsRefusedText bytes m r → (l ≡ m) × (q ≡ r)
 
--- no text has both
+-- no text has both a tree and a refusal
 abbrev pub NotBoth : Type 0
 NotBoth = (bytes : List ℕ) (t : StProgram) (l : Line) (r : Reason) → IsTextOf bytes t → IsRefusedText bytes l r → ⊥
 
--- each text has one of them
+-- each text has a tree or a refusal
 abbrev pub EachHasOne : Type 0
 EachHasOne =
     (bytes : List ℕ)
@@ -35,6 +35,6 @@ ProperReadsBack = (tree : StProgram) → Proper tree → IsTextOf (spelling tree
 abbrev pub WhatIsReadIsProper : Type 0
 WhatIsReadIsProper = (bytes : List ℕ) (tree : StProgram) → IsTextOf bytes tree → Proper tree
 
--- so the canonical text of what a text reads as reads as the same
+-- the canonical text of what a text reads as reads as the same tree
 abbrev pub Rereads : Type 0
 Rereads = (bytes : List ℕ) (tree : StProgram) → IsTextOf bytes tree → IsTextOf (spelling tree) tree

@@ -1,5 +1,6 @@
--- The reading of a Structured Text: its tree, or the first rule that it breaks. First all of its tokens
--- count, then syntax and depth from the front, then names, types and places, then the chain of calls.
+-- The reading of a Structured Text. It is the tree, or the first rule that is broken: first all tokens count, then
+-- syntax and depth from the front, then names, types and places, then the chain of calls.
+-- Held against: this project's own rules.
 use Rattle.std.specs.Prelude.{ℕ, List}
 use Rattle.s7_base.specs.declared.reason.Line.{Line}
 use Rattle.s7_base.specs.declared.reason.Reason.{Reason}

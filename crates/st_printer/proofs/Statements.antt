@@ -8,14 +8,20 @@ use Rattle.st_tree.specs.declared.program.Stmt.TheVariants as stmt
 use Rattle.st_tree.specs.declared.program.Stmt.TheOpen as S
 
 pub while_text : (names : Names) (test : Expr) (body : List Stmt) (level : ℕ) → statement_text names (stmt.While test body) level
-    ≡ line level (codes "WHILE " ++ expr_text names test ++ codes " DO") ++ texts_at (level + 1) (map (statement_text names) body) ++ line level (codes "END_WHILE;")
+    ≡ line level (codes "WHILE " ++ expr_text names test ++ codes " DO")
+    ++ texts_at (level + 1) (map (statement_text names) body) ++ line level (codes "END_WHILE;")
 while_text names test body level =
-    ap (λ (f : Text). f level) (ap (statement_text names) (sym (stmt.rolls-While test body)) ∙ fold-roll-Stmt Text ArmText CaseText (statement_step names) (arm_step names) case_step (S.While test body))
+    ap (λ (f : Text). f level)
+    (ap (statement_text names) (sym (stmt.rolls-While test body))
+    ∙ fold-roll-Stmt Text ArmText CaseText (statement_step names) (arm_step names) case_step (S.While test body))
 
 pub case_whole : (names : Names) (e : Expr) (arms : List CaseArm) (other : List Stmt) (level : ℕ) → statement_text names (stmt.Case e arms other) level
-    ≡ line level (codes "CASE " ++ expr_text names e ++ codes " OF") ++ flat_map (λ arm. arm (type_of names e) level) (map (case_text names) arms) ++ else_text level (map (statement_text names) other) ++ line level (codes "END_CASE;")
+    ≡ line level (codes "CASE " ++ expr_text names e ++ codes " OF") ++ flat_map (λ arm. arm (type_of names e) level) (map (case_text names) arms)
+    ++ else_text level (map (statement_text names) other) ++ line level (codes "END_CASE;")
 case_whole names e arms other level =
-    ap (λ (f : Text). f level) (ap (statement_text names) (sym (stmt.rolls-Case e arms other)) ∙ fold-roll-Stmt Text ArmText CaseText (statement_step names) (arm_step names) case_step (S.Case e arms other))
+    ap (λ (f : Text). f level)
+    (ap (statement_text names) (sym (stmt.rolls-Case e arms other))
+    ∙ fold-roll-Stmt Text ArmText CaseText (statement_step names) (arm_step names) case_step (S.Case e arms other))
 
 pub three : (old a b c r s t : List ℕ) → r ≡ old ++ a → s ≡ r ++ b → t ≡ s ++ c → t ≡ old ++ (a ++ b ++ c)
 three old a b c r s t p q e =

@@ -1,11 +1,11 @@
 //! Expressions, with the brackets that precedence asks for.
 ghost use Rattle.std.specs.Prelude.{◌≡◌, ◌++◌, codes, OnOk};
 ghost use Rattle.st_tree.specs.Form.{level, wrap, unary_form, canon};
-ghost use Rattle.st_tree.specs.Spelling.{written, expr_text, names_in};
+ghost use Rattle.st_tree.specs.Spelling.{form_text, expr_text, names_in};
 ghost use Rattle.st_tree.specs.Words.{infix_word};
 
 use crate::literal::put_literal;
-use crate::text::put;
+use crate::text::put_text;
 use crate::variable::put_var;
 use s7_base::NoMemory;
 use st_tree::{
@@ -25,16 +25,16 @@ fn level_of(expr: &Expr) -> u8
     }
 }
 
-/// Puts an operator between its operands at the end, with a blank on either side.
+/// Appends an operator between its operands, with a blank on either side.
 fn put_infix(out: &mut Vec<u8>, op: BinaryOp) -> Result<(), NoMemory>
     ensures { OnOk result (out.new.items ≡ out.old.items ++ infix_word op) }
 {
-    put(out, " ")?;
-    put(out, operator_word(op))?;
-    put(out, " ")
+    put_text(out, " ")?;
+    put_text(out, operator_word(op))?;
+    put_text(out, " ")
 }
 
-/// Puts the text of an expression of a unit at the end, in brackets only where precedence asks for them.
+/// Appends the text of an expression of a unit, in brackets only where precedence asks for them.
 #[cycle(expr)]
 pub fn put_expr(
     out: &mut Vec<u8>,
@@ -54,26 +54,26 @@ pub fn put_expr(
             put_operand(out, tree, unit, right.get(), infix_level_of(*op) - 1)
         }
         Expr::Convert(from, to, operand) => {
-            put(out, type_word(*from))?;
-            put(out, "_TO_")?;
-            put(out, type_word(*to))?;
+            put_text(out, type_word(*from))?;
+            put_text(out, "_TO_")?;
+            put_text(out, type_word(*to))?;
             put_in_brackets(out, tree, unit, operand.get())
         }
         Expr::Select(gate, first, second) => {
-            put(out, "SEL(")?;
+            put_text(out, "SEL(")?;
             put_expr(out, tree, unit, gate.get())?;
             put_next(out, tree, unit, first.get())?;
             put_last(out, tree, unit, second.get())
         }
         Expr::Shift(op, operand, count) => {
-            put(out, shift_word(*op))?;
-            put(out, "(")?;
+            put_text(out, shift_word(*op))?;
+            put_text(out, "(")?;
             put_expr(out, tree, unit, operand.get())?;
             put_last(out, tree, unit, count.get())
         }
         Expr::AreaRead(width, pointer) => {
-            put(out, "AREA_READ_")?;
-            put(out, width_word(*width))?;
+            put_text(out, "AREA_READ_")?;
+            put_text(out, width_word(*width))?;
             put_in_brackets(out, tree, unit, pointer.get())
         }
     }
@@ -88,19 +88,19 @@ fn put_unary(
     operand: &Expr,
 ) -> Result<(), NoMemory>
     ensures { OnOk result (out.new.items ≡ out.old.items
-        ++ written (names_in tree.now unit.now) (unary_form op (canon operand.now))) }
+        ++ form_text (names_in tree.now unit.now) (unary_form op (canon operand.now))) }
 {
-    put(out, prefix_word(op))?;
+    put_text(out, prefix_word(op))?;
     match op {
         UnaryOp::Minus | UnaryOp::Not => put_operand(out, tree, unit, operand, prefix_level_of(op)),
         UnaryOp::BcdToInt | UnaryOp::BcdToDint => {
             put_expr(out, tree, unit, operand)?;
-            put(out, ")")
+            put_text(out, ")")
         }
     }
 }
 
-/// The expression, in brackets where its precedence is lower than its place takes.
+/// Appends an operand, in brackets where its precedence is lower than its place takes.
 #[cycle(expr)]
 fn put_operand(
     out: &mut Vec<u8>,
@@ -110,7 +110,7 @@ fn put_operand(
     limit: u8,
 ) -> Result<(), NoMemory>
     ensures { OnOk result (out.new.items ≡ out.old.items
-        ++ written (names_in tree.now unit.now) (wrap limit (canon expr.now))) }
+        ++ form_text (names_in tree.now unit.now) (wrap limit (canon expr.now))) }
 {
     if level_of(expr) <= limit {
         return put_expr(out, tree, unit, expr);
@@ -128,28 +128,28 @@ fn put_in_brackets(
     ensures { OnOk result (out.new.items ≡ out.old.items
         ++ codes "(" ++ expr_text (names_in tree.now unit.now) expr.now ++ codes ")") }
 {
-    put(out, "(")?;
+    put_text(out, "(")?;
     put_expr(out, tree, unit, expr)?;
-    put(out, ")")
+    put_text(out, ")")
 }
 
-/// An operand after another one.
+/// Appends a comma and a further operand.
 #[cycle(expr)]
 fn put_next(out: &mut Vec<u8>, tree: &StProgram, unit: &Pou, expr: &Expr) -> Result<(), NoMemory>
     ensures { OnOk result (out.new.items ≡ out.old.items
         ++ codes ", " ++ expr_text (names_in tree.now unit.now) expr.now) }
 {
-    put(out, ", ")?;
+    put_text(out, ", ")?;
     put_expr(out, tree, unit, expr)
 }
 
-/// The last operand, and the closing bracket.
+/// Appends the last operand and the closing bracket.
 #[cycle(expr)]
 fn put_last(out: &mut Vec<u8>, tree: &StProgram, unit: &Pou, expr: &Expr) -> Result<(), NoMemory>
     ensures { OnOk result (out.new.items ≡ out.old.items
         ++ codes ", " ++ expr_text (names_in tree.now unit.now) expr.now ++ codes ")") }
 {
-    put(out, ", ")?;
+    put_text(out, ", ")?;
     put_expr(out, tree, unit, expr)?;
-    put(out, ")")
+    put_text(out, ")")
 }

@@ -5,7 +5,7 @@ ghost use Rattle.st_tree.specs.Words.{type_word};
 ghost use Rattle.st_tree.specs.Spelling.{line, byte_text, run_text, list_behind, initial_text, block_text, place_text, place_word, global_text, globals_text};
 
 use crate::statement::put_line;
-use crate::text::{put, put_bytes, put_hexadecimal, put_number};
+use crate::text::{put_bytes, put_hexadecimal, put_number, put_text};
 use crate::variable::{put_place, put_type};
 use memory_areas::{Area, DataBlock};
 use s7_base::NoMemory;
@@ -14,11 +14,11 @@ use st_tree::{Located, StProgram, width_at};
 fn put_byte(out: &mut Vec<u8>, byte: u8) -> Result<(), NoMemory>
     ensures { OnOk result (out.new.items ≡ out.old.items ++ byte_text byte) }
 {
-    put(out, "16#")?;
+    put_text(out, "16#")?;
     put_hexadecimal(out, 2, u64::from(byte))
 }
 
-/// Equal bytes that stand together.
+/// Appends equal bytes of an initial value.
 fn put_run(out: &mut Vec<u8>, count: usize, byte: u8) -> Result<(), NoMemory>
     ensures { OnOk result (out.new.items ≡ out.old.items ++ run_text count byte) }
 {
@@ -26,17 +26,17 @@ fn put_run(out: &mut Vec<u8>, count: usize, byte: u8) -> Result<(), NoMemory>
         return put_byte(out, byte);
     }
     put_number(out, count as u64)?;
-    put(out, "(")?;
+    put_text(out, "(")?;
     put_byte(out, byte)?;
-    put(out, ")")
+    put_text(out, ")")
 }
 
-/// Equal bytes that others follow.
+/// Appends equal bytes of an initial value that others follow.
 fn put_run_before(out: &mut Vec<u8>, count: usize, byte: u8) -> Result<(), NoMemory>
     ensures { OnOk result (out.new.items ≡ out.old.items ++ (run_text count byte ++ codes ", ")) }
 {
     put_run(out, count, byte)?;
-    put(out, ", ")
+    put_text(out, ", ")
 }
 
 fn put_list_behind(out: &mut Vec<u8>, first: u8, bytes: &[u8]) -> Result<(), NoMemory>
@@ -58,38 +58,38 @@ fn put_list_behind(out: &mut Vec<u8>, first: u8, bytes: &[u8]) -> Result<(), NoM
     put_run(out, count, byte)
 }
 
-/// The initial value of a data block; without bytes there is none.
+/// Appends the initial value of a data block; without bytes there is none.
 fn put_initial(out: &mut Vec<u8>, bytes: &[u8]) -> Result<(), NoMemory>
     ensures { OnOk result (out.new.items ≡ out.old.items ++ initial_text bytes.now) }
 {
     let [first, rest @ ..] = bytes else {
         return Ok(());
     };
-    put(out, " := [")?;
+    put_text(out, " := [")?;
     put_list_behind(out, *first, rest)?;
-    put(out, "]")
+    put_text(out, "]")
 }
 
-/// The place of a data block and its last index, from its number on.
+/// Appends the place of a data block and its last index, from its number on.
 fn put_block_place(out: &mut Vec<u8>, number: u16, length: usize) -> Result<(), NoMemory>
     ensures { OnOk result (out.new.items ≡ out.old.items
         ++ decimal number ++ codes ".DBB0 : ARRAY[0.." ++ decimal (length - 1) ++ codes "] OF BYTE") }
 {
     put_number(out, u64::from(number))?;
-    put(out, ".DBB0 : ARRAY[0..")?;
+    put_text(out, ".DBB0 : ARRAY[0..")?;
     put_number(out, length.saturating_sub(1) as u64)?;
-    put(out, "] OF BYTE")
+    put_text(out, "] OF BYTE")
 }
 
-/// The name, the place and the last index of a data block.
+/// Appends the name, the place and the last index of a data block.
 fn put_block_head(out: &mut Vec<u8>, number: u16, length: usize) -> Result<(), NoMemory>
     ensures { OnOk result (out.new.items ≡ out.old.items
         ++ codes "    DB" ++ decimal number ++ codes " AT %DB" ++ decimal number ++ codes ".DBB0 : ARRAY[0.."
         ++ decimal (length - 1) ++ codes "] OF BYTE") }
 {
-    put(out, "    DB")?;
+    put_text(out, "    DB")?;
     put_number(out, u64::from(number))?;
-    put(out, " AT %DB")?;
+    put_text(out, " AT %DB")?;
     put_block_place(out, number, length)
 }
 
@@ -99,7 +99,7 @@ fn put_block(out: &mut Vec<u8>, block: &DataBlock) -> Result<(), NoMemory>
 {
     put_block_head(out, block.number, block.bytes.len())?;
     put_initial(out, block.bytes.as_slice())?;
-    put(out, ";\n")
+    put_text(out, ";\n")
 }
 
 fn place_word(area: Area) -> &'static str
@@ -112,14 +112,14 @@ fn place_word(area: Area) -> &'static str
     }
 }
 
-/// The place and the type of a global, to the end of its line.
+/// Appends the place and the type of a global, to the end of its line.
 fn put_located(out: &mut Vec<u8>, global: &Located) -> Result<(), NoMemory>
     ensures { OnOk result (out.new.items ≡ out.old.items
         ++ place_word global.now.place.area
         ++ place_text (width_at global.now.ty) global.now.place.byte global.now.place.bit
         ++ codes " : " ++ type_word global.now.ty ++ codes ";\n") }
 {
-    put(out, place_word(global.place.area))?;
+    put_text(out, place_word(global.place.area))?;
     put_place(
         out,
         width_at(global.ty),
@@ -133,9 +133,9 @@ fn put_located(out: &mut Vec<u8>, global: &Located) -> Result<(), NoMemory>
 fn put_global(out: &mut Vec<u8>, global: &Located) -> Result<(), NoMemory>
     ensures { OnOk result (out.new.items ≡ out.old.items ++ global_text global.now) }
 {
-    put(out, "    ")?;
+    put_text(out, "    ")?;
     put_bytes(out, global.name.as_slice())?;
-    put(out, " AT %")?;
+    put_text(out, " AT %")?;
     put_located(out, global)
 }
 
@@ -168,7 +168,7 @@ fn put_section(out: &mut Vec<u8>, blocks: &[DataBlock], globals: &[Located]) -> 
     put_line(out, 0, "END_VAR")
 }
 
-/// Puts the section of globals at the end; an empty one is not written.
+/// Appends the section of globals; an empty one is not written.
 pub fn put_globals(out: &mut Vec<u8>, tree: &StProgram) -> Result<(), NoMemory>
     ensures { OnOk result (out.new.items ≡ out.old.items ++ globals_text tree.now.dbs tree.now.globals) }
 {

@@ -1,12 +1,12 @@
-//! Statements, each on lines of its own, four blanks deeper than what holds it.
+//! Statements, each on lines of its own, four blanks deeper than what contains it.
 ghost use Rattle.std.specs.Prelude.{◌≡◌, ◌+◌, ◌++◌, map, flat_map, codes, slice_get, IfOk, OnOk};
 ghost use Rattle.st_tree.specs.Words.{width_word};
-ghost use Rattle.st_tree.specs.Spelling.{blanks, line, listed, var_text, expr_text, names_in, texts_at, else_text, arms_text, actuals_text, call_text, label_text, labels_text, arm_text, case_text, statement_text, body_text};
+ghost use Rattle.st_tree.specs.Spelling.{blanks, line, comma_list, var_text, expr_text, names_in, texts_at, else_text, arms_text, actuals_text, call_text, label_text, labels_text, arm_text, case_text, statement_text, body_text};
 
 use crate::expression::put_expr;
 use crate::literal::put_literal;
 use crate::names::{formals_of, type_of, unit_name};
-use crate::text::{put, put_blanks, put_bytes};
+use crate::text::{put_blanks, put_bytes, put_text};
 use crate::variable::put_var;
 use s7_base::{NoMemory, Width};
 use st_tree::{Arm, CaseArm, Expr, Local, Pou, StProgram, StType, Stmt, Var, width_word};
@@ -26,14 +26,14 @@ fn deeper(level: usize) -> Result<usize, NoMemory>
     level.checked_add(1).ok_or(NoMemory)
 }
 
-/// Puts a line at the end that is one word, at a level of four blanks each.
+/// Appends a line that is one word, at a level of four blanks each.
 #[tactic(auto, unfolding(st_tree::specs::Spelling::line))]
 pub fn put_line(out: &mut Vec<u8>, level: usize, text: &str) -> Result<(), NoMemory>
     ensures { OnOk result (out.new.items ≡ out.old.items ++ line level text.now) }
 {
     put_blanks(out, level)?;
-    put(out, text)?;
-    put(out, "\n")
+    put_text(out, text)?;
+    put_text(out, "\n")
 }
 
 #[tactic(auto, unfolding(st_tree::specs::Spelling::line))]
@@ -44,12 +44,12 @@ fn put_assign(out: &mut Vec<u8>, at: Context<'_>, var: Var, value: &Expr) -> Res
 {
     put_blanks(out, at.level)?;
     put_var(out, at.tree, at.unit, var)?;
-    put(out, " := ")?;
+    put_text(out, " := ")?;
     put_expr(out, at.tree, at.unit, value)?;
-    put(out, ";\n")
+    put_text(out, ";\n")
 }
 
-/// The operands of an area write and the end of its line.
+/// Appends the operands of an area write and the end of its line.
 fn put_operands(
     out: &mut Vec<u8>,
     at: Context<'_>,
@@ -61,9 +61,9 @@ fn put_operands(
         ++ expr_text names pointer.now ++ codes ", " ++ expr_text names value.now ++ codes ");\n") }
 {
     put_expr(out, at.tree, at.unit, pointer)?;
-    put(out, ", ")?;
+    put_text(out, ", ")?;
     put_expr(out, at.tree, at.unit, value)?;
-    put(out, ");\n")
+    put_text(out, ");\n")
 }
 
 #[tactic(auto, unfolding(st_tree::specs::Spelling::line))]
@@ -80,23 +80,23 @@ fn put_area_write(
         ++ expr_text names pointer.now ++ codes ", " ++ expr_text names value.now ++ codes ");")) }
 {
     put_blanks(out, at.level)?;
-    put(out, "AREA_WRITE_")?;
-    put(out, width_word(width))?;
-    put(out, "(")?;
+    put_text(out, "AREA_WRITE_")?;
+    put_text(out, width_word(width))?;
+    put_text(out, "(")?;
     put_operands(out, at, pointer, value)
 }
 
-/// A formal with its variable.
+/// Appends a formal with its variable.
 fn put_actual(out: &mut Vec<u8>, at: Context<'_>, formal: &Local, var: Var) -> Result<(), NoMemory>
     ensures { OnOk result (out.new.items ≡ out.old.items
         ++ formal.now.name ++ codes " := " ++ var_text (names_in at.entry.tree.now at.entry.unit.now) var) }
 {
     put_bytes(out, formal.name.as_slice())?;
-    put(out, " := ")?;
+    put_text(out, " := ")?;
     put_var(out, at.tree, at.unit, var)
 }
 
-/// The actuals after the first, each with its comma.
+/// Appends the actuals after the first, each with its comma.
 fn put_more_actuals(
     out: &mut Vec<u8>,
     at: Context<'_>,
@@ -113,7 +113,7 @@ fn put_more_actuals(
     let [var, vars @ ..] = vars else {
         return Ok(());
     };
-    put(out, ", ")?;
+    put_text(out, ", ")?;
     put_actual(out, at, formal, *var)?;
     put_more_actuals(out, at, formals, vars)
 }
@@ -125,7 +125,7 @@ fn put_actuals(
     vars: &[Var],
 ) -> Result<(), NoMemory>
     ensures { OnOk result (out.new.items ≡ out.old.items
-        ++ listed (actuals_text (names_in at.entry.tree.now at.entry.unit.now) formals.now vars.now)) }
+        ++ comma_list (actuals_text (names_in at.entry.tree.now at.entry.unit.now) formals.now vars.now)) }
 {
     let [formal, formals @ ..] = formals else {
         return Ok(());
@@ -146,12 +146,12 @@ fn put_call(out: &mut Vec<u8>, at: Context<'_>, callee: u32, vars: &[Var]) -> Re
     let units = at.tree.pous.as_slice();
     put_blanks(out, at.level)?;
     put_bytes(out, unit_name(units, callee))?;
-    put(out, "(")?;
+    put_text(out, "(")?;
     put_actuals(out, at, formals_of(units, callee), vars)?;
-    put(out, ");\n")
+    put_text(out, ");\n")
 }
 
-/// A line of a word, an expression and a word.
+/// Appends a line of a word, an expression and a word.
 #[tactic(auto, unfolding(st_tree::specs::Spelling::line))]
 fn put_head(
     out: &mut Vec<u8>,
@@ -165,17 +165,17 @@ fn put_head(
         ++ line at.entry.level (before.now ++ expr_text names expr.now ++ behind.now)) }
 {
     put_blanks(out, at.level)?;
-    put(out, before)?;
+    put_text(out, before)?;
     put_expr(out, at.tree, at.unit, expr)?;
-    put(out, behind)?;
-    put(out, "\n")
+    put_text(out, behind)?;
+    put_text(out, "\n")
 }
 
 #[tactic(auto, unfolding(st_tree::specs::Spelling::label_text))]
 fn put_label(out: &mut Vec<u8>, ty: StType, label: i64) -> Result<(), NoMemory>
     ensures { OnOk result (out.new.items ≡ out.old.items ++ label_text ty label) }
 {
-    put(out, ", ")?;
+    put_text(out, ", ")?;
     put_literal(out, ty, label)
 }
 
@@ -188,7 +188,7 @@ fn put_more_labels(out: &mut Vec<u8>, ty: StType, labels: &[i64]) -> Result<(), 
     Ok(())
 }
 
-/// The line of an arm's labels.
+/// Appends the line of an arm's labels.
 #[tactic(auto, unfolding(st_tree::specs::Spelling::line))]
 fn put_labels(
     out: &mut Vec<u8>,
@@ -202,10 +202,10 @@ fn put_labels(
     put_blanks(out, level)?;
     put_literal(out, ty, first)?;
     put_more_labels(out, ty, more)?;
-    put(out, ":\n")
+    put_text(out, ":\n")
 }
 
-/// Puts the statements of a body at the end, each at this level.
+/// Appends the statements of a body, each at this level.
 #[cycle(statements)]
 pub fn put_body(out: &mut Vec<u8>, at: Context<'_>, body: &[Stmt]) -> Result<(), NoMemory>
     ensures { OnOk result (out.new.items ≡ out.old.items
@@ -217,7 +217,7 @@ pub fn put_body(out: &mut Vec<u8>, at: Context<'_>, body: &[Stmt]) -> Result<(),
     Ok(())
 }
 
-/// Puts the statements of a body at the end, each one level further in.
+/// Appends the statements of a body, each one level further in.
 #[cycle(statements)]
 fn put_inner(out: &mut Vec<u8>, at: Context<'_>, body: &[Stmt]) -> Result<(), NoMemory>
     ensures { OnOk result (out.new.items ≡ out.old.items
@@ -263,7 +263,7 @@ fn put_statement(out: &mut Vec<u8>, at: Context<'_>, statement: &Stmt) -> Result
     }
 }
 
-/// An arm of an IF after its word and a blank.
+/// Appends an arm of an IF after its word and a blank.
 #[cycle(statements)]
 fn put_arm(out: &mut Vec<u8>, at: Context<'_>, word: &str, arm: &Arm) -> Result<(), NoMemory>
     ensures { OnOk result (out.new.items ≡ out.old.items

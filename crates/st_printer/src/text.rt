@@ -1,4 +1,4 @@
-//! Pieces of text after others.
+//! Appending to a text.
 ghost use Rattle.std.specs.Prelude.{◌≡◌, ◌++◌, decimal, OnOk};
 ghost use Rattle.st_tree.specs.Spelling.{blanks, hexadecimal, integer_text};
 
@@ -6,15 +6,15 @@ use digit_texts::hex_digit;
 use itoa::Buffer;
 use s7_base::NoMemory;
 
-/// Puts a text at the end.
-pub fn put(out: &mut Vec<u8>, text: &str) -> Result<(), NoMemory>
+/// Appends a text.
+pub fn put_text(out: &mut Vec<u8>, text: &str) -> Result<(), NoMemory>
     ensures { OnOk result (out.new.items ≡ out.old.items ++ text.now) }
 {
     out.extend_from_slice(text.as_bytes())?;
     Ok(())
 }
 
-/// Puts bytes at the end, as they are.
+/// Appends bytes as they are.
 pub fn put_bytes(out: &mut Vec<u8>, bytes: &[u8]) -> Result<(), NoMemory>
     ensures { OnOk result (out.new.items ≡ out.old.items ++ bytes.now) }
 {
@@ -22,26 +22,26 @@ pub fn put_bytes(out: &mut Vec<u8>, bytes: &[u8]) -> Result<(), NoMemory>
     Ok(())
 }
 
-/// Puts a number at the end, in decimal digits without zeros before them.
+/// Appends a number in decimal digits without leading zeros.
 pub fn put_number(out: &mut Vec<u8>, number: u64) -> Result<(), NoMemory>
     ensures { OnOk result (out.new.items ≡ out.old.items ++ decimal number) }
 {
     let mut buffer = Buffer::new();
-    put(out, buffer.format(number))
+    put_text(out, buffer.format(number))
 }
 
-/// Puts a whole number at the end, with `-` before it where it is below 0.
+/// Appends a whole number, with `-` before it where it is below 0.
 pub fn put_integer(out: &mut Vec<u8>, number: i64) -> Result<(), NoMemory>
     ensures { OnOk result (out.new.items ≡ out.old.items ++ integer_text number) }
 {
     if number < 0 {
-        put(out, "-")?;
+        put_text(out, "-")?;
     }
     put_number(out, number.unsigned_abs())
 }
 
-/// Puts the last so many hexadecimal digits of a number at the end, in capitals and with zeros before
-/// them.
+/// Appends the lowest hexadecimal digits of a number, as many as a count says, in capitals and with leading
+/// zeros.
 pub fn put_hexadecimal(out: &mut Vec<u8>, count: u32, number: u64) -> Result<(), NoMemory>
     ensures { OnOk result (out.new.items ≡ out.old.items ++ hexadecimal count number) }
 {
@@ -53,13 +53,13 @@ pub fn put_hexadecimal(out: &mut Vec<u8>, count: u32, number: u64) -> Result<(),
     Ok(())
 }
 
-/// Puts four blanks for each level at the end.
+/// Appends four blanks for each level.
 pub fn put_blanks(out: &mut Vec<u8>, level: usize) -> Result<(), NoMemory>
     ensures { OnOk result (out.new.items ≡ out.old.items ++ blanks level) }
 {
     if level == 0 {
         return Ok(());
     }
-    put(out, "    ")?;
+    put_text(out, "    ")?;
     put_blanks(out, level - 1)
 }

@@ -4,7 +4,7 @@ ghost use Rattle.st_tree.specs.Spelling.{line, local_text, section_text, unit_wo
 
 use crate::global::put_globals;
 use crate::statement::{Context, put_body, put_line};
-use crate::text::{put, put_blanks, put_bytes};
+use crate::text::{put_blanks, put_bytes, put_text};
 use crate::variable::put_type;
 use s7_base::NoMemory;
 use st_tree::{Local, Pou, StProgram};
@@ -47,7 +47,7 @@ fn put_locals(out: &mut Vec<u8>, locals: &[Local]) -> Result<(), NoMemory>
     Ok(())
 }
 
-/// A section of a unit; an empty one is not written.
+/// Appends a section of a unit; an empty one is not written.
 fn put_section(out: &mut Vec<u8>, word: &str, locals: &[Local]) -> Result<(), NoMemory>
     ensures { OnOk result (out.new.items ≡ out.old.items ++ section_text word.now locals.now) }
 {
@@ -70,19 +70,19 @@ fn put_heading(out: &mut Vec<u8>, unit: &Pou) -> Result<(), NoMemory>
     ensures { OnOk result (out.new.items ≡ out.old.items
         ++ line 0 (unit_word unit.now.program ++ codes " " ++ unit.now.name)) }
 {
-    put(out, unit_word(unit.program))?;
-    put(out, " ")?;
+    put_text(out, unit_word(unit.program))?;
+    put_text(out, " ")?;
     put_bytes(out, unit.name.as_slice())?;
-    put(out, "\n")
+    put_text(out, "\n")
 }
 
 #[tactic(auto, unfolding(st_tree::specs::Spelling::line))]
 fn put_end(out: &mut Vec<u8>, unit: &Pou) -> Result<(), NoMemory>
     ensures { OnOk result (out.new.items ≡ out.old.items ++ line 0 (codes "END_" ++ unit_word unit.now.program)) }
 {
-    put(out, "END_")?;
-    put(out, unit_word(unit.program))?;
-    put(out, "\n")
+    put_text(out, "END_")?;
+    put_text(out, unit_word(unit.program))?;
+    put_text(out, "\n")
 }
 
 #[tactic(auto, unfolding(st_tree::specs::Spelling::unit_text))]

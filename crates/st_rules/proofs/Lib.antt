@@ -1,4 +1,3 @@
 pub mod Common
-pub mod NameRows
-pub mod Tables
-pub mod TextRows
+pub mod NameCases
+pub mod TextCases

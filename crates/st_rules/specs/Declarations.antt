@@ -1,4 +1,6 @@
--- Declarations: what names mean by them, and the rules that are broken in them.
+-- What declarations give to names. What is declared outside the units of a text and in one of them, and the rules
+-- that are broken there.
+-- Held against: IEC 61131-3, 'Variables'.
 use Rattle.std.specs.Prelude.{ℕ, ◌+◌, Bool, true, false, not, ◌&&◌, nat_lt, if◌then◌else◌, List, [], ◌++◌, map, is_some}
 use Rattle.std.specs.List.{fold}
 use Rattle.memory_areas.specs.declared.sizes.TheConstants.{MOST_BLOCKS}
@@ -11,16 +13,16 @@ use Rattle.st_tree.specs.declared.raw.RawGlobalType.{RawGlobalType}
 use Rattle.st_tree.specs.declared.raw.RawGlobalType.TheVariants as raw
 use Rattle.st_tree.specs.declared.raw.RawLocal.{RawLocal}
 use Rattle.st_tree.specs.declared.raw.RawPou.{RawPou}
-use Rattle.s7_base.specs.Broken.{broken}
+use Rattle.s7_base.specs.Broken.{rule_break}
 use Rattle.st_rules.specs.Judged.{twice}
-use Rattle.st_rules.specs.Names.{Table, look_up, with_entry}
+use Rattle.st_names.specs.Names.{Table, look_up, with_entry}
 use Rattle.st_tree.specs.Naming.{key_of}
-use Rattle.s7_base.specs.declared.broken.Break.{Break}
+use Rattle.s7_base.specs.declared.rule_break.Break.{Break}
 use Rattle.st_rules.specs.declared.declaration.Inside.{Inside}
 use Rattle.st_rules.specs.declared.declaration.Outside.{Outside}
-use Rattle.st_rules.specs.declared.scope.Formals.{Formals}
-use Rattle.st_rules.specs.declared.scope.Meaning.{Meaning}
-use Rattle.st_rules.specs.declared.scope.Meaning.TheVariants as meaning
+use Rattle.st_names.specs.declared.scope.Formals.{Formals}
+use Rattle.st_names.specs.declared.scope.Meaning.{Meaning}
+use Rattle.st_names.specs.declared.scope.Meaning.TheVariants as meaning
 
 -- Outside the units: globals, data blocks and units, in the order of the text
 
@@ -29,22 +31,22 @@ abbrev pub is_block : RawGlobalType → Bool
 is_block (raw.Plain ty) = false
 is_block (raw.Bytes k list) = true
 
--- what a global's name means, where so many globals that are no data blocks stand before it
+-- the meaning of a global's name, where this many globals that are no data blocks come before it
 abbrev pub meaning_of_global : ℕ → RawGlobalType → Meaning
 meaning_of_global i (raw.Plain ty) = meaning.Global i ty
 meaning_of_global i (raw.Bytes k list) = meaning.Block
 
--- what a unit's name means, where so many units stand before it
+-- the meaning of a unit's name, where this many units come before it
 abbrev pub meaning_of_unit : ℕ → Bool → Meaning
 meaning_of_unit i program = if program then meaning.Program else meaning.Function i
 
--- one where a test holds
+-- one where a test is true, else none
 abbrev pub one_if : Bool → ℕ
 one_if test = if test then 1 else 0
 
--- a data block of another number where there are as many as there may be
+-- the rule that is broken where a data block has a new number and there are as many data blocks as there may be
 abbrev pub one_too_many : Line → Bool → ℕ → List Break
-one_too_many line new blocks = if new && not (nat_lt blocks MOST_BLOCKS) then broken line TooLarge else []
+one_too_many line new blocks = if new && not (nat_lt blocks MOST_BLOCKS) then rule_break line TooLarge else []
 
 -- one global more
 abbrev pub with_global : Outside → RawGlobal → Outside

@@ -1,6 +1,7 @@
--- Expressions: their types and what they are in the tree, and the rules that are broken in them. An
--- expression in which a rule is broken has no type, and breaks no TypeMismatch in those around it: on
--- one line that would never be the first.
+-- How expressions are judged. Their types and what they are in the tree, and the rules that are broken in them. An
+-- expression in which a rule is broken has no type, and breaks no TypeMismatch in those around it: on one line that
+-- would never be the first.
+-- Held against: IEC 61131-3, 'Expressions'.
 use Rattle.std.specs.Prelude.{ℤ, ◌++◌, Option, Some, None, Result, Ok, Err}
 use Rattle.s7_base.specs.declared.reason.Line.{Line}
 use Rattle.s7_base.specs.declared.reason.Reason.{Reason}
@@ -15,17 +16,17 @@ use Rattle.st_tree.specs.declared.expr.UnaryOp.{UnaryOp}
 use Rattle.st_tree.specs.declared.raw.RawVar.{RawVar}
 use Rattle.st_tree.specs.declared.raw.RawExpr.{RawExpr, fold-RawExpr}
 use Rattle.st_tree.specs.declared.raw.RawExpr.TheOpen as E
-use Rattle.st_rules.specs.Judged.{Judged, sound, nothing, breaks_rule, behind}
+use Rattle.st_rules.specs.Judged.{Judged, sound, nothing, breaks_rule, after_breaks}
 use Rattle.st_tree.specs.TypeRules.{type_of_unary, type_of_binary, type_of_conversion, type_of_choice, type_of_shift, type_of_read}
-use Rattle.st_rules.specs.Variables.{variable}
+use Rattle.st_names.specs.Variables.{variable}
 use Rattle.st_rules.specs.declared.expression.Typed.{Typed}
-use Rattle.st_rules.specs.declared.scope.Scope.{Scope}
-use Rattle.st_rules.specs.declared.variable.TypedVar.{TypedVar}
+use Rattle.st_names.specs.declared.scope.NameScope.{NameScope}
+use Rattle.st_names.specs.declared.variable.TypedVar.{TypedVar}
 
--- an answer on a line: what it is, or the rule that it breaks
-abbrev pub answered : {T : Type 0} → Line → Result T Reason → Judged T
-answered line (Ok x) = sound x
-answered line (Err rule) = breaks_rule line rule
+-- an answer on a line: a part of the tree, or the rule that it breaks
+abbrev pub judgement_on : {T : Type 0} → Line → Result T Reason → Judged T
+judgement_on line (Ok x) = sound x
+judgement_on line (Err rule) = breaks_rule line rule
 
 -- an expression of a type, if its operands fit
 abbrev pub typed_as : Line → Option StType → Expr → Judged Typed
@@ -77,23 +78,23 @@ area_read_of line w None = nothing
 area_read_of line w (Some p) = typed_as line (type_of_read w p.ty) (expr.AreaRead w p.tree)
 
 -- a variable on a line
-abbrev pub variable_on : Scope → Line → RawVar → Judged TypedVar
-variable_on scope line v = answered line (variable scope v)
+abbrev pub variable_on : NameScope → Line → RawVar → Judged TypedVar
+variable_on scope line v = judgement_on line (variable scope v)
 
 -- an expression on a line by its form, with its operands as they are judged
-abbrev pub expression_step : Scope → Line → E.RawExpr-F (Judged Typed) → Judged Typed
+abbrev pub expression_step : NameScope → Line → E.RawExpr-F (Judged Typed) → Judged Typed
 expression_step scope line (E.Literal ty value) = sound (literal_of ty value)
 expression_step scope line (E.Read v) =
     record { found = read_of (variable_on scope line v).found; breaks = (variable_on scope line v).breaks }
-expression_step scope line (E.Unary op a) = behind a.breaks (unary_of line op a.found)
-expression_step scope line (E.Binary op a b) = behind (a.breaks ++ b.breaks) (binary_of line op a.found b.found)
-expression_step scope line (E.Convert from to a) = behind a.breaks (conversion_of line from to a.found)
+expression_step scope line (E.Unary op a) = after_breaks a.breaks (unary_of line op a.found)
+expression_step scope line (E.Binary op a b) = after_breaks (a.breaks ++ b.breaks) (binary_of line op a.found b.found)
+expression_step scope line (E.Convert from to a) = after_breaks a.breaks (conversion_of line from to a.found)
 expression_step scope line (E.Select gate a b) =
-    behind (gate.breaks ++ a.breaks ++ b.breaks) (choice_of line gate.found a.found b.found)
+    after_breaks (gate.breaks ++ a.breaks ++ b.breaks) (choice_of line gate.found a.found b.found)
 expression_step scope line (E.Shift op a count) =
-    behind (a.breaks ++ count.breaks) (shift_of line op a.found count.found)
-expression_step scope line (E.AreaRead w p) = behind p.breaks (area_read_of line w p.found)
+    after_breaks (a.breaks ++ count.breaks) (shift_of line op a.found count.found)
+expression_step scope line (E.AreaRead w p) = after_breaks p.breaks (area_read_of line w p.found)
 
 -- an expression on a line
-abbrev pub expression : Scope → Line → RawExpr → Judged Typed
+abbrev pub expression : NameScope → Line → RawExpr → Judged Typed
 expression scope line = fold-RawExpr (Judged Typed) (expression_step scope line)

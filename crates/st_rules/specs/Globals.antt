@@ -1,7 +1,9 @@
--- Globals: what they are in the tree, and the rules that are broken in their locations and initial values.
+-- How globals are judged. What they are in the tree, and the rules that are broken in their locations, sizes and
+-- initial values.
+-- Held against: IEC 61131-3, 'Variables'.
 use Rattle.std.specs.Prelude.{ℕ, ◌+◌, ◌*◌, ◌-◌, ◌^◌, min, Bool, true, false, ◌&&◌, ◌==◌, nat_le, nat_lt, if◌then◌else◌, List, [], ◌∷◌, ◌++◌, drop, length, replicate, Option, Some, None, is_some}
 use Rattle.std.specs.List.{fold, flat_map}
-use Rattle.memory_areas.specs.Areas.{inserted}
+use Rattle.memory_areas.specs.Areas.{insert_data_block}
 use Rattle.memory_areas.specs.declared.data_block.DataBlock.{DataBlock}
 use Rattle.memory_areas.specs.declared.place.Area.{Area}
 use Rattle.memory_areas.specs.declared.place.Area.TheVariants as place
@@ -18,20 +20,20 @@ use Rattle.st_tree.specs.declared.raw.RawGlobalType.{RawGlobalType}
 use Rattle.st_tree.specs.declared.raw.RawGlobalType.TheVariants as type
 use Rattle.st_tree.specs.declared.raw.RawVar.{RawVar}
 use Rattle.st_tree.specs.declared.raw.RawVar.TheVariants as raw
-use Rattle.s7_base.specs.Broken.{broken}
-use Rattle.st_rules.specs.Judged.{listed}
+use Rattle.s7_base.specs.Broken.{rule_break}
+use Rattle.st_names.specs.Lists.{as_list}
 use Rattle.st_tree.specs.Naming.{key_of, names_block}
 use Rattle.st_tree.specs.TypeRules.{has_width}
-use Rattle.st_rules.specs.Variables.{is_address}
+use Rattle.st_names.specs.Variables.{is_address}
 use Rattle.st_tree.specs.PlaceRules.{is_block_number}
-use Rattle.s7_base.specs.declared.broken.Break.{Break}
+use Rattle.s7_base.specs.declared.rule_break.Break.{Break}
 
--- a location is an address that there may be
+-- a location is an address that may be written
 abbrev pub has_address : RawVar → Bool
 has_address (raw.Name name) = true
 has_address (raw.Direct a block w byte bit) = is_address a block w byte bit
 
--- no rule, or one that is broken where a test fails
+-- no rule where a test is true, else these
 abbrev pub unless : Bool → List Break → List Break
 unless test breaks = if test then [] else breaks
 
@@ -67,17 +69,16 @@ located_at name ty (raw.Direct a (Some n) w byte bit) = None
 
 -- Data blocks
 
--- a number from its digits, after a number; above 4,294,967,295 it is that
+-- a number from its digits, after a number; one above 4,294,967,295 is kept as that number
 abbrev pub number_from : ℕ → List ℕ → ℕ
 number_from value [] = value
 number_from value (digit ∷ digits) = number_from (min (value * 10 + (digit - 48)) (2 ^ 32 - 1)) digits
 
--- the number of a data block by its key, which is its name with a plain number; 0 for another name
+-- the number of a data block by its key, which is its name with a number without leading zeros; 0 for another name
 abbrev pub number_in : List ℕ → ℕ
 number_in key = if names_block key then number_from 0 (drop 2 key) else 0
 
--- the number of a data block by its name as written, in any case and with zeros before it; 0 for
--- another name
+-- the number of a data block by its name as written, in any case and with leading zeros; 0 for another name
 abbrev pub block_number : List ℕ → ℕ
 block_number name = number_in (key_of name)
 
@@ -92,7 +93,7 @@ abbrev pub total : List (ℕ × ℕ) → ℕ
 total [] = 0
 total (run ∷ runs) = run.0 + total runs
 
--- a written list has a byte for each index up to the last one; one that is missing does
+-- a written list has a byte for each index up to the last one; a list that is missing fills any
 abbrev pub fills : ℕ → List (ℕ × ℕ) → Bool
 fills last [] = true
 fills last (run ∷ runs) = total (run ∷ runs) == last + 1
@@ -106,7 +107,7 @@ contents last (run ∷ runs) = flat_map (λ (r : ℕ × ℕ). replicate r.0 r.1)
 abbrev pub is_small_enough : ℕ → Bool
 is_small_enough last = nat_le (last + 1) MOST_BLOCK_BYTES
 
--- a data block of a number has an address that there may be
+-- a data block of a number has an address that may be written
 abbrev pub has_block_address : ℕ → RawVar → Bool
 has_block_address number at = is_block_number number && has_address at
 
@@ -117,9 +118,9 @@ has_block_form number at last list = is_start_of number at && nat_le 1 last && f
 -- the rules that are broken in a data block of a number
 abbrev pub block_breaks : Line → ℕ → RawVar → ℕ → List (ℕ × ℕ) → List Break
 block_breaks line number at last list =
-    unless (has_block_address number at) (broken line BadAddress)
-    ++ (unless (is_small_enough last) (broken line TooLarge)
-    ++ unless (has_block_form number at last list) (broken line TypeMismatch))
+    unless (has_block_address number at) (rule_break line BadAddress)
+    ++ (unless (is_small_enough last) (rule_break line TooLarge)
+    ++ unless (has_block_form number at last list) (rule_break line TypeMismatch))
 
 -- a data block of a number in the tree; none where a rule is broken
 abbrev pub block_at : ℕ → RawVar → ℕ → List (ℕ × ℕ) → Option DataBlock
@@ -128,12 +129,12 @@ block_at number at last list =
     then Some (record { number = number; bytes = contents last list })
     else None
 
--- data blocks and one more, if it is there; a text with more than there may be is refused
+-- data blocks and one more, if it exists; a text with more than there may be is refused
 abbrev pub with_block : Option DataBlock → List DataBlock → List DataBlock
 with_block None blocks = blocks
-with_block (Some b) blocks = if nat_lt (length blocks) MOST_BLOCKS then inserted b blocks else blocks
+with_block (Some b) blocks = if nat_lt (length blocks) MOST_BLOCKS then insert_data_block b blocks else blocks
 
--- Both
+-- Globals of both kinds
 
 -- the global on I, Q or M that a declaration gives, if it gives one
 abbrev pub located_of : RawGlobalType → List ℕ → RawVar → Option Located
@@ -148,12 +149,12 @@ block_of (type.Bytes last list) name at = block_at (block_number name) at last l
 -- the rules that a declaration breaks by its location, its size or its initial value
 abbrev pub global_breaks : RawGlobalType → Line → List ℕ → RawVar → List Break
 global_breaks (type.Plain ty) line name at =
-    unless (has_address at) (broken line BadAddress) ++ unless (fits_type ty at) (broken line TypeMismatch)
+    unless (has_address at) (rule_break line BadAddress) ++ unless (fits_type ty at) (rule_break line TypeMismatch)
 global_breaks (type.Bytes last list) line name at = block_breaks line (block_number name) at last list
 
 -- all globals on I, Q and M, in the order of the text
 abbrev pub all_located : List RawGlobal → List Located
-all_located globals = flat_map (λ (g : RawGlobal). listed (located_of g.ty g.name g.at)) globals
+all_located globals = flat_map (λ (g : RawGlobal). as_list (located_of g.ty g.name g.at)) globals
 
 -- all data blocks, in ascending order of their numbers
 abbrev pub all_blocks : List RawGlobal → List DataBlock

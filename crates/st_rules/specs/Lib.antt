@@ -5,9 +5,6 @@ pub mod Globals
 pub mod Invocations
 pub mod Judged
 pub mod LongChains
-pub mod Names
-pub mod Scopes
 pub mod Statements
 pub mod Typed
 pub mod Units
-pub mod Variables

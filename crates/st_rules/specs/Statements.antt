@@ -1,5 +1,6 @@
--- Statements: what they are in the tree, and the rules that are broken in them. The parts of a statement
--- before its inner statements have the line of its first word.
+-- How statements are judged. What they are in the tree, and the rules that are broken in them. The parts of a
+-- statement before its inner statements have the line of its first word.
+-- Held against: IEC 61131-3, 'Statements'.
 use Rattle.std.specs.Prelude.{ℤ, Bool, ◌&&◌, ◌++◌, if◌then◌else◌, List, [], map, Option, Some, None}
 use Rattle.std.specs.List.{list_all}
 use Rattle.s7_base.specs.declared.reason.Line.{Line}
@@ -19,15 +20,15 @@ use Rattle.st_tree.specs.declared.raw.RawCaseArm.{RawCaseArm, RawCaseArm-F, fold
 use Rattle.st_tree.specs.declared.raw.RawStmt.{RawStmt, RawStmt-F, fold-RawStmt}
 use Rattle.st_tree.specs.declared.raw.RawStmtKind.{RawStmtKind, fold-RawStmtKind}
 use Rattle.st_tree.specs.declared.raw.RawStmtKind.TheOpen as K
-use Rattle.s7_base.specs.Broken.{broken}
-use Rattle.st_rules.specs.Judged.{Judged, sound, nothing, breaks_rule, behind, found_in, breaks_in}
+use Rattle.s7_base.specs.Broken.{rule_break}
+use Rattle.st_rules.specs.Judged.{Judged, sound, nothing, breaks_rule, after_breaks, found_in, breaks_in}
 use Rattle.st_rules.specs.Expressions.{expression, variable_on}
 use Rattle.st_rules.specs.Invocations.{invocation}
 use Rattle.st_tree.specs.TypeRules.{is_type, is_selector}
-use Rattle.s7_base.specs.declared.broken.Break.{Break}
+use Rattle.s7_base.specs.declared.rule_break.Break.{Break}
 use Rattle.st_rules.specs.declared.expression.Typed.{Typed}
-use Rattle.st_rules.specs.declared.scope.Scope.{Scope}
-use Rattle.st_rules.specs.declared.variable.TypedVar.{TypedVar}
+use Rattle.st_names.specs.declared.scope.NameScope.{NameScope}
+use Rattle.st_names.specs.declared.variable.TypedVar.{TypedVar}
 
 -- an assignment: both sides have equal types
 abbrev pub assignment_of : Line → Option TypedVar → Option Typed → Judged Stmt
@@ -50,8 +51,8 @@ test_of line None = nothing
 test_of line (Some e) = if is_type e.ty type.Bool then sound e.tree else breaks_rule line TypeMismatch
 
 -- the test of an IF or a WHILE, on the line of its statement
-abbrev pub test : Scope → Line → RawExpr → Judged Expr
-test scope line e = let j = expression scope line e in behind j.breaks (test_of line j.found)
+abbrev pub test : NameScope → Line → RawExpr → Judged Expr
+test scope line e = let j = expression scope line e in after_breaks j.breaks (test_of line j.found)
 
 -- the selector of a CASE, once its expression is judged: it must be an INT or a DINT
 abbrev pub selector_of : Line → Option Typed → Judged Typed
@@ -59,8 +60,8 @@ selector_of line None = nothing
 selector_of line (Some e) = if is_selector e.ty then sound e else breaks_rule line TypeMismatch
 
 -- the selector of a CASE, on the line of its statement
-abbrev pub selector : Scope → Line → RawExpr → Judged Typed
-selector scope line e = let j = expression scope line e in behind j.breaks (selector_of line j.found)
+abbrev pub selector : NameScope → Line → RawExpr → Judged Typed
+selector scope line e = let j = expression scope line e in after_breaks j.breaks (selector_of line j.found)
 
 -- the type of a selector
 abbrev pub type_of_selector : Option Typed → Option StType
@@ -74,7 +75,7 @@ have_type ty labels = list_all (λ (label : StType × ℤ). is_type label.0 ty) 
 -- the labels of a CASE have the type of its selector
 abbrev pub label_breaks : Line → Option StType → List (StType × ℤ) → List Break
 label_breaks line None labels = []
-label_breaks line (Some ty) labels = if have_type ty labels then [] else broken line TypeMismatch
+label_breaks line (Some ty) labels = if have_type ty labels then [] else rule_break line TypeMismatch
 
 -- an arm of an IF; none where its test breaks a rule
 abbrev pub arm_of : Option Expr → List Stmt → Option Arm
@@ -100,12 +101,12 @@ Armed = Line → Judged Arm
 abbrev pub Labelled : Type 0
 Labelled = Line → Option StType → Judged CaseArm
 
--- what a statement does, which waits for its line
+-- a statement of the tree, which waits for its line
 abbrev pub Done : Type 0
 Done = Line → Judged Stmt
 
 -- an arm of an IF by its test and its statements
-abbrev pub arm_step : Scope → RawArm-F Done Armed Labelled (Judged Stmt) → Armed
+abbrev pub arm_step : NameScope → RawArm-F Done Armed Labelled (Judged Stmt) → Armed
 arm_step scope a line = record {
   found = arm_of (test scope line a.test).found (found_in a.body);
   breaks = (test scope line a.test).breaks ++ breaks_in a.body;
@@ -126,16 +127,16 @@ arms_on line arms = map (λ (arm : Armed). arm line) arms
 abbrev pub case_arms_on : Line → Option StType → List Labelled → List (Judged CaseArm)
 case_arms_on line ty arms = map (λ (arm : Labelled). arm line ty) arms
 
--- what a statement does, by its parts
-abbrev pub kind_step : Scope → K.RawStmtKind-F Done Armed Labelled (Judged Stmt) → Done
+-- a statement of the tree, by its parts
+abbrev pub kind_step : NameScope → K.RawStmtKind-F Done Armed Labelled (Judged Stmt) → Done
 kind_step scope (K.Assign v e) line =
     let j = variable_on scope line v in
     let k = expression scope line e in
-    behind (j.breaks ++ k.breaks) (assignment_of line j.found k.found)
+    after_breaks (j.breaks ++ k.breaks) (assignment_of line j.found k.found)
 kind_step scope (K.AreaWrite w p e) line =
     let j = expression scope line p in
     let k = expression scope line e in
-    behind (j.breaks ++ k.breaks) (area_write_of line w j.found k.found)
+    after_breaks (j.breaks ++ k.breaks) (area_write_of line w j.found k.found)
 kind_step scope (K.Invoke name actuals) line = invocation scope line name actuals
 kind_step scope (K.If arms other) line = record {
   found = Some (stmt.If (found_in (arms_on line arms)) (found_in other));
@@ -161,25 +162,25 @@ abbrev pub statement_step : RawStmt-F Done Armed Labelled (Judged Stmt) → Judg
 statement_step s = s.kind s.line
 
 -- a statement in a scope: what it is in the tree, and the rules that it breaks
-abbrev pub statement : Scope → RawStmt → Judged Stmt
+abbrev pub statement : NameScope → RawStmt → Judged Stmt
 statement scope =
     fold-RawStmt Done Armed Labelled (Judged Stmt) (kind_step scope) (arm_step scope) case_arm_step statement_step
 
 -- an arm of an IF in a scope
-abbrev pub arm : Scope → RawArm → Armed
+abbrev pub arm : NameScope → RawArm → Armed
 arm scope =
     fold-RawArm Done Armed Labelled (Judged Stmt) (kind_step scope) (arm_step scope) case_arm_step statement_step
 
 -- an arm of a CASE in a scope
-abbrev pub case_arm : Scope → RawCaseArm → Labelled
+abbrev pub case_arm : NameScope → RawCaseArm → Labelled
 case_arm scope =
     fold-RawCaseArm Done Armed Labelled (Judged Stmt) (kind_step scope) (arm_step scope) case_arm_step statement_step
 
--- what a statement in a scope does, once its line is known
-abbrev pub action : Scope → RawStmtKind → Done
+-- a statement of the tree in a scope, once its line is known
+abbrev pub action : NameScope → RawStmtKind → Done
 action scope =
     fold-RawStmtKind Done Armed Labelled (Judged Stmt) (kind_step scope) (arm_step scope) case_arm_step statement_step
 
 -- a list of statements
-abbrev pub statements : Scope → List RawStmt → List (Judged Stmt)
+abbrev pub statements : NameScope → List RawStmt → List (Judged Stmt)
 statements scope body = map (statement scope) body

@@ -1,4 +1,6 @@
--- A text with its names, types and places: its tree, or the first rule that is broken.
+-- The tree of a judged text. A text that breaks no rule of names, types, places and calls has one; of another text
+-- the first broken rule is named.
+-- Held against: this project's own rules.
 use Rattle.std.specs.Prelude.{◌≡◌, ◌≢◌, List, [], ◌++◌, map, Option, Some, None}
 use Rattle.s7_base.specs.declared.reason.Line.{Line}
 use Rattle.s7_base.specs.declared.reason.Reason.{Reason}
@@ -13,10 +15,10 @@ use Rattle.call_chains.specs.Chain.{Graph, NoCycle, FirstCycle}
 use Rattle.st_rules.specs.LongChains.{first_long_chain}
 use Rattle.st_rules.specs.Declarations.{all_outside, formals_of}
 use Rattle.st_rules.specs.Globals.{all_blocks, all_global_breaks, all_located}
-use Rattle.st_rules.specs.Names.{Table}
+use Rattle.st_names.specs.Names.{Table}
 use Rattle.st_rules.specs.Units.{all_unit_breaks, all_units, calls_of_units}
-use Rattle.s7_base.specs.declared.broken.Break.{Break}
-use Rattle.st_rules.specs.declared.scope.Meaning.{Meaning}
+use Rattle.s7_base.specs.declared.rule_break.Break.{Break}
+use Rattle.st_names.specs.declared.scope.Meaning.{Meaning}
 
 -- what names mean outside the units of a text
 abbrev pub names_of : RawSt → Table Meaning
@@ -28,11 +30,11 @@ breaks_of raw =
     (all_outside raw.globals raw.pous).breaks
     ++ (all_global_breaks raw.globals ++ all_unit_breaks (names_of raw) (map formals_of raw.pous) raw.pous)
 
--- the first of them by line, then by number
+-- the first broken rule of a text by line, then by number
 abbrev pub first_break : RawSt → Option Break
 first_break raw = first_of_all (breaks_of raw)
 
--- the tree of a text in which none of them is broken
+-- the tree of a text in which no rule of names, types and places is broken
 abbrev pub tree_of : RawSt → StProgram
 tree_of raw = record {
   dbs = all_blocks raw.globals;

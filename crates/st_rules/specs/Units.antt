@@ -1,4 +1,5 @@
--- Units: what they are in the tree, what they call, and the rules that are broken in them.
+-- How units are judged. What they are in the tree, what they call, and the rules that are broken in them.
+-- Held against: IEC 61131-3, 'Program organization units'.
 use Rattle.std.specs.Prelude.{◌++◌, List, map}
 use Rattle.std.specs.List.{flat_map}
 use Rattle.st_tree.specs.declared.program.Pou.{Pou}
@@ -6,20 +7,20 @@ use Rattle.st_tree.specs.declared.raw.RawPou.{RawPou}
 use Rattle.st_rules.specs.Judged.{found_in, breaks_in}
 use Rattle.st_rules.specs.Calls.{all_calls}
 use Rattle.st_rules.specs.Declarations.{all_inside, locals_of}
-use Rattle.st_rules.specs.Names.{Table}
+use Rattle.st_names.specs.Names.{Table}
 use Rattle.st_rules.specs.Statements.{statements}
-use Rattle.s7_base.specs.declared.broken.Break.{Break}
+use Rattle.s7_base.specs.declared.rule_break.Break.{Break}
 use Rattle.call_chains.specs.declared.call.Call.{Call}
-use Rattle.st_rules.specs.declared.scope.Formals.{Formals}
-use Rattle.st_rules.specs.declared.scope.Meaning.{Meaning}
-use Rattle.st_rules.specs.declared.scope.Scope.{Scope}
+use Rattle.st_names.specs.declared.scope.Formals.{Formals}
+use Rattle.st_names.specs.declared.scope.Meaning.{Meaning}
+use Rattle.st_names.specs.declared.scope.NameScope.{NameScope}
 
 -- what names mean in a unit
-abbrev pub scope_in : Table Meaning → List Formals → RawPou → Scope
+abbrev pub scope_in : Table Meaning → List Formals → RawPou → NameScope
 scope_in outer formals u = record { outer = outer; formals = formals; inner = (all_inside u.formals u.locals).names }
 
 -- a unit in the tree
-abbrev pub unit_in : Scope → RawPou → Pou
+abbrev pub unit_in : NameScope → RawPou → Pou
 unit_in scope u = record {
   program = u.program;
   name = u.name;
@@ -29,7 +30,7 @@ unit_in scope u = record {
 }
 
 -- the rules that are broken in a unit
-abbrev pub unit_breaks : Scope → RawPou → List Break
+abbrev pub unit_breaks : NameScope → RawPou → List Break
 unit_breaks scope u = (all_inside u.formals u.locals).breaks ++ breaks_in (statements scope u.body)
 
 -- a unit in the tree, by what is declared outside it

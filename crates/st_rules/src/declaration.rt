@@ -1,7 +1,7 @@
-//! What is declared, as far as a text is gone through.
-use crate::scope::Meaning;
-use crate::table::Table;
+//! What is declared in the part of a text that is judged so far.
 use s7_base::{Break, List};
+use st_names::scope::Meaning;
+use st_names::table::Table;
 
 /// What is declared outside the units so far, and the rules that are broken there.
 #[derive(Drop)]

@@ -78,7 +78,8 @@ chain_stays zero tree n less = absurd (omega arith)
 chain_stays (suc k) tree n less = unit_stays k tree (slice_get tree.pous n) (chain_stays k tree) less
 
 -- a unit's chain is one longer than those of its calls
-pub chain_covers : (tree : StProgram) (n : ℕ) (unit : Pou) → slice_get tree.pous n ≡ Some unit → chain_of tree n ≤ ACTIVATIONS → 1 + body_most (depth_costs tree) unit.body ≤ chain_of tree n
+pub chain_covers : (tree : StProgram) (n : ℕ) (unit : Pou) → slice_get tree.pous n ≡ Some unit
+    → chain_of tree n ≤ ACTIVATIONS → 1 + body_most (depth_costs tree) unit.body ≤ chain_of tree n
 chain_covers tree n unit e few =
     let is : chain_of tree n ≡ suc (greatest (map (chain_to 8 tree) (called_in unit.body))) = ap (unit_chain (chain_to 8 tree) 8) e in
     let h = greatest_stays (chain_to 9 tree) (chain_to 8 tree) 8 (chain_stays 8 tree) (called_in unit.body) (omega arith) in
@@ -122,11 +123,19 @@ module _ (tree : StProgram) where
 
   stacked_arms : (xs : List Arm) → Each (InArm Stacked) xs → Within (λ k. greatest (map (arm_most k) xs))
   stacked_arms [] each = omega arith
-  stacked_arms (x ∷ xs) each = omega (arith, most_arm (stack_costs tree) x, most_arm nesting_costs x, most_arm (depth_costs tree) x, stacked_list x.body each.0, stacked_arms xs each.1)
+  stacked_arms (x ∷ xs) each =
+      omega (arith, most_arm (stack_costs tree) x, most_arm nesting_costs x, most_arm (depth_costs tree) x, stacked_list x.body each.0, stacked_arms xs each.1)
 
   stacked_cases : (xs : List CaseArm) → Each (InCase Stacked) xs → Within (λ k. greatest (map (case_most k) xs))
   stacked_cases [] each = omega arith
-  stacked_cases (x ∷ xs) each = omega (arith, most_case_arm (stack_costs tree) x, most_case_arm nesting_costs x, most_case_arm (depth_costs tree) x, stacked_list x.body each.0, stacked_cases xs each.1)
+  stacked_cases (x ∷ xs) each = omega (
+    arith,
+    most_case_arm (stack_costs tree) x,
+    most_case_arm nesting_costs x,
+    most_case_arm (depth_costs tree) x,
+    stacked_list x.body each.0,
+    stacked_cases xs each.1,
+  )
 
   stacked_steps : StmtSteps Stacked
   stacked_steps =
@@ -134,14 +143,19 @@ module _ (tree : StProgram) where
         assign = λ v e. stacked_by (S.Assign v e) (stmt.rolls-Assign v e) (omega arith);
         area_write = λ w a e. stacked_by (S.AreaWrite w a e) (stmt.rolls-AreaWrite w a e) (omega arith);
         invoke = λ n actuals. stacked_by (S.Invoke n actuals) (stmt.rolls-Invoke n actuals) (omega arith);
-        choice = λ arms other each rest. stacked_by (S.If arms other) (stmt.rolls-If arms other) (omega (arith, stacked_arms arms each, stacked_list other rest));
-        selection = λ e arms other each rest. stacked_by (S.Case e arms other) (stmt.rolls-Case e arms other) (omega (arith, stacked_cases arms each, stacked_list other rest));
+        choice =
+            λ arms other each rest. stacked_by (S.If arms other) (stmt.rolls-If arms other) (omega (arith, stacked_arms arms each, stacked_list other rest));
+        selection =
+            λ e arms other each rest. stacked_by (S.Case e arms other) (stmt.rolls-Case e arms other)
+            (omega (arith, stacked_cases arms each, stacked_list other rest));
         loop = λ test body each. stacked_by (S.While test body) (stmt.rolls-While test body) (omega (arith, stacked_list body each));
         exit = stacked_by S.Exit stmt.rolls-Exit (omega arith);
         continue = stacked_by S.Continue stmt.rolls-Continue (omega arith);
         return = stacked_by S.Return stmt.rolls-Return (omega arith);
       }
 
-pub stack_covers : (tree : StProgram) (n : ℕ) (unit : Pou) → slice_get tree.pous n ≡ Some unit → IsRunnableUnit tree n unit → 1 + (1 + body_most (stack_costs tree) unit.body) ≤ UNIT_FRAMES * chain_of tree n
+pub stack_covers : (tree : StProgram) (n : ℕ) (unit : Pou) → slice_get tree.pous n ≡ Some unit
+    → IsRunnableUnit tree n unit → 1 + (1 + body_most (stack_costs tree) unit.body) ≤ UNIT_FRAMES * chain_of tree n
 stack_covers tree n unit e runnable =
-    omega (arith, stacked_list tree unit.body (every_body (Stacked tree) (stacked_steps tree) unit.body), runnable.nesting, chain_covers tree n unit e runnable.chain)
+    omega
+    (arith, stacked_list tree unit.body (every_body (Stacked tree) (stacked_steps tree) unit.body), runnable.nesting, chain_covers tree n unit e runnable.chain)

@@ -1,6 +1,6 @@
 -- What statements cost and weigh by one layer, and that what is chosen costs and weighs no more than the choice.
 use Rattle.st_tree.proofs.Common.{◌≡◌, ℕ, ◌+◌, ◌≤◌, Bool, true, false, if◌then◌else◌, ℤ, max, List, [], ◌∷◌, map, Result, Ok, Err, subst, arith, and_then, Fault, greatest, State, value, is_set}
-use Rattle.st_runner.proofs.Common.{has_label, labelled, picked, body_weight, weight, Costs, arm_most, body_most, case_most, most, most_step, Expr, Arm, CaseArm, Located, Stmt, map-Stmt, roll-Stmt, Value}
+use Rattle.st_runner.proofs.Common.{has_label, case_body, if_body, body_weight, weight, Costs, arm_most, body_most, case_most, most, most_step, Expr, Arm, CaseArm, Located, Stmt, map-Stmt, roll-Stmt, Value}
 use Rattle.st_runner.specs.inner.Measures.{arm_weight, case_weight, sum, weight_step}
 use Rattle.st_tree.specs.declared.program.Arm.{fold_out-Arm}
 use Rattle.st_tree.specs.declared.program.CaseArm.{fold_out-CaseArm}
@@ -39,7 +39,8 @@ module _ (size : List Stmt → ℕ) where
   fewer a b (Ok body) h w = omega arith
   fewer a b (Err f) h w = tt
 
-  chosen_within : (r : Result Value Fault) (body : List Stmt) (rest : Result (List Stmt) Fault) (n : ℕ) → size body ≤ n → Within size n rest → Within size n (and_then r (λ v. if is_set v then Ok body else rest))
+  chosen_within : (r : Result Value Fault) (body : List Stmt) (rest : Result (List Stmt) Fault) (n : ℕ)
+      → size body ≤ n → Within size n rest → Within size n (and_then r (λ v. if is_set v then Ok body else rest))
   chosen_within (Ok v) body rest n h w = by (is_set v)
     where
       by : (b : Bool) → Within size n (if b then Ok body else rest)
@@ -48,39 +49,46 @@ module _ (size : List Stmt → ℕ) where
   chosen_within (Err f) body rest n h w = tt
 
   pub picked_within : (arm_size : Arm → ℕ) → ((a : Arm) → arm_size a ≡ size a.body) → (g : List Located) (arms : List Arm) (other : List Stmt) (s : State) →
-      Within size (max (greatest (map arm_size arms)) (size other)) (picked g arms other s)
+      Within size (max (greatest (map arm_size arms)) (size other)) (if_body g arms other s)
   picked_within arm_size is g [] other s = omega arith
   picked_within arm_size is g (a ∷ arms) other s =
       let n : ℕ = max (max (arm_size a) (greatest (map arm_size arms))) (size other) in
       let m : ℕ = max (greatest (map arm_size arms)) (size other) in
-      let rest = fewer m n (picked g arms other s) (omega arith) (picked_within arm_size is g arms other s) in
-      chosen_within (value g a.test s) a.body (picked g arms other s) n (omega (arith, is a)) rest
+      let rest = fewer m n (if_body g arms other s) (omega arith) (picked_within arm_size is g arms other s) in
+      chosen_within (value g a.test s) a.body (if_body g arms other s) n (omega (arith, is a)) rest
 
   pick_less : (b : Bool) (p q : List Stmt) (n : ℕ) → size p ≤ n → size q ≤ n → size (if b then p else q) ≤ n
   pick_less true p q n h k = h
   pick_less false p q n h k = k
 
   pub labelled_within : (arm_size : CaseArm → ℕ) → ((a : CaseArm) → arm_size a ≡ size a.body) → (n : ℤ) (arms : List CaseArm) (other : List Stmt) →
-      size (labelled n arms other) ≤ max (greatest (map arm_size arms)) (size other)
+      size (case_body n arms other) ≤ max (greatest (map arm_size arms)) (size other)
   labelled_within arm_size is n [] other = omega arith
   labelled_within arm_size is n (a ∷ arms) other =
-      pick_less (has_label a.labels n) a.body (labelled n arms other) (max (max (arm_size a) (greatest (map arm_size arms))) (size other))
+      pick_less (has_label a.labels n) a.body (case_body n arms other) (max (max (arm_size a) (greatest (map arm_size arms))) (size other))
       (omega (arith, is a)) (omega (arith, labelled_within arm_size is n arms other))
 
-pub picked_most : (k : Costs) (g : List Located) (arms : List Arm) (other : List Stmt) (s : State) (body : List Stmt) → picked g arms other s ≡ Ok body → k.rest + body_most k body ≤ most k (stmt.If arms other)
+pub picked_most : (k : Costs) (g : List Located) (arms : List Arm) (other : List Stmt) (s : State) (body : List Stmt)
+    → if_body g arms other s ≡ Ok body → k.rest + body_most k body ≤ most k (stmt.If arms other)
 picked_most k g arms other s body e =
-    let w = subst (λ r. Within (body_most k) (max (greatest (map (arm_most k) arms)) (body_most k other)) r) e (picked_within (body_most k) (arm_most k) (most_arm k) g arms other s) in
+    let w =
+    subst (λ r. Within (body_most k) (max (greatest (map (arm_most k) arms)) (body_most k other)) r) e
+    (picked_within (body_most k) (arm_most k) (most_arm k) g arms other s) in
     omega (arith, w, most_stmt k (S.If arms other) (stmt.rolls-If arms other))
 
-pub picked_weight : (g : List Located) (arms : List Arm) (other : List Stmt) (s : State) (body : List Stmt) → picked g arms other s ≡ Ok body → 2 + body_weight body ≤ weight (stmt.If arms other)
+pub picked_weight : (g : List Located) (arms : List Arm) (other : List Stmt) (s : State) (body : List Stmt)
+    → if_body g arms other s ≡ Ok body → 2 + body_weight body ≤ weight (stmt.If arms other)
 picked_weight g arms other s body e =
-    let w = subst (λ r. Within body_weight (max (greatest (map arm_weight arms)) (body_weight other)) r) e (picked_within body_weight arm_weight arm_weighs g arms other s) in
+    let w =
+    subst (λ r. Within body_weight (max (greatest (map arm_weight arms)) (body_weight other)) r) e
+    (picked_within body_weight arm_weight arm_weighs g arms other s) in
     omega (arith, w, weight_stmt (S.If arms other) (stmt.rolls-If arms other))
 
-pub labelled_most : (k : Costs) (e : Expr) (n : ℤ) (arms : List CaseArm) (other : List Stmt) → k.rest + body_most k (labelled n arms other) ≤ most k (stmt.Case e arms other)
+pub labelled_most : (k : Costs) (e : Expr) (n : ℤ) (arms : List CaseArm) (other : List Stmt)
+    → k.rest + body_most k (case_body n arms other) ≤ most k (stmt.Case e arms other)
 labelled_most k e n arms other =
     omega (arith, labelled_within (body_most k) (case_most k) (most_case_arm k) n arms other, most_stmt k (S.Case e arms other) (stmt.rolls-Case e arms other))
 
-pub labelled_weight : (e : Expr) (n : ℤ) (arms : List CaseArm) (other : List Stmt) → 2 + body_weight (labelled n arms other) ≤ weight (stmt.Case e arms other)
+pub labelled_weight : (e : Expr) (n : ℤ) (arms : List CaseArm) (other : List Stmt) → 2 + body_weight (case_body n arms other) ≤ weight (stmt.Case e arms other)
 labelled_weight e n arms other =
     omega (arith, labelled_within body_weight case_weight case_weighs n arms other, weight_stmt (S.Case e arms other) (stmt.rolls-Case e arms other))

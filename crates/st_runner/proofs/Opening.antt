@@ -1,25 +1,25 @@
 -- What callers see of a runner is what it is made of; and where a run begins.
 use Rattle.st_tree.proofs.Common.{◌≡◌, ℕ, List, [], ◌∷◌, map, refl, ap, ◌∙◌, ◌+◌, ◌*◌, ◌≤◌, Bor, length, Option, Some, sym, subst, arith, calls_to, Out, Normal, Calls, body_meaning, loop, end_seen, FitFormals, FitsIfThere, FitsSt, FitsUnit, IsOutsidePlace, formals_given, is_meant, references, run_of_unit, st_run, state_at_start, unit_called, State, value, slice_get, position_or_len, find_at, Areas, IsActivation, DataBlock, Area, Place, ACTIVATIONS, Width, BlockName, Call}
-use Rattle.st_runner.proofs.Common.{IsSettled, IsReady, most_formals, most_locals, Shows, end_at, framed, outcome_of, unwound, At, Frame, Located, StProgram, reach, units, depth_costs, stack_costs, Costs, body_most, IsRunnable, formals_of_unit, misfit_costs, AreReachable, IsSound, UNIT_FRAMES, Local, Pou, Stmt}
+use Rattle.st_runner.proofs.Common.{IsSettled, IsReady, most_formals, most_locals, Shows, end_at, resume_frame, outcome_of, unwound, At, Frame, Located, StProgram, reach, units, depth_costs, stack_costs, Costs, body_most, IsRunnable, formals_of_unit, misfit_costs, AreReachable, IsSound, UNIT_FRAMES, Local, Pou, Stmt}
 use Rattle.st_runner.specs.inner.Plain.{coming, pending}
-use Rattle.st_runner.specs.Standing.{all_followed, end_by, followed}
+use Rattle.st_runner.specs.Standing.{all_followed, end_by, resume}
 use Rattle.st_runner.specs.declared.frame.At.TheVariants as at
 use Rattle.st_runner.specs.declared.frame.Frame.TheVariants as frame
 use Rattle.st_runner.proofs.Stack.{unwound_none}
 use Rattle.memory_areas.specs.declared.place.Area.TheVariants as area
-use Rattle.st_runner.specs.declared.state.State.{State as Parts}
+use Rattle.st_runner.specs.declared.state.State.{State as RunnerState}
 use Rattle.st_runner.proofs.Chains.{chain_covers, stack_covers}
 use Rattle.st_runner.proofs.Spending.{formals_at, locals_at}
 use Rattle.memory_areas.specs.declared.call.BlockName.TheVariants as name
 
 module _ (g : List Located) (c : Calls) where
-  framed_same : (f : Frame) (o : Out) → framed g c f o ≡ followed g c (pending f) o
+  framed_same : (f : Frame) (o : Out) → resume_frame g c f o ≡ resume g c (pending f) o
   framed_same frame.Unit o = refl
   framed_same f o = refl
 
   unwound_same : (fs : List Frame) (o : Out) → unwound g c fs o ≡ all_followed g c (map pending fs) o
   unwound_same [] o = refl
-  unwound_same (f ∷ fs) o = framed_same f (unwound g c fs o) ∙ ap (followed g c (pending f)) (unwound_same fs o)
+  unwound_same (f ∷ fs) o = framed_same f (unwound g c fs o) ∙ ap (resume g c (pending f)) (unwound_same fs o)
 
   pub end_same : (fs : List Frame) (next : At) (u : ℕ) (s : State) → end_at g c fs next u s ≡ end_by g c (map pending fs) (coming next) u s
   end_same fs at.Work u s = ap end_seen (unwound_same fs (Normal u s))
@@ -53,19 +53,23 @@ outside_reached (area.Local d) h = absurd h
 outside_reached (area.Cell d) h = absurd h
 outside_reached a h = tt
 
-references_reached : (blocks : List DataBlock) (formals : List Local) (actuals : List (Place × Width)) → FitFormals blocks formals actuals → AreReachable (references formals actuals)
+references_reached : (blocks : List DataBlock) (formals : List Local) (actuals : List (Place × Width))
+    → FitFormals blocks formals actuals → AreReachable (references formals actuals)
 references_reached blocks [] actuals h = tt
 references_reached blocks (f ∷ fs) [] h = tt
 references_reached blocks (f ∷ fs) (a ∷ xs) h = (outside_reached a.0.area h.0.outside, references_reached blocks fs xs h.1)
 
-pub given_reached : (blocks : List DataBlock) (unit : Pou) (block : BlockName) (instance : ℕ) (actuals : List (Place × Width)) → FitsUnit blocks unit block instance actuals → AreReachable (formals_given block unit.formals actuals)
+pub given_reached : (blocks : List DataBlock) (unit : Pou) (block : BlockName) (instance : ℕ) (actuals : List (Place × Width))
+    → FitsUnit blocks unit block instance actuals → AreReachable (formals_given block unit.formals actuals)
 given_reached blocks unit (name.Ob n) instance actuals h = tt
 given_reached blocks unit (name.Fc n) instance actuals h = references_reached blocks unit.formals actuals h
 given_reached blocks unit (name.Fb n) instance actuals h = tt
 
 -- all is reserved that the first unit needs
-pub ready_at_start : (tree : StProgram) (runnable : IsRunnable tree) (call : Call) (unit : Pou) (b : Bor (List Stmt)) (s : Parts) (work : List Frame) → unit_called call.block tree.pous ≡ Some unit → b.now ≡ unit.body
-    → work ≡ frame.Rest b ∷ [] → IsSound (most_locals tree.pous) (most_formals tree.pous) s → length s.activations.items ≡ 1 → IsReady tree (ACTIVATIONS * UNIT_FRAMES) work at.Work s
+pub ready_at_start : (tree : StProgram) (runnable : IsRunnable tree) (call : Call) (unit : Pou) (b : Bor (List Stmt)) (s : RunnerState) (work : List Frame)
+    → unit_called call.block tree.pous ≡ Some unit → b.now ≡ unit.body
+    → work ≡ frame.Rest b ∷ [] → IsSound (most_locals tree.pous) (most_formals tree.pous) s
+    → length s.activations.items ≡ 1 → IsReady tree (ACTIVATIONS * UNIT_FRAMES) work at.Work s
 ready_at_start tree runnable call unit b s work called is e sound one =
     let k = called_at call.block tree.pous unit called in
     let unit_runs = runnable.units k.0 unit k.1 in
@@ -81,7 +85,8 @@ ready_at_start tree runnable call unit b s work called is e sound one =
     }
 
 -- it ends as the run of its call does
-pub ends_as_run : (tree : StProgram) (call : Call) (areas : Areas) (unit : Pou) (b : Bor (List Stmt)) (s : State) (work : List Frame) → unit_called call.block tree.pous ≡ Some unit → b.now ≡ unit.body → work ≡ frame.Rest b ∷ []
+pub ends_as_run : (tree : StProgram) (call : Call) (areas : Areas) (unit : Pou) (b : Bor (List Stmt)) (s : State) (work : List Frame)
+    → unit_called call.block tree.pous ≡ Some unit → b.now ≡ unit.body → work ≡ frame.Rest b ∷ []
     → s ≡ state_at_start unit call areas → (k : ℕ) → end_by tree.globals (calls_to k tree) (map pending work) (coming at.Work) k s ≡ st_run tree call areas k
 ends_as_run tree call areas unit b s work called is e start k =
     sym (end_same tree.globals (calls_to k tree) work at.Work k s)
@@ -90,5 +95,6 @@ ends_as_run tree call areas unit b s work called is e start k =
     ∙ ap (λ (x : State). end_seen (body_meaning tree.globals (calls_to k tree) unit.body k x)) start
     ∙ sym (ap (λ (o : Option Pou). run_of_unit tree o call areas k) called)
 
-pub fits_there : (tree : StProgram) (call : Call) (unit : Pou) → unit_called call.block tree.pous ≡ Some unit → FitsUnit tree.dbs unit call.block call.instance call.actuals → FitsSt tree call
+pub fits_there : (tree : StProgram) (call : Call) (unit : Pou) → unit_called call.block tree.pous ≡ Some unit
+    → FitsUnit tree.dbs unit call.block call.instance call.actuals → FitsSt tree call
 fits_there tree call unit e h = subst (λ (o : Option Pou). FitsIfThere tree call o) (sym e) h

@@ -1,5 +1,5 @@
 -- A proper tree can be run.
-use Rattle.st_tree.proofs.Common.{◌≡◌, ℕ, suc, ◌≤◌, ◌==◌, Bool, true, false, not, ◌&&◌, if◌then◌else◌, List, [], ◌∷◌, length, map, slice_get, All, Option, Some, None, option_map, refl, sym, ap, ◌∙◌, subst, arith, and_parts, All-head, All-tail, slice_get-map, IsActivation, Area, Width, greatest, arm_nesting, body_nesting, case_nesting, nesting, IsGlobal, IsProperUnit, Proper, width_at, Head, Sight, are_given, are_well_typed, each, each_case, has_type, head_of, is_arm, is_call, is_case_arm, is_seen, is_well_typed, sight_in, variable_type}
+use Rattle.st_tree.proofs.Common.{◌≡◌, ℕ, suc, ◌≤◌, ◌==◌, Bool, true, false, not, ◌&&◌, if◌then◌else◌, List, [], ◌∷◌, length, map, slice_get, All, Option, Some, None, option_map, refl, sym, ap, ◌∙◌, subst, arith, and_parts, All-head, All-tail, slice_get-map, IsActivation, Area, Width, greatest, arm_nesting, body_nesting, case_nesting, nesting, IsGlobal, IsProperUnit, Proper, width_at, Head, UnitScope, are_given, are_well_typed, each, each_case, has_type, head_of, is_arm, is_call, is_case_arm, is_seen, is_well_typed, unit_scope_in, variable_type}
 use Rattle.std.proofs.Common.{eq-eqb}
 use Rattle.memory_areas.specs.declared.place.Area.TheVariants as place
 use Rattle.st_runner.proofs.Common.{Costs, arm_most, body_most, case_most, most, AreGlobals, IsRunnable, formals_of_unit, misfit_costs, nesting_costs, StType, Var, Arm, CaseArm, Local, Located, Pou, StProgram, Stmt}
@@ -63,7 +63,7 @@ body_shallow body = shallow_list body (every_body Shallow shallow_steps body)
 
 -- Well typed calls give as many actuals as there are formals
 
-as_many : (sight : Sight) (fs : List Local) (vars : List Var) → are_given sight fs vars ≡ true
+as_many : (sight : UnitScope) (fs : List Local) (vars : List Var) → are_given sight fs vars ≡ true
     → length vars ≡ length fs
 as_many sight [] [] h = refl
 as_many sight [] (v ∷ vars) h = cc
@@ -72,8 +72,8 @@ as_many sight (f ∷ fs) (v ∷ vars) h =
     ap suc (as_many sight fs vars (and_parts (has_type f.ty (variable_type sight v)) (are_given sight fs vars) h).1)
 
 module _ (tree : StProgram) (unit : Pou) where
-  abbrev sight : Sight
-  sight = sight_in tree unit
+  abbrev sight : UnitScope
+  sight = unit_scope_in tree unit
 
   abbrev costs : Costs
   costs = misfit_costs tree

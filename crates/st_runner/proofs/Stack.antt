@@ -1,29 +1,29 @@
 -- Frames that wait: what is pushed is done first, how much they cost, and those that EXIT, CONTINUE and RETURN
 -- take away.
 use Rattle.st_tree.proofs.Common.{◌≡◌, ◌+◌, ◌≤◌, max, List, [], ◌∷◌, ◌++◌, refl, ap, ◌∙◌, arith, ℕ, sym, subst, Fault, Out, Faults, NoUnits, Calls, Normal, State, end_seen}
-use Rattle.st_runner.proofs.Common.{frame_tall, frame_weight, size, sizes, tall, work_weight, unit_costs, units, Costs, framed, unwound, ending, Frame, Located, Leaves}
+use Rattle.st_runner.proofs.Common.{frame_tall, frame_weight, size, sizes, tall, work_weight, unit_costs, units, Costs, resume_frame, unwound, ending, Frame, Located, Leaves}
 use Rattle.st_runner.specs.declared.frame.Frame.TheVariants as frame
 
 module _ (g : List Located) (c : Calls) where
-  pub unwound_push : (fs : List Frame) (f : Frame) (o : Out) → unwound g c (fs ++ f ∷ []) o ≡ unwound g c fs (framed g c f o)
+  pub unwound_push : (fs : List Frame) (f : Frame) (o : Out) → unwound g c (fs ++ f ∷ []) o ≡ unwound g c fs (resume_frame g c f o)
   unwound_push [] f o = refl
-  unwound_push (x ∷ fs) f o = ap (framed g c x) (unwound_push fs f o)
+  unwound_push (x ∷ fs) f o = ap (resume_frame g c x) (unwound_push fs f o)
 
-  framed_faults : (f : Frame) (x : Fault) (s : State) → framed g c f (Faults x s) ≡ Faults x s
+  framed_faults : (f : Frame) (x : Fault) (s : State) → resume_frame g c f (Faults x s) ≡ Faults x s
   framed_faults frame.Unit x s = refl
   framed_faults f x s = refl
 
   pub unwound_faults : (fs : List Frame) (x : Fault) (s : State) → unwound g c fs (Faults x s) ≡ Faults x s
   unwound_faults [] x s = refl
-  unwound_faults (f ∷ fs) x s = ap (framed g c f) (unwound_faults fs x s) ∙ framed_faults f x s
+  unwound_faults (f ∷ fs) x s = ap (resume_frame g c f) (unwound_faults fs x s) ∙ framed_faults f x s
 
-  framed_none : (f : Frame) (s : State) → framed g c f (NoUnits s) ≡ NoUnits s
+  framed_none : (f : Frame) (s : State) → resume_frame g c f (NoUnits s) ≡ NoUnits s
   framed_none frame.Unit s = refl
   framed_none f s = refl
 
   pub unwound_none : (fs : List Frame) (s : State) → unwound g c fs (NoUnits s) ≡ NoUnits s
   unwound_none [] s = refl
-  unwound_none (f ∷ fs) s = ap (framed g c f) (unwound_none fs s) ∙ framed_none f s
+  unwound_none (f ∷ fs) s = ap (resume_frame g c f) (unwound_none fs s) ∙ framed_none f s
 
 module _ (k : Costs) where
   pub sizes_push : (fs : List Frame) (f : Frame) → sizes k (fs ++ f ∷ []) ≡ sizes k fs + size k f
@@ -48,7 +48,8 @@ weight_push [] f = omega arith
 weight_push (x ∷ fs) f = let h : work_weight (fs ++ f ∷ []) ≡ work_weight fs + frame_weight f = weight_push fs f in omega arith
 
 -- a frame on top
-pub on_top : (g : List Located) (c : Calls) (fs ws : List Frame) (f : Frame) (o : Out) → ws ≡ fs ++ f ∷ [] → ending g c ws o ≡ ending g c fs (framed g c f o)
+pub on_top : (g : List Located) (c : Calls) (fs ws : List Frame) (f : Frame) (o : Out)
+    → ws ≡ fs ++ f ∷ [] → ending g c ws o ≡ ending g c fs (resume_frame g c f o)
 on_top g c fs ws f o e = ap (λ (xs : List Frame). ending g c xs o) e ∙ ap end_seen (unwound_push g c fs f o)
 
 pub top_tall : (k : Costs) (fs ws : List Frame) (f : Frame) → ws ≡ fs ++ f ∷ [] → tall k ws ≡ max (tall k fs) (sizes k fs + frame_tall k f)
@@ -61,7 +62,8 @@ pub top_weight : (fs ws : List Frame) (f : Frame) → ws ≡ fs ++ f ∷ [] → 
 top_weight fs ws f e = ap work_weight e ∙ weight_push fs f
 
 -- a frame that an end takes away, and that is no unit
-pub passed : (o p : ℕ → State → Out) (ws fs gs : List Frame) (f : Frame) → size unit_costs f ≡ 0 → ((g : List Located) (c : Calls) (u : ℕ) (s : State) → framed g c f (o u s) ≡ p u s)
+pub passed : (o p : ℕ → State → Out) (ws fs gs : List Frame) (f : Frame) → size unit_costs f ≡ 0
+    → ((g : List Located) (c : Calls) (u : ℕ) (s : State) → resume_frame g c f (o u s) ≡ p u s)
     → fs ≡ gs ++ f ∷ [] → Leaves o o ws fs → Leaves o p ws gs
 passed o p ws fs gs f none ends e h =
     record {
@@ -72,7 +74,8 @@ passed o p ws fs gs f none ends e h =
     }
 
 -- a frame that an end stops at
-pub stopped : (o : ℕ → State → Out) (ws fs gs hs : List Frame) (f : Frame) → ((g : List Located) (c : Calls) (u : ℕ) (s : State) → framed g c f (o u s) ≡ framed g c f (Normal u s))
+pub stopped : (o : ℕ → State → Out) (ws fs gs hs : List Frame) (f : Frame)
+    → ((g : List Located) (c : Calls) (u : ℕ) (s : State) → resume_frame g c f (o u s) ≡ resume_frame g c f (Normal u s))
     → fs ≡ gs ++ f ∷ [] → hs ≡ gs ++ f ∷ [] → Leaves o o ws fs → Leaves o Normal ws hs
 stopped o ws fs gs hs f same e d h =
     let back : hs ≡ fs = d ∙ sym e in

@@ -6,7 +6,7 @@ use Rattle.st_runner.specs.inner.Waiting.{or_none, with_rest}
 use Rattle.st_runner.specs.inner.View.{MayLeave, SameShape}
 use Rattle.st_runner.specs.declared.frame.At.TheVariants as at
 use Rattle.st_runner.specs.declared.frame.Frame.TheVariants as frame
-use Rattle.st_runner.specs.declared.state.State.{State as Parts}
+use Rattle.st_runner.specs.declared.state.State.{State as RunnerState}
 use Rattle.st_runner.proofs.Frames.{sound_running}
 use Rattle.st_runner.proofs.Stack.{sizes_tall, on_top, top_sizes, top_tall, top_weight}
 
@@ -34,7 +34,9 @@ behind tree fs gs r g = by_rest (λ (hs : List Frame). gs ≡ hs → Behind tree
     last : r.now ≡ [] → gs ≡ fs → Behind tree fs gs r.now
     last none h =
         record {
-          meaning = λ c o. ap (λ (x : List Frame). ending tree.globals c x o) h ∙ ap (ending tree.globals c fs) (alone o ∙ ap (λ (xs : List Stmt). then_do o (body_meaning tree.globals c xs)) (sym none));
+          meaning =
+              λ c o. ap (λ (x : List Frame). ending tree.globals c x o) h
+              ∙ ap (ending tree.globals c fs) (alone o ∙ ap (λ (xs : List Stmt). then_do o (body_meaning tree.globals c xs)) (sym none));
           tall = λ k. omega (arith, ap (tall k) h);
           sizes = λ k. omega (arith, ap (sizes k) h);
           units = ap units h;
@@ -51,11 +53,13 @@ behind tree fs gs r g = by_rest (λ (hs : List Frame). gs ≡ hs → Behind tree
           weight = omega (arith, top_weight fs gs (frame.Rest r) h);
         }
 
-module _ (tree : StProgram) (ws : List Frame) (s : Parts) where
+module _ (tree : StProgram) (ws : List Frame) (s : RunnerState) where
   pub body_ended : (fs : List Frame) (b : Bor (List Stmt)) → ws ≡ fs ++ frame.Rest b ∷ [] → b.now ≡ [] → Stepped tree ws fs at.Work s s
   body_ended fs b e none =
       record {
-        meaning = λ c u. sym (on_top tree.globals c fs ws (frame.Rest b) (Normal u (state_of s)) e ∙ ap (λ (xs : List Stmt). ending tree.globals c fs (body_meaning tree.globals c xs u (state_of s))) none);
+        meaning =
+            λ c u. sym (on_top tree.globals c fs ws (frame.Rest b) (Normal u (state_of s)) e
+            ∙ ap (λ (xs : List Stmt). ending tree.globals c fs (body_meaning tree.globals c xs u (state_of s))) none);
         reach = λ k. omega (arith, top_tall k fs ws (frame.Rest b) e, sizes_tall k fs);
         weight = let w : work_weight ws ≡ work_weight fs + frame_weight (frame.Rest b) = top_weight fs ws (frame.Rest b) e in omega arith;
         sound = λ l f h. h;
@@ -72,19 +76,24 @@ module _ (tree : StProgram) (ws : List Frame) (s : Parts) where
         count = λ h. let w : units ws ≡ units fs + 0 = top_sizes unit_costs fs ws (frame.Again t b) e in omega arith;
       }
 
-  pub unit_ended : (fs : List Frame) (t : Parts) → ws ≡ fs ++ frame.Unit ∷ [] → state_of t ≡ left (state_of s) → ((l f : ℕ) → IsSound l f s → IsSound l f t) → length t.activations.items + 1 ≡ length s.activations.items
+  pub unit_ended : (fs : List Frame) (t : RunnerState) → ws ≡ fs ++ frame.Unit ∷ [] → state_of t ≡ left (state_of s)
+      → ((l f : ℕ) → IsSound l f s → IsSound l f t) → length t.activations.items + 1 ≡ length s.activations.items
       → Stepped tree ws fs at.Work s t
   unit_ended fs t e d sound less =
       record {
         meaning = λ c u. ap (λ (x : State). ending tree.globals c fs (Normal u x)) d ∙ sym (on_top tree.globals c fs ws frame.Unit (Normal u (state_of s)) e);
-        reach = λ k. let t : tall k ws ≡ max (tall k fs) (sizes k fs + frame_tall k frame.Unit) = top_tall k fs ws frame.Unit e in let h : sizes k fs ≤ tall k fs = sizes_tall k fs in omega arith;
+        reach =
+            λ k. let t : tall k ws ≡ max (tall k fs) (sizes k fs + frame_tall k frame.Unit) = top_tall k fs ws frame.Unit e in
+            let h : sizes k fs ≤ tall k fs = sizes_tall k fs in
+            omega arith;
         weight = let w : work_weight ws ≡ work_weight fs + 1 = top_weight fs ws frame.Unit e in omega arith;
         sound = sound;
         count = λ h. let w : units ws ≡ units fs + 1 = top_sizes unit_costs fs ws frame.Unit e in omega arith;
       }
 
   -- the first statement of a list, with the rest behind it where there is one
-  pub first_statement : (fs gs vs : List Frame) (b r : Bor (List Stmt)) (x : Stmt) (next : At) (t : Parts) → ws ≡ fs ++ frame.Rest b ∷ [] → b.now ≡ x ∷ r.now → gs ≡ with_rest fs r
+  pub first_statement : (fs gs vs : List Frame) (b r : Bor (List Stmt)) (x : Stmt) (next : At) (t : RunnerState)
+      → ws ≡ fs ++ frame.Rest b ∷ [] → b.now ≡ x ∷ r.now → gs ≡ with_rest fs r
       → Done tree x gs vs next (state_of s) (state_of t) → ((l f : ℕ) → IsSound l f s → IsSound l f t) → SameShape s t → Stepped tree ws vs next s t
   first_statement fs gs vs b r x next t e split g done sound same =
       let rest : Behind tree fs gs r.now = behind tree fs gs r g in
@@ -92,11 +101,14 @@ module _ (tree : StProgram) (ws : List Frame) (s : Parts) where
         meaning = λ c u.
             done.meaning c u
             ∙ rest.meaning c (meaning tree.globals c x u (state_of s))
-            ∙ sym (on_top tree.globals c fs ws (frame.Rest b) (Normal u (state_of s)) e ∙ ap (λ (xs : List Stmt). ending tree.globals c fs (body_meaning tree.globals c xs u (state_of s))) split);
+            ∙ sym (on_top tree.globals c fs ws (frame.Rest b) (Normal u (state_of s)) e
+            ∙ ap (λ (xs : List Stmt). ending tree.globals c fs (body_meaning tree.globals c xs u (state_of s))) split);
         reach = λ k. omega (arith, top_tall k fs ws (frame.Rest b) e, ap (body_most k) split, rest.tall k, rest.sizes k, done.reach k);
         weight = weighs next done.weight;
         sound = sound;
-        count = λ h. let same_length : length t.activations.items ≡ length s.activations.items = same in omega (arith, top_sizes unit_costs fs ws (frame.Rest b) e, rest.units, done.units);
+        count =
+            λ h. let same_length : length t.activations.items ≡ length s.activations.items = same in
+            omega (arith, top_sizes unit_costs fs ws (frame.Rest b) e, rest.units, done.units);
       }
     where
       weighs : (n : At) → IfWork n (work_weight vs + 1 ≤ work_weight gs + weight x) → IfWork n (work_weight vs + 1 ≤ work_weight ws)
@@ -111,22 +123,25 @@ stack_length tree (frame.Again t b ∷ fs) = let h : sizes (stack_costs tree) fs
 stack_length tree (frame.Unit ∷ fs) = let h : sizes (stack_costs tree) fs ≡ length fs = stack_length tree fs in omega arith
 
 -- a statement finds room for what it pushes
-pub first_room : (tree : StProgram) (capacity : ℕ) (ws fs gs : List Frame) (b r : Bor (List Stmt)) (x : Stmt) (s : Parts) → IsReady tree capacity ws at.Work s → ws ≡ fs ++ frame.Rest b ∷ [] → b.now ≡ x ∷ r.now → gs ≡ with_rest fs r
+pub first_room : (tree : StProgram) (capacity : ℕ) (ws fs gs : List Frame) (b r : Bor (List Stmt)) (x : Stmt) (s : RunnerState)
+    → IsReady tree capacity ws at.Work s → ws ≡ fs ++ frame.Rest b ∷ [] → b.now ≡ x ∷ r.now → gs ≡ with_rest fs r
     → length gs + most (stack_costs tree) x ≤ capacity
 first_room tree capacity ws fs gs b r x s ready e split g =
     let k : Costs = stack_costs tree in
     let rest : Behind tree fs gs r.now = behind tree fs gs r g in
     omega (arith, top_tall k fs ws (frame.Rest b) e, ap (body_most k) split, rest.sizes k, stack_length tree gs, ready.frames)
 
-pub may_leave : (tree : StProgram) (capacity : ℕ) (ws fs : List Frame) (s : Parts) → IsReady tree capacity ws at.Work s → ws ≡ fs ++ frame.Unit ∷ [] → MayLeave s
+pub may_leave : (tree : StProgram) (capacity : ℕ) (ws fs : List Frame) (s : RunnerState)
+    → IsReady tree capacity ws at.Work s → ws ≡ fs ++ frame.Unit ∷ [] → MayLeave s
 may_leave tree capacity ws fs s ready e =
     (most_locals tree.pous, most_formals tree.pous, ready.sound, omega (arith, top_sizes unit_costs fs ws frame.Unit e, ready.count))
 
-pub ready_running : (tree : StProgram) (capacity : ℕ) (ws : List Frame) (next : At) (s : Parts) → IsReady tree capacity ws next s → IsRunning s
+pub ready_running : (tree : StProgram) (capacity : ℕ) (ws : List Frame) (next : At) (s : RunnerState) → IsReady tree capacity ws next s → IsRunning s
 ready_running tree capacity ws next s ready = sound_running (most_locals tree.pous) (most_formals tree.pous) s ready.sound
 
 -- what was ready is so after a step
-pub stepped_ready : (tree : StProgram) (capacity : ℕ) (ws vs : List Frame) (next : At) (s t : Parts) → Stepped tree ws vs next s t → IsReady tree capacity ws at.Work s → IsReady tree capacity vs next t
+pub stepped_ready : (tree : StProgram) (capacity : ℕ) (ws vs : List Frame) (next : At) (s t : RunnerState)
+    → Stepped tree ws vs next s t → IsReady tree capacity ws at.Work s → IsReady tree capacity vs next t
 stepped_ready tree capacity ws vs next s t h ready =
     record {
       sound = h.sound (most_locals tree.pous) (most_formals tree.pous) ready.sound;

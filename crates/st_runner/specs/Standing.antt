@@ -34,8 +34,8 @@ pub data Coming : Type 0 where
   call : ℕ → List Var → Coming
   over : Option Fault → Coming
 
--- where a run of a text stands: what waits, the innermost last, what comes next, the memory, the numbers of
--- the registers in their order, and the activations
+-- a run of a text between two steps: what waits, the innermost last, what comes next, the memory, the numbers of the
+-- registers in their order, and the activations
 pub record Standing : Type 0 where
   pub tree : StProgram
   pub waits : List Pending
@@ -44,18 +44,18 @@ pub record Standing : Type 0 where
   pub numbers : List ℤ
   pub activations : List Activation
 
--- what follows where the statements above what waits ended so
-abbrev pub followed : List Located → Calls → Pending → Out → Out
-followed globals calls (rest body) o = then_do o (body_meaning globals calls body)
-followed globals calls (again t body) o = after_body o (loop (value globals t) (body_meaning globals calls body))
-followed globals calls unit o = after_unit o
+-- the end of what waits, after the statements above it ended
+abbrev pub resume : List Located → Calls → Pending → Out → Out
+resume globals calls (rest body) o = then_do o (body_meaning globals calls body)
+resume globals calls (again t body) o = after_body o (loop (value globals t) (body_meaning globals calls body))
+resume globals calls unit o = after_unit o
 
--- and in all that waits
+-- the end of all that waits, after the statements above it ended
 abbrev pub all_followed : List Located → Calls → List Pending → Out → Out
 all_followed globals calls [] o = o
-all_followed globals calls (p ∷ more) o = followed globals calls p (all_followed globals calls more o)
+all_followed globals calls (p ∷ more) o = resume globals calls p (all_followed globals calls more o)
 
--- the state there
+-- the state of a run between two steps
 abbrev pub state_there : Standing → State
 state_there standing =
     record {
@@ -64,7 +64,7 @@ state_there standing =
       activations = standing.activations;
     }
 
--- how a run ends with some units for which this comes next, before what waits, in a state
+-- the end of a run that does this next within some units, before what waits, in a state
 abbrev pub end_by : List Located → Calls → List Pending → Coming → ℕ → State → End
 end_by globals calls waits work units s = end_seen (all_followed globals calls waits (Normal units s))
 end_by globals calls waits (test t body) units s =
@@ -73,7 +73,7 @@ end_by globals calls waits (call n actuals) units s =
     end_seen (all_followed globals calls waits (calls n actuals units s))
 end_by globals calls waits (over f) units s = Ended s.memory.areas f
 
--- how a run that stands here ends within some further units
+-- the end of a run from here on within some further units
 abbrev pub end_within : Standing → ℕ → End
 end_within standing units =
     end_by standing.tree.globals (calls_to units standing.tree) standing.waits standing.next units

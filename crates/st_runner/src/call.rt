@@ -3,7 +3,7 @@ ghost use Rattle.std.specs.Prelude.{◌≡◌, ◌+◌, ◌≤◌, [], length, m
 ghost use Rattle.memory_areas.specs.Access.{and_then};
 ghost use Rattle.st_runner.specs.inner.View.{AreReachable, Changes, IsDeeper, IsReachable, IsRunning, IsSound, MayEnter, MayLeave, state_of};
 ghost use Rattle.st_runner.specs.inner.Runnable.{AreGlobals};
-ghost use Rattle.st_tree.specs.Calls.{entered, left, located_actual, located_actuals, tested, zero_of};
+ghost use Rattle.st_tree.specs.Calls.{state_on_entry, left, located_actual, located_actuals, check_access, zero_of};
 ghost use Rattle.st_tree.specs.State.{reference_of};
 
 use crate::state::State;
@@ -23,10 +23,10 @@ pub fn zero_locals(locals: &mut Vec<Value>, declared: &[Local])
 }
 
 impl State {
-    /// Tests the access to what a variable stands for.
-    fn tested(&self, reference: Reference) -> Result<Reference, Fault>
+    /// A reference, or the fault of an access to the place that it names.
+    fn check_access(&self, reference: Reference) -> Result<Reference, Fault>
         requires { IsReachable reference }
-        ensures { result ≡ tested reference (state_of self.now) }
+        ensures { result ≡ check_access reference (state_of self.now) }
     {
         if let Reference::Place(place, ty) = reference {
             self.memory.find(place, width_at(ty))?;
@@ -34,19 +34,19 @@ impl State {
         Ok(reference)
     }
 
-    /// What a variable that is no formal stands for as an actual.
+    /// The reference of a variable that is no formal, or the fault of an access to it.
     fn located(&self, globals: &[Located], var: Var) -> Result<Reference, Fault>
         requires running { IsRunning self.now }
         requires globals { AreGlobals globals.now }
         ensures value { result
-            ≡ and_then (reference_of globals.now var (state_of self.now)) (λ r. tested r (state_of self.now)) }
+            ≡ and_then (reference_of globals.now var (state_of self.now)) (λ r. check_access r (state_of self.now)) }
         ensures reachable { IfOk result IsReachable }
     {
         let reference = self.reference_of(globals, var)?;
-        self.tested(reference)
+        self.check_access(reference)
     }
 
-    /// What an actual stands for.
+    /// The reference of an actual, or the fault of an access to it.
     fn located_actual(&self, globals: &[Located], var: Var) -> Result<Reference, Fault>
         requires running { IsRunning self.now }
         requires globals { AreGlobals globals.now }
@@ -96,7 +96,7 @@ impl State {
         requires globals { AreGlobals globals.now }
         ensures change { Changes
             (and_then (located_actuals globals.now actuals.now (state_of self.old))
-            (λ formals. Ok (entered unit.now formals (state_of self.old))))
+            (λ formals. Ok (state_on_entry unit.now formals (state_of self.old))))
             result (state_of self.old) (state_of self.new) }
         ensures sound { (l f : ℕ) → IsSound l f self.old → IsSound l f self.new }
         ensures deeper { IsDeeper result self.old self.new }

@@ -1,7 +1,7 @@
 //! Calls from outside: the unit that one means, whether it fits, and what it gives the unit.
 ghost use Rattle.std.specs.Prelude.{◌≡◌, ◌++◌, [], codes, decimal, length, vec_capacity, ◌≤◌, IfOk, MatchOption, None, OnOk, Some, List, ℕ};
 ghost use Rattle.std.specs.Str.{str_eq_ignore_ascii_case};
-ghost use Rattle.memory_areas.specs.Access.{aimed, fault_of};
+ghost use Rattle.memory_areas.specs.Access.{aim_of_place, fault_of};
 ghost use Rattle.memory_areas.specs.Areas.{IsMemoryOf, block_of};
 ghost use Rattle.memory_areas.specs.Memory.{IsActivation};
 ghost use Rattle.memory_areas.specs.declared.data_block.DataBlock.{DataBlock};
@@ -14,20 +14,20 @@ use s7_base::{NoMemory, Width};
 use st_tree::{Local, Pou, Reference, width_at};
 use std::alloc::Global;
 
-fn put(out: &mut Vec<u8>, text: &str) -> Result<(), NoMemory>
+fn put_text(out: &mut Vec<u8>, text: &str) -> Result<(), NoMemory>
     ensures { OnOk result (out.new.items ≡ out.old.items ++ text.now) }
 {
     out.extend_from_slice(text.as_bytes())?;
     Ok(())
 }
 
-fn named(alloc: Global, kind: &str, number: u16) -> Result<Vec<u8>, NoMemory>
+fn word_with_number(alloc: Global, kind: &str, number: u16) -> Result<Vec<u8>, NoMemory>
     ensures { IfOk result (λ name. name.items ≡ kind.now ++ decimal number) }
 {
     let mut name = Vec::new(alloc);
-    put(&mut name, kind)?;
+    put_text(&mut name, kind)?;
     let digits = number.to_string(alloc)?;
-    put(&mut name, digits.as_str())?;
+    put_text(&mut name, digits.as_str())?;
     Ok(name)
 }
 
@@ -36,13 +36,13 @@ pub fn called_name(alloc: Global, block: BlockName) -> Result<Vec<u8>, NoMemory>
     ensures { IfOk result (λ name. name.items ≡ called_name block) }
 {
     match block {
-        BlockName::Ob(number) => named(alloc, "OB", number),
-        BlockName::Fc(number) => named(alloc, "FC", number),
-        BlockName::Fb(number) => named(alloc, "FB", number),
+        BlockName::Ob(number) => word_with_number(alloc, "OB", number),
+        BlockName::Fc(number) => word_with_number(alloc, "FC", number),
+        BlockName::Fb(number) => word_with_number(alloc, "FB", number),
     }
 }
 
-/// A unit is the one that a call means.
+/// Whether a unit is the one that a call means.
 fn is_meant(block: BlockName, name: &[u8], unit: &Pou) -> bool
     requires { name.now ≡ called_name block }
     ensures { result ≡ is_meant block unit.now }
@@ -67,7 +67,7 @@ pub fn unit_called<'t>(block: BlockName, name: &[u8], units: &'t [Pou]) -> Optio
     None
 }
 
-/// An area that a call from outside may give places of.
+/// Whether a call from outside may give places of an area.
 fn is_outside(area: Area) -> bool
     ensures { Decides result (IsOutsidePlace area) }
 {
@@ -81,15 +81,15 @@ fn is_outside(area: Area) -> bool
     }
 }
 
-/// A place of an area outside is there in a memory.
+/// Whether a place of an area that calls may give exists in a memory.
 fn is_there(memory: &Memory, place: Place, width: Width) -> bool
     requires { IsOutsidePlace place.area }
-    ensures { Decides result (fault_of (aimed place) width memory.now ≡ None) }
+    ensures { Decides result (fault_of (aim_of_place place) width memory.now ≡ None) }
 {
     memory.find(place, width).is_ok()
 }
 
-/// An actual fits a formal.
+/// Whether an actual fits a formal.
 fn fits_formal(memory: &Memory, formal: &Local, place: Place, width: Width) -> bool
     ensures { (blocks : List DataBlock) → IsMemoryOf blocks memory.now.areas
         → Decides result (FitsFormal blocks formal.now (place, width)) }
@@ -103,7 +103,7 @@ fn fits_formal(memory: &Memory, formal: &Local, place: Place, width: Width) -> b
     is_there(memory, place, width)
 }
 
-/// The actuals fit the formals.
+/// Whether the actuals fit the formals.
 fn fit_formals(memory: &Memory, formals: &[Local], actuals: &[(Place, Width)]) -> bool
     ensures { (blocks : List DataBlock) → IsMemoryOf blocks memory.now.areas
         → Decides result (FitFormals blocks formals.now actuals.now) }
@@ -123,7 +123,7 @@ fn fit_formals(memory: &Memory, formals: &[Local], actuals: &[(Place, Width)]) -
     actuals_left.is_empty()
 }
 
-/// A call fits the unit that it means.
+/// Whether a call fits the unit that it means.
 pub fn fits_unit(memory: &Memory, unit: &Pou, call: &Call) -> bool
     ensures { (blocks : List DataBlock) → IsMemoryOf blocks memory.now.areas
         → Decides result (FitsUnit blocks unit.now call.now.block call.now.instance call.now.actuals) }

@@ -1,14 +1,14 @@
 //! Expressions, assignments and choices.
 ghost use Rattle.std.specs.Prelude.{◌≡◌, Ok, Err, IfSome, MatchResult, ℕ};
 ghost use Rattle.memory_areas.specs.Access.{and_then};
-ghost use Rattle.st_runner.specs.inner.Choice.{has_label, labelled, picked};
+ghost use Rattle.st_runner.specs.inner.Choice.{has_label, case_body, if_body};
 ghost use Rattle.st_runner.specs.inner.View.{Changes, IsRunning, IsSound, SameShape, state_of};
 ghost use Rattle.st_runner.specs.inner.Runnable.{AreGlobals};
-ghost use Rattle.st_tree.specs.Meaning.{area_assigned, assigned};
+ghost use Rattle.st_tree.specs.Meaning.{area_assignment, assignment};
 ghost use Rattle.st_tree.specs.Value.{value};
 ghost use Rattle.st_tree.specs.Values.{is_set};
 
-use crate::operators::{binary, chosen, converted, is_set, shift, unary};
+use crate::operators::{binary, converted_value, is_set, selected_value, shift, unary};
 use crate::state::{State, local_at};
 use s7_base::{Fault, Width};
 use st_tree::{Arm, CaseArm, Expr, Located, Stmt, Value, Var};
@@ -58,13 +58,13 @@ impl State {
             }
             Expr::Convert(_, to, operand) => {
                 let v = self.value(globals, operand.get())?;
-                Ok(converted(*to, v))
+                Ok(converted_value(*to, v))
             }
             Expr::Select(gate, first, second) => {
                 let gate = self.value(globals, gate.get())?;
                 let v = self.value(globals, first.get())?;
                 let w = self.value(globals, second.get())?;
-                Ok(chosen(gate, v, w))
+                Ok(selected_value(gate, v, w))
             }
             Expr::Shift(op, operand, count) => {
                 let v = self.value(globals, operand.get())?;
@@ -106,7 +106,8 @@ impl State {
         }
     }
 
-    /// A test that is no literal is TRUE. It stays a call, which a loop whose test is TRUE does without.
+    /// Whether a test that is no literal is TRUE. It stays a call, which a loop whose test is TRUE does
+    /// without.
     #[inline(never)]
     fn is_found_true(&self, globals: &[Located], test: &Expr) -> Result<bool, Fault>
         requires running { IsRunning self.now }
@@ -120,7 +121,7 @@ impl State {
         Ok(is_set(v))
     }
 
-    /// A test is TRUE.
+    /// Whether a test is TRUE.
     #[inline(always)]
     pub fn is_true(&self, globals: &[Located], test: &Expr) -> Result<bool, Fault>
         requires running { IsRunning self.now }
@@ -139,7 +140,7 @@ impl State {
     fn assign_found(&mut self, globals: &[Located], var: Var, e: &Expr) -> Result<(), Fault>
         requires running { IsRunning self.old }
         requires globals { AreGlobals globals.now }
-        ensures change { Changes (assigned globals.now var e.now (state_of self.old)) result
+        ensures change { Changes (assignment globals.now var e.now (state_of self.old)) result
             (state_of self.old) (state_of self.new) }
         ensures sound { (l f : ℕ) → IsSound l f self.old → IsSound l f self.new }
         ensures same { SameShape self.old self.new }
@@ -153,7 +154,7 @@ impl State {
     pub fn assign(&mut self, globals: &[Located], var: Var, e: &Expr) -> Result<(), Fault>
         requires running { IsRunning self.old }
         requires globals { AreGlobals globals.now }
-        ensures change { Changes (assigned globals.now var e.now (state_of self.old)) result
+        ensures change { Changes (assignment globals.now var e.now (state_of self.old)) result
             (state_of self.old) (state_of self.new) }
         ensures sound { (l f : ℕ) → IsSound l f self.old → IsSound l f self.new }
         ensures same { SameShape self.old self.new }
@@ -174,7 +175,7 @@ impl State {
     ) -> Result<(), Fault>
         requires running { IsRunning self.old }
         requires globals { AreGlobals globals.now }
-        ensures change { Changes (area_assigned globals.now width pointer.now e.now (state_of self.old)) result
+        ensures change { Changes (area_assignment globals.now width pointer.now e.now (state_of self.old)) result
             (state_of self.old) (state_of self.new) }
         ensures sound { (l f : ℕ) → IsSound l f self.old → IsSound l f self.new }
         ensures same { SameShape self.old self.new }
@@ -185,7 +186,7 @@ impl State {
     }
 
     /// The statements that an IF chooses.
-    pub fn picked<'t>(
+    pub fn if_body<'t>(
         &self,
         globals: &[Located],
         arms: &'t [Arm],
@@ -194,8 +195,8 @@ impl State {
         requires running { IsRunning self.now }
         requires globals { AreGlobals globals.now }
         ensures { MatchResult result
-            (λ body. picked globals.now arms.now other.now (state_of self.now) ≡ Ok body.now)
-            (λ fault. picked globals.now arms.now other.now (state_of self.now) ≡ Err fault) }
+            (λ body. if_body globals.now arms.now other.now (state_of self.now) ≡ Ok body.now)
+            (λ fault. if_body globals.now arms.now other.now (state_of self.now) ≡ Err fault) }
     {
         let mut rest = arms;
         while let Some((arm, behind)) = rest.split_first() {
@@ -208,7 +209,7 @@ impl State {
     }
 }
 
-/// An arm of a CASE has a value.
+/// Whether an arm of a CASE has a value.
 #[tactic(auto, unfolding(crate::specs::inner::Choice::has_label))]
 fn has_label(labels: &[i64], v: Value) -> bool
     ensures { result ≡ has_label labels.now v.n }
@@ -217,8 +218,8 @@ fn has_label(labels: &[i64], v: Value) -> bool
 }
 
 /// The statements that a CASE chooses.
-pub fn labelled<'t>(v: Value, arms: &'t [CaseArm], other: &'t [Stmt]) -> &'t [Stmt]
-    ensures { result.now ≡ labelled v.n arms.now other.now }
+pub fn case_body<'t>(v: Value, arms: &'t [CaseArm], other: &'t [Stmt]) -> &'t [Stmt]
+    ensures { result.now ≡ case_body v.n arms.now other.now }
 {
     let mut rest = arms;
     while let Some((arm, behind)) = rest.split_first() {

@@ -1,4 +1,4 @@
-//! EXIT, CONTINUE and RETURN: which frames they take away.
+//! EXIT, CONTINUE and RETURN: the frames that they remove.
 ghost use Rattle.std.specs.Prelude.{◌≡◌, vec_capacity};
 ghost use Rattle.st_runner.specs.inner.Leaving.{Leaves};
 ghost use Rattle.st_tree.specs.Meaning.{Continues, Exits, Normal, Returns};

@@ -1,4 +1,4 @@
-//! What variables and pointers stand for, and what they read and write.
+//! The places and values that variables and pointers name, and what they read and write.
 ghost use Rattle.std.specs.Prelude.{◌≡◌, ◌<◌, length, slice_get, IfOk, Ok, ℕ};
 ghost use Rattle.memory_areas.specs.Access.{and_then};
 ghost use Rattle.memory_areas.specs.Memory.{IsActivation};
@@ -38,7 +38,7 @@ impl State {
         low_word(self.registers.get(Reg::DiNo))
     }
 
-    /// The place that a direct variable names. It is no call, so that the place is not copied on its way.
+    /// The place that a direct variable names. It is inlined, so that the place is not copied.
     #[inline(always)]
     fn place_of(&self, name: AreaName, byte: u32, bit: u8) -> Place
         requires { IsRunning self.now }
@@ -52,7 +52,7 @@ impl State {
         }
     }
 
-    /// What a formal of the running unit stands for.
+    /// The reference of a formal of the running unit.
     fn formal(&self, i: u32) -> Result<Reference, Fault>
         requires { IsRunning self.now }
         ensures { result
@@ -65,7 +65,7 @@ impl State {
         }
     }
 
-    /// What a variable of the running unit stands for.
+    /// The reference of a variable of the running unit.
     #[tactic(auto, using(crate::proofs::Frames::formal_reach, crate::proofs::Frames::global_reach))]
     pub fn reference_of(&self, globals: &[Located], var: Var) -> Result<Reference, Fault>
         requires running { IsRunning self.now }
@@ -99,7 +99,7 @@ impl State {
         resolve(pointer, self.db_number(), self.di_number(), self.depth())
     }
 
-    /// The value of what a variable stands for. It stays a call, since few variables are formals or globals.
+    /// The value at the reference of a variable. It stays a call, since few variables are formals or globals.
     #[inline(never)]
     fn read_referred(&self, globals: &[Located], var: Var) -> Result<Value, Fault>
         requires running { IsRunning self.now }
@@ -148,7 +148,7 @@ impl State {
     {
         match var {
             Var::Register(r) => {
-                self.registers.set(r, v.n);
+                self.registers.give_number(r, v.n);
                 Ok(())
             }
             Var::Local(i) => {
@@ -197,7 +197,7 @@ impl State {
     }
 }
 
-/// What a global stands for.
+/// The reference of a global.
 fn global(globals: &[Located], i: u32) -> Result<Reference, Fault>
     ensures { result
         ≡ and_then (there (slice_get globals.now i)) (λ (g : GlobalPlace). Ok (PlaceReference g.place g.ty)) }

@@ -1,6 +1,6 @@
 //! What operators and functions give for the values of their operands.
 ghost use Rattle.std.specs.Prelude.{◌≡◌, ◌≢◌, ◌-◌, ◌+◌, ◌*◌, ◌/◌, ◌%◌, ◌^◌, ◌<◌, ◌≤◌, ◌+ℤ◌, ◌-ℤ◌, ◌*ℤ◌, neg_ℤ, pos, Ok, int_div, int_rem, unsigned_abs};
-ghost use Rattle.st_tree.specs.Operators.{binary_value, chosen, converted, divided, from_digits, shift_value, shifted, turned_left, turned_right, unary_value};
+ghost use Rattle.st_tree.specs.Operators.{binary_value, selected_value, converted_value, division, from_digits, shift_value, shift_result, turned_left, turned_right, unary_value};
 ghost use Rattle.st_tree.specs.Values.{bits_of, fit, flag, is_set, number_of, of_bits, pattern, typed, width_of};
 ghost use Rattle.bcd_words.specs.Bcd.{bcd_value};
 ghost use Rattle.st_tree.specs.declared.expr.ShiftOp.TheVariants.{Shl, Shr};
@@ -50,7 +50,7 @@ pub fn low_dword(n: i64) -> u32
     (n.cast_unsigned() & 0xffff_ffff) as u32
 }
 
-/// What a number leaves in a type.
+/// The number of a type that a number becomes, cut to the bits of the type.
 #[inline(always)]
 pub fn fit(ty: StType, n: i64) -> i64
     ensures { result ≡ fit ty n }
@@ -66,7 +66,7 @@ pub fn fit(ty: StType, n: i64) -> i64
     }
 }
 
-/// The value of a type that a number leaves.
+/// The value of a type that a number becomes.
 pub fn typed(ty: StType, n: i64) -> Value
     ensures { result ≡ typed ty n }
 {
@@ -87,7 +87,7 @@ fn bits_of(v: Value) -> u64
     }
 }
 
-/// The value of a type that a pattern stands for.
+/// The value of a type that has this pattern.
 fn of_bits(ty: StType, bits: u64) -> Value
     ensures { result ≡ of_bits ty bits }
 {
@@ -112,7 +112,7 @@ pub fn is_set(v: Value) -> bool
 }
 
 #[tactic(auto, using(crate::proofs::Wraps::fit_negation))]
-fn negated(v: Value) -> Value
+fn negation(v: Value) -> Value
     ensures { result ≡ typed v.ty (neg_ℤ v.n) }
 {
     typed(v.ty, v.n.wrapping_neg())
@@ -140,7 +140,7 @@ fn product(v: Value, w: Value) -> Value
 }
 
 #[tactic(auto, using(crate::proofs::Wraps::fit_quotient))]
-fn truncated(v: Value, w: Value) -> Value
+fn truncated_quotient(v: Value, w: Value) -> Value
     requires { w.n ≢ pos 0 }
     ensures { result ≡ typed v.ty (int_div v.n w.n) }
 {
@@ -148,16 +148,16 @@ fn truncated(v: Value, w: Value) -> Value
 }
 
 fn quotient(v: Value, w: Value) -> Result<Value, Fault>
-    ensures { result ≡ divided int_div v w }
+    ensures { result ≡ division int_div v w }
 {
     if w.n == 0 {
         return Err(Fault::DivideByZero);
     }
-    Ok(truncated(v, w))
+    Ok(truncated_quotient(v, w))
 }
 
 fn remainder(v: Value, w: Value) -> Result<Value, Fault>
-    ensures { result ≡ divided int_rem v w }
+    ensures { result ≡ division int_rem v w }
 {
     if w.n == 0 {
         return Err(Fault::DivideByZero);
@@ -165,8 +165,8 @@ fn remainder(v: Value, w: Value) -> Result<Value, Fault>
     Ok(typed(v.ty, v.n.wrapping_rem(w.n)))
 }
 
-/// NOT inverts each bit.
-fn inverted(v: Value) -> Value
+/// The value of NOT, which inverts each bit.
+fn inversion(v: Value) -> Value
     ensures { result ≡ of_bits v.ty (2 ^ width_of v.ty - 1 - bits_of v) }
 {
     of_bits(v.ty, u64::MAX - bits_of(v))
@@ -177,8 +177,8 @@ pub fn unary(op: UnaryOp, v: Value) -> Result<Value, Fault>
     ensures { result ≡ unary_value op v }
 {
     match op {
-        UnaryOp::Minus => Ok(negated(v)),
-        UnaryOp::Not => Ok(inverted(v)),
+        UnaryOp::Minus => Ok(negation(v)),
+        UnaryOp::Not => Ok(inversion(v)),
         UnaryOp::BcdToInt => Ok(typed(StType::Int, i64::from(bcd3_to_int(low_word(v.n))?))),
         UnaryOp::BcdToDint => Ok(typed(StType::Dint, i64::from(bcd7_to_dint(low_dword(v.n))?))),
     }
@@ -208,15 +208,15 @@ pub fn binary(op: BinaryOp, v: Value, w: Value) -> Result<Value, Fault>
 }
 
 /// A value in another type.
-pub fn converted(ty: StType, v: Value) -> Value
-    ensures { result ≡ converted ty v }
+pub fn converted_value(ty: StType, v: Value) -> Value
+    ensures { result ≡ converted_value ty v }
 {
     typed(ty, v.n)
 }
 
 /// The second value where the gate is TRUE, else the first.
-pub fn chosen(gate: Value, v: Value, w: Value) -> Value
-    ensures { result ≡ chosen gate v w }
+pub fn selected_value(gate: Value, v: Value, w: Value) -> Value
+    ensures { result ≡ selected_value gate v w }
 {
     Value {
         ty: v.ty,
@@ -225,7 +225,7 @@ pub fn chosen(gate: Value, v: Value, w: Value) -> Value
 }
 
 /// The lowest `j` bits of a pattern, `k` bits further up.
-fn moved(bits: u64, j: u32, k: u32) -> u64
+fn moved_up(bits: u64, j: u32, k: u32) -> u64
     requires { 0 < j × 0 < k × (j + k ≤ 64) }
     ensures value { result ≡ bits % 2 ^ j * 2 ^ k }
     ensures few { result + 2 ^ k ≤ 2 ^ (j + k) }
@@ -234,18 +234,18 @@ fn moved(bits: u64, j: u32, k: u32) -> u64
 }
 
 /// A pattern of `j + k` bits, turned to the left by `k`.
-fn turned(bits: u64, j: u32, k: u32) -> u64
+fn rotation(bits: u64, j: u32, k: u32) -> u64
     requires sizes { 0 < j × 0 < k × (j + k ≤ 64) }
     requires bits { bits < 2 ^ (j + k) }
     ensures { result ≡ bits % 2 ^ j * 2 ^ k + bits / 2 ^ j }
 {
-    moved(bits, j, k) + (bits >> j)
+    moved_up(bits, j, k) + (bits >> j)
 }
 
 #[tactic(auto, using(crate::proofs::Shifts::shifts_none, crate::proofs::Shifts::shifts))]
 fn shifted_left(width: u32, bits: u64, count: u64) -> u64
     requires { 0 < width × (width ≤ 64) × (bits < 2 ^ width) }
-    ensures { result ≡ shifted Shl width bits count }
+    ensures { result ≡ shift_result Shl width bits count }
 {
     if count >= u64::from(width) {
         return 0;
@@ -254,12 +254,12 @@ fn shifted_left(width: u32, bits: u64, count: u64) -> u64
         return bits;
     }
     let k = count as u32;
-    moved(bits, width - k, k)
+    moved_up(bits, width - k, k)
 }
 
 fn shifted_right(width: u32, bits: u64, count: u64) -> u64
     requires { 0 < width × (width ≤ 64) × (bits < 2 ^ width) }
-    ensures { result ≡ shifted Shr width bits count }
+    ensures { result ≡ shift_result Shr width bits count }
 {
     if count >= u64::from(width) {
         return 0;
@@ -275,7 +275,7 @@ fn turned_left(width: u32, bits: u64, k: u32) -> u64
     if k == 0 {
         return bits;
     }
-    turned(bits, width - k, k)
+    rotation(bits, width - k, k)
 }
 
 #[tactic(auto, using(crate::proofs::Shifts::turns_none_right, crate::proofs::Shifts::turns_right))]
@@ -286,12 +286,12 @@ fn turned_right(width: u32, bits: u64, k: u32) -> u64
     if k == 0 {
         return bits;
     }
-    turned(bits, k, width - k)
+    rotation(bits, k, width - k)
 }
 
-fn shifted(op: ShiftOp, width: u32, bits: u64, count: u64) -> u64
+fn shift_result(op: ShiftOp, width: u32, bits: u64, count: u64) -> u64
     requires { 0 < width × (width ≤ 64) × (bits < 2 ^ width) }
-    ensures { result ≡ shifted op width bits count }
+    ensures { result ≡ shift_result op width bits count }
 {
     match op {
         ShiftOp::Shl => shifted_left(width, bits, count),
@@ -308,6 +308,6 @@ pub fn shift(op: ShiftOp, v: Value, count: Value) -> Value
     if count.n < 0 {
         return v;
     }
-    let bits = shifted(op, width_of(v.ty), bits_of(v), count.n.unsigned_abs());
+    let bits = shift_result(op, width_of(v.ty), bits_of(v), count.n.unsigned_abs());
     of_bits(v.ty, bits)
 }

@@ -16,7 +16,7 @@ pub struct Registers {
     numbers: [i64; REGISTERS],
 }
 
-/// Where a register's number stands.
+/// The position of a register's number.
 fn place_of(r: Reg) -> usize
     ensures value { result ≡ place r }
     ensures few { result < 15 }
@@ -25,7 +25,7 @@ fn place_of(r: Reg) -> usize
 }
 
 impl Registers {
-    /// All zero.
+    /// The registers, all zero.
     pub fn zero() -> Registers
         ensures { numbers_of result ≡ all_zero }
     {
@@ -42,7 +42,7 @@ impl Registers {
     }
 
     /// Gives a register a number.
-    pub fn set(&mut self, r: Reg, n: i64)
+    pub fn give_number(&mut self, r: Reg, n: i64)
         ensures { numbers_of self.new ≡ with_register r n (numbers_of self.old) }
     {
         self.numbers[place_of(r)] = n;

@@ -4,7 +4,7 @@ ghost use Rattle.memory_areas.specs.declared.sizes.TheConstants.{ACTIVATIONS};
 ghost use Rattle.st_runner.specs.declared.frame.Frame.TheVariants.{Rest};
 ghost use Rattle.st_runner.specs.declared.steps.TheConstants.{UNIT_FRAMES};
 ghost use Rattle.st_runner.specs.inner.Ready.{most_formals, most_locals};
-ghost use Rattle.st_runner.specs.inner.View.{AreFrames, AreReachable, IsFrame, IsSound, numbers_of, seen, state_of};
+ghost use Rattle.st_runner.specs.inner.View.{AreFrames, AreReachable, IsFrame, IsSound, numbers_of, activation_view, state_of};
 ghost use Rattle.st_tree.specs.Calls.{activation_of};
 ghost use Rattle.st_tree.specs.StRun.{formals_given, references, registers_at_start, state_at_start};
 
@@ -44,7 +44,7 @@ pub fn most_formals(units: &[Pou]) -> usize
     most
 }
 
-/// An activation with room for so many locals and formals.
+/// An activation with room for this many locals and formals.
 pub fn activation(alloc: Global, locals: usize, formals: usize) -> Result<Activation, NoMemory>
     ensures frame { IfOk result (λ a. IsFrame locals formals a) }
 {
@@ -54,7 +54,7 @@ pub fn activation(alloc: Global, locals: usize, formals: usize) -> Result<Activa
     })
 }
 
-/// The activations that wait for calls: all but the first.
+/// The activations for calls: all but the first.
 pub fn spare(alloc: Global, locals: usize, formals: usize) -> Result<Vec<Activation>, NoMemory>
     ensures frames { IfOk result (λ spare. AreFrames locals formals spare.items) }
     ensures count { IfOk result (λ spare. length spare.items ≡ 7) }
@@ -73,7 +73,7 @@ pub fn registers_at_start(block: BlockName, instance: u16) -> Registers
 {
     let mut registers = Registers::zero();
     if let BlockName::Fb(_) = block {
-        registers.set(Reg::DiNo, i64::from(instance));
+        registers.give_number(Reg::DiNo, i64::from(instance));
     }
     registers
 }
@@ -101,7 +101,7 @@ fn give_formals(given: &mut Vec<Reference>, formals: &[Local], actuals: &[(Place
 fn begin(first: &mut Activation, unit: &Pou, call: &Call)
     requires locals { length unit.now.locals ≤ vec_capacity first.old.locals }
     requires formals { length unit.now.formals ≤ vec_capacity first.old.formals }
-    ensures seen { seen first.new
+    ensures activation_view { activation_view first.new
         ≡ activation_of unit.now (formals_given call.now.block unit.now.formals call.now.actuals) }
     ensures locals_room { vec_capacity first.new.locals ≡ vec_capacity first.old.locals }
     ensures formals_room { vec_capacity first.new.formals ≡ vec_capacity first.old.formals }

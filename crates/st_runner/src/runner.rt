@@ -1,4 +1,4 @@
-//! The runner itself.
+//! The runner.
 ghost use Rattle.std.specs.Prelude.{◌≡◌, ◌+◌, ℕ};
 ghost use Rattle.memory_areas.specs.Areas.{IsMemoryOf};
 ghost use Rattle.st_tree.specs.Proper.{Proper};
@@ -26,7 +26,7 @@ pub enum RunnerRefusal {
     NoMemory,
 }
 
-/// A run of a unit of a tree, which can be taken further in any portions of units.
+/// A run of a unit of a tree, which can be continued in any portions of units.
 #[derive(Drop)]
 pub struct Runner<'t> {
     tree: &'t StProgram,
@@ -42,7 +42,7 @@ impl<'t> Model for Runner<'t> {
     ghost use Rattle.st_runner.specs.inner.Ready.{IsReady};
     ghost use Rattle.st_runner.specs.inner.Runnable.{IsRunnable};
     ghost use Rattle.st_runner.specs.Standing.{Standing};
-    ghost use Rattle.st_runner.specs.inner.View.{seen};
+    ghost use Rattle.st_runner.specs.inner.View.{activation_view};
     ghost use Rattle.st_tree.specs.contracts.expr.Expr as expr;
     ghost use Rattle.st_tree.specs.contracts.program.Stmt as stmt;
 
@@ -56,14 +56,14 @@ impl<'t> Model for Runner<'t> {
       next = coming r.at;
       memory = r.state.memory;
       numbers = r.state.registers.numbers;
-      activations = map seen r.state.activations.items;
+      activations = map activation_view r.state.activations.items;
     } };
 
     ghost invariant = { λ r. IsRunnable r.tree.now
         × IsReady r.tree.now (vec_capacity r.work) r.work.items r.at r.state };
 }
 
-/// The outcome of a run for which this comes next.
+/// The outcome of a run that does this next.
 fn outcome_of<'t>(at: At<'t>) -> Outcome
     ensures { result ≡ outcome_of at.entry }
 {
@@ -126,7 +126,7 @@ impl<'t> Runner<'t> {
         outcome_of(self.at)
     }
 
-    /// The memory where the run stands.
+    /// The memory at this point of the run.
     pub fn memory(&self) -> &Memory
         ensures { result.now ≡ self.now.memory }
     {

@@ -12,10 +12,10 @@ use crate::state::State;
 use crate::steps::{advance, spend_call, spend_test};
 use st_tree::StProgram;
 
-/// What comes next once all that needs no unit is done. It is no call, and neither is `spent`, so that what comes
-/// next is not copied behind a reference at each step.
+/// What comes next once all that needs no unit is done. It is inlined, and so is `spend_unit`, so that what comes
+/// next is not copied through a reference at each step.
 #[inline(always)]
-fn settled<'t>(
+fn settle<'t>(
     tree: &'t StProgram,
     at: At<'t>,
     work: &mut Vec<Frame<'t>>,
@@ -25,7 +25,7 @@ fn settled<'t>(
     requires ready { IsReady tree.now (vec_capacity work.old) work.old.items at state.old }
     ensures meaning { (c : Calls) (u : ℕ) → end_at tree.now.globals c work.new.items result u (state_of state.new)
         ≡ end_at tree.now.globals c work.old.items at.entry u (state_of state.old) }
-    ensures settled { IsSettled result }
+    ensures settle { IsSettled result }
     ensures ready { IsReady tree.now (vec_capacity work.new) work.new.items result state.new }
 {
     match at {
@@ -36,7 +36,7 @@ fn settled<'t>(
     }
 }
 
-/// A unit is needed.
+/// Whether a unit is needed next.
 fn needs_unit<'t>(at: At<'t>) -> bool
     ensures { result ≡ needs_unit at.entry }
 {
@@ -50,7 +50,7 @@ fn needs_unit<'t>(at: At<'t>) -> bool
 
 /// What comes next once a unit is spent.
 #[inline(always)]
-fn spent<'t>(
+fn spend_unit<'t>(
     tree: &'t StProgram,
     at: At<'t>,
     work: &mut Vec<Frame<'t>>,
@@ -72,7 +72,7 @@ fn spent<'t>(
     }
 }
 
-/// Runs within so many units, up to where one more is needed or the run has ended.
+/// Runs within this many units, up to where one more is needed or the run has ended.
 pub fn go<'t>(
     tree: &'t StProgram,
     at: &mut At<'t>,
@@ -85,19 +85,19 @@ pub fn go<'t>(
     ensures later { (j : ℕ) → end_at tree.now.globals (calls_to j tree.now) work.new.items at.new j (state_of state.new)
         ≡ end_at tree.now.globals (calls_to (units + j) tree.now) work.old.items at.old (units + j)
         (state_of state.old) }
-    ensures settled { IsSettled at.new }
+    ensures settle { IsSettled at.new }
     ensures ready { IsReady tree.now (vec_capacity work.new) work.new.items at.new state.new }
 {
     let mut left = units;
-    let mut next = settled(tree, *at, work, state);
+    let mut next = settle(tree, *at, work, state);
     while needs_unit(next) {
         if left == 0 {
             *at = next;
             return;
         }
         left -= 1;
-        let begun = spent(tree, next, work, state);
-        next = settled(tree, begun, work, state);
+        let begun = spend_unit(tree, next, work, state);
+        next = settle(tree, begun, work, state);
     }
     *at = next;
 }

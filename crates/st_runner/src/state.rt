@@ -1,7 +1,7 @@
 //! The state of a run: its memory, its registers and its activations.
 ghost use Rattle.std.specs.Prelude.{◌≡◌, ◌<◌, ◌-◌, length, map, slice_get, Ok, Err, IfOk, MatchResult, pos, vec_capacity, ℕ};
 ghost use Rattle.memory_areas.specs.Memory.{IsActivation, Writes};
-ghost use Rattle.st_runner.specs.inner.View.{AreFrames, Changes, HasLocal, IsLocal, IsReachable, SameShape, IsSound, seen, state_of};
+ghost use Rattle.st_runner.specs.inner.View.{AreFrames, Changes, HasLocal, IsLocal, IsReachable, SameShape, IsSound, activation_view, state_of};
 ghost use Rattle.st_runner.specs.inner.Runnable.{AreGlobals};
 ghost use Rattle.st_tree.specs.declared.state.Reference.TheVariants as reference;
 ghost use Rattle.st_tree.specs.State.{locals_of, read_at, read_place, there, with_local, write_at, write_place};
@@ -12,7 +12,7 @@ use memory_areas::{Memory, Place};
 use s7_base::{Fault, Reg};
 use st_tree::{Reference, StType, Value, type_of_register};
 
-/// A unit that runs: the values of its locals, and what its formals stand for.
+/// A unit that runs: the values of its locals, and the references of its formals.
 #[derive(Drop)]
 pub struct Activation {
     pub locals: Vec<Value>,
@@ -75,7 +75,7 @@ pub fn write_place(memory: &mut Memory, ty: StType, place: Place, v: Value) -> R
 
 /// A local of an activation.
 pub fn local_at(activations: &[Activation], d: u8, i: u32) -> Result<Value, Fault>
-    ensures { result ≡ there (slice_get (locals_of (slice_get (map seen activations.now) d)) i) }
+    ensures { result ≡ there (slice_get (locals_of (slice_get (map activation_view activations.now) d)) i) }
 {
     let Some(activation) = activations.get(d as usize) else {
         return Err(Fault::AreaLength);
@@ -86,10 +86,10 @@ pub fn local_at(activations: &[Activation], d: u8, i: u32) -> Result<Value, Faul
     }
 }
 
-/// Gives a local that is there a value.
+/// Gives a local that exists a value.
 fn put_local(activations: &mut Vec<Activation>, d: usize, i: usize, v: Value)
     requires { IsLocal activations.old.items d i }
-    ensures change { map seen activations.new.items ≡ with_local d i v (map seen activations.old.items) }
+    ensures change { map activation_view activations.new.items ≡ with_local d i v (map activation_view activations.old.items) }
     ensures frames { (l f : ℕ) → AreFrames l f activations.old.items → AreFrames l f activations.new.items }
     ensures len { length activations.new.items ≡ length activations.old.items }
     ensures capacity { vec_capacity activations.new ≡ vec_capacity activations.old }
@@ -101,7 +101,7 @@ fn put_local(activations: &mut Vec<Activation>, d: usize, i: usize, v: Value)
 /// Gives a local of an activation a value.
 #[tactic(auto, using(crate::proofs::Frames::is_local))]
 fn set_local(activations: &mut Vec<Activation>, d: u8, i: u32, v: Value) -> Result<(), Fault>
-    ensures change { HasLocal d i v result (map seen activations.old.items) (map seen activations.new.items) }
+    ensures change { HasLocal d i v result (map activation_view activations.old.items) (map activation_view activations.new.items) }
     ensures frames { (l f : ℕ) → AreFrames l f activations.old.items → AreFrames l f activations.new.items }
     ensures len { length activations.new.items ≡ length activations.old.items }
     ensures capacity { vec_capacity activations.new ≡ vec_capacity activations.old }
@@ -154,7 +154,7 @@ impl State {
     {
         match reference {
             Reference::Register(r) => {
-                self.registers.set(r, v.n);
+                self.registers.give_number(r, v.n);
                 Ok(())
             }
             Reference::Local(d, i) => self.write_local(d, i, v),

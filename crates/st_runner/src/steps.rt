@@ -10,7 +10,7 @@ ghost use Rattle.st_runner.specs.declared.frame.At.TheVariants.{Call, Test, Work
 ghost use Rattle.st_tree.specs.Meaning.{Calls, meaning};
 ghost use Rattle.st_tree.specs.declared.program.Stmt.TheVariants.{Case, If};
 
-use crate::evaluate::labelled;
+use crate::evaluate::case_body;
 use crate::frame::{At, Frame};
 use crate::leaving::{continue_loop, exit_loop, return_unit};
 use crate::state::State;
@@ -49,7 +49,7 @@ fn choose<'t>(
         (state_of state.now) (state_of state.now) }
     ensures capacity { vec_capacity work.new ≡ vec_capacity work.old }
 {
-    match state.picked(tree.globals.as_slice(), arms, other) {
+    match state.if_body(tree.globals.as_slice(), arms, other) {
         Ok(body) => {
             work.push_reserved(Frame::Rest(body));
             At::Work
@@ -76,15 +76,15 @@ fn choose_labelled<'t>(
 {
     match state.value(tree.globals.as_slice(), e) {
         Ok(v) => {
-            work.push_reserved(Frame::Rest(labelled(v, arms, other)));
+            work.push_reserved(Frame::Rest(case_body(v, arms, other)));
             At::Work
         }
         Err(fault) => At::Over(Some(fault)),
     }
 }
 
-/// Does a statement up to where it needs a unit. It is no call, and neither are `step`, `advance` and
-/// `spend_test`, so that what comes next is not copied on its way.
+/// Does a statement up to where it needs a unit. It is inlined, and so are `step`, `advance` and
+/// `spend_test`, so that what comes next is not copied.
 #[inline(always)]
 pub fn statement<'t>(
     tree: &'t StProgram,
@@ -128,7 +128,7 @@ pub fn statement<'t>(
     }
 }
 
-/// Lets the rest of a list wait. Nothing waits behind the last statement, so that its end takes no step.
+/// Lets the rest of a list wait. Nothing waits after the last statement, so that its end takes no step.
 fn push_rest<'t>(rest: &'t [Stmt], work: &mut Vec<Frame<'t>>)
     requires { length work.old.items < vec_capacity work.old }
     ensures items { work.new.items ≡ with_rest work.old.items rest.entry }
@@ -171,7 +171,7 @@ pub fn advance<'t>(tree: &'t StProgram, work: &mut Vec<Frame<'t>>, state: &mut S
     requires ready { IsReady tree.now (vec_capacity work.old) work.old.items Work state.old }
     ensures meaning { (c : Calls) (u : ℕ) → end_at tree.now.globals c work.new.items result u (state_of state.new)
         ≡ end_at tree.now.globals c work.old.items Work u (state_of state.old) }
-    ensures settled { IsSettled result }
+    ensures settle { IsSettled result }
     ensures ready { IsReady tree.now (vec_capacity work.new) work.new.items result state.new }
     ensures capacity { vec_capacity work.new ≡ vec_capacity work.old }
 {
@@ -193,7 +193,7 @@ pub fn spend_test<'t>(
 ) -> At<'t>
     requires globals { AreGlobals tree.now.globals }
     requires ready { IsReady tree.now (vec_capacity work.old) work.old.items (Test test body) state.old }
-    ensures spent { Spent tree.now (vec_capacity work.old) work.old.items work.new.items
+    ensures spend_unit { Spent tree.now (vec_capacity work.old) work.old.items work.new.items
         (Test test.entry body.entry) result state.old state.new }
     ensures capacity { vec_capacity work.new ≡ vec_capacity work.old }
 {
@@ -218,7 +218,7 @@ pub fn spend_call<'t>(
 ) -> At<'t>
     requires runnable { IsRunnable tree.now }
     requires ready { IsReady tree.now (vec_capacity work.old) work.old.items (Call n actuals) state.old }
-    ensures spent { Spent tree.now (vec_capacity work.old) work.old.items work.new.items
+    ensures spend_unit { Spent tree.now (vec_capacity work.old) work.old.items work.new.items
         (Call n actuals.entry) result state.old state.new }
     ensures capacity { vec_capacity work.new ≡ vec_capacity work.old }
 {

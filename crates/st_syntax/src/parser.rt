@@ -5,7 +5,7 @@ ghost use Rattle.s7_base.specs.Answers.{IfRefused};
 ghost use Rattle.st_grammar.specs.inner.Judge.{
   after_token,
   judge_tokens,
-  judged,
+  state_or_refusal,
   level_reached,
   text_in,
   tree_at,
@@ -16,24 +16,24 @@ ghost use Rattle.st_tree.specs.Depth.{deepest};
 ghost use Rattle.st_lexer.specs.Pieces.{token_seen};
 ghost use Rattle.st_syntax.specs.declared.state.State.TheVariants as state;
 ghost use Rattle.st_grammar.specs.Syntax.{all_lined};
-ghost use Rattle.st_syntax.specs.inner.Seen.{leads_to, seen, HasText, JudgedIs};
+ghost use Rattle.st_syntax.specs.inner.StateView.{leads_to, state_view, HasText, JudgedIs};
 ghost use Rattle.st_syntax.specs.inner.Views.{text_so_far_of};
 
 use crate::state::{State, TextSoFar};
 use crate::unit::next;
 use s7_base::{Line, NoMemory, Reason, Rejection};
-use st_bodies::{is_deep_at, step};
-use st_grammar::{Fixed, Kind};
+use st_grammar::{Fixed, GrammarKind};
 use st_lexer::{Lexeme, end_line, lexemes, rest_after};
+use st_statement_parser::{is_deep_at, step};
+use st_token_kinds::kind_of;
 use st_tree::RawSt;
-use st_words::kind_of;
 use std::alloc::Global;
 use std::mem::replace;
 
-/// The last token made a level above the greatest.
-#[tactic(auto, unfolding(crate::specs::inner::Seen::seen, st_grammar::specs::inner::Judge::level_reached))]
+/// Whether the last token made a level above the greatest.
+#[tactic(auto, unfolding(crate::specs::inner::StateView::state_view, st_grammar::specs::inner::Judge::level_reached))]
 fn is_deep(state: &State) -> bool
-    ensures { result ≡ nat_lt deepest (level_reached (seen state.now)) }
+    ensures { result ≡ nat_lt deepest (level_reached (state_view state.now)) }
 {
     match state {
         State::Inside(_, at) => is_deep_at(at),
@@ -41,16 +41,16 @@ fn is_deep(state: &State) -> bool
     }
 }
 
-/// One token of a text: whether it can follow, and if it can, where it leads. Inside of statements, where
-/// most of a text is, the state stays where it is.
-#[tactic(auto, unfolding(crate::specs::inner::Seen::seen, st_grammar::specs::inner::Judge::after_token))]
-fn after_token(alloc: Global, state: &mut State, kind: Kind) -> Result<bool, NoMemory>
-    ensures { IfOk result (λ goes. leads_to goes state.new ≡ after_token (seen state.old) kind) }
+/// One token of a text: whether it can follow, and if it can, the state after it. Inside of statements, where
+/// most of a text is, the state is changed in its place.
+#[tactic(auto, unfolding(crate::specs::inner::StateView::state_view, st_grammar::specs::inner::Judge::after_token))]
+fn after_token(alloc: Global, state: &mut State, kind: GrammarKind) -> Result<bool, NoMemory>
+    ensures { IfOk result (λ goes. leads_to goes state.new ≡ after_token (state_view state.old) kind) }
 {
     let kind = match state {
         State::Inside(_, at) => match kind {
-            Kind::Fixed(Fixed::EndProgram) => Kind::Fixed(Fixed::EndProgram),
-            Kind::Fixed(Fixed::EndFunction) => Kind::Fixed(Fixed::EndFunction),
+            GrammarKind::Fixed(Fixed::EndProgram) => GrammarKind::Fixed(Fixed::EndProgram),
+            GrammarKind::Fixed(Fixed::EndFunction) => GrammarKind::Fixed(Fixed::EndFunction),
             other => return step(alloc, at, other),
         },
         _ => kind,
@@ -62,9 +62,9 @@ fn after_token(alloc: Global, state: &mut State, kind: Kind) -> Result<bool, NoM
     Ok(true)
 }
 
-/// Goes on by one token; why the text is refused, if it is.
-fn advance(alloc: Global, state: &mut State, kind: Kind, line: Line) -> Option<Rejection>
-    ensures { JudgedIs (seen state.new) result (judged (after_token (seen state.old) kind) line) }
+/// Takes one more token; why the text is refused, if it is.
+fn advance(alloc: Global, state: &mut State, kind: GrammarKind, line: Line) -> Option<Rejection>
+    ensures { JudgedIs (state_view state.new) result (state_or_refusal (after_token (state_view state.old) kind) line) }
 {
     match after_token(alloc, state, kind) {
         Ok(true) => {
@@ -80,8 +80,8 @@ fn advance(alloc: Global, state: &mut State, kind: Kind, line: Line) -> Option<R
 }
 
 fn advance_token(alloc: Global, state: &mut State, token: &Lexeme) -> Option<Rejection>
-    ensures { JudgedIs (seen state.new) result
-        (judged (after_token (seen state.old) (kind_of (token_seen token.now))) token.now.line) }
+    ensures { JudgedIs (state_view state.new) result
+        (state_or_refusal (after_token (state_view state.old) (kind_of (token_seen token.now))) token.now.line) }
 {
     match kind_of(alloc, token) {
         Ok(kind) => advance(alloc, state, kind, token.line),
@@ -91,8 +91,8 @@ fn advance_token(alloc: Global, state: &mut State, token: &Lexeme) -> Option<Rej
 
 /// The state after all tokens of a text that ends on a line, and why the text is refused, if it is.
 fn judge_tokens(alloc: Global, state: &mut State, tokens: &[Lexeme], end: Line) -> Option<Rejection>
-    ensures { JudgedIs (seen state.new) result
-        (judge_tokens (seen state.old) (all_lined (map token_seen tokens.now) end)) }
+    ensures { JudgedIs (state_view state.new) result
+        (judge_tokens (state_view state.old) (all_lined (map token_seen tokens.now) end)) }
 {
     let mut rest = tokens;
     while let [first, ..] = rest {
@@ -102,21 +102,21 @@ fn judge_tokens(alloc: Global, state: &mut State, tokens: &[Lexeme], end: Line) 
         }
         rest = rest_after(rest, 1);
     }
-    advance(alloc, state, Kind::Fixed(Fixed::End), end)
+    advance(alloc, state, GrammarKind::Fixed(Fixed::End), end)
 }
 
 /// The whole text, if the state is after its end. The parts of another state are given up in calls of
 /// their own, since they are too many for one function's borrow check.
-#[tactic(auto, unfolding(crate::specs::inner::Seen::seen))]
+#[tactic(auto, unfolding(crate::specs::inner::StateView::state_view))]
 fn finish(state: State) -> Option<TextSoFar>
-    ensures { option_map text_so_far_of result ≡ text_in (seen state) }
+    ensures { option_map text_so_far_of result ≡ text_in (state_view state) }
 {
     match state {
         State::Start => {}
         State::Globals(globals) => drop(globals),
-        State::Row(begun, row) => {
+        State::GlobalTail(begun, global_tail) => {
             drop(begun);
-            drop(row);
+            drop(global_tail);
         }
         State::Between(text) | State::Heading(text, _, _) => drop(text),
         State::Opened(unit) => drop(unit),
@@ -135,9 +135,9 @@ fn finish(state: State) -> Option<TextSoFar>
 /// The whole text of these tokens, or why it is refused.
 fn whole(alloc: Global, tokens: &[Lexeme], end: Line) -> Result<TextSoFar, Rejection>
     ensures text { IfOk result (λ text. HasText
-        (judge_tokens (seen state.Start) (all_lined (map token_seen tokens.now) end)) (text_so_far_of text)) }
+        (judge_tokens (state_view state.Start) (all_lined (map token_seen tokens.now) end)) (text_so_far_of text)) }
     ensures refused { IfRefused result (λ line reason.
-        judge_tokens (seen state.Start) (all_lined (map token_seen tokens.now) end) ≡ Err (Refused line reason)) }
+        judge_tokens (state_view state.Start) (all_lined (map token_seen tokens.now) end) ≡ Err (Refused line reason)) }
 {
     let mut state = State::Start;
     let refusal = judge_tokens(alloc, &mut state, tokens, end);

@@ -1,8 +1,8 @@
-//! Where the parser stands between two tokens of a text.
+//! The state of the parser between two tokens of a text.
 
 use s7_base::{Line, List};
-use st_bodies::BodyState;
 use st_grammar::Heading;
+use st_statement_parser::BodyState;
 use st_tree::{RawGlobal, RawGlobalType, RawLocal, RawPou, RawVar, StType};
 
 /// A global that has begun: those before it, its name, and its line.
@@ -16,7 +16,7 @@ pub struct BegunGlobal {
 /// What may come next in a global, after its name: each is named by that token, and holds what was read
 /// before it.
 #[derive(Drop)]
-pub enum Row {
+pub enum GlobalTail {
     AtWord,
     AtPlace,
     AtColon(RawVar),
@@ -77,7 +77,7 @@ pub struct BegunSection {
     pub done: List<RawLocal>,
 }
 
-/// A unit with its declarations: what stands before its statements.
+/// A unit with its declarations: what comes before its statements.
 #[derive(Drop)]
 pub struct DeclaredUnit {
     pub begun: BegunUnit,
@@ -85,7 +85,7 @@ pub struct DeclaredUnit {
     pub locals: List<RawLocal>,
 }
 
-/// Where the parser stands in a text.
+/// The state of the parser in a text.
 #[derive(Drop)]
 pub enum State {
     /// Nothing was read.
@@ -95,7 +95,7 @@ pub enum State {
     Globals(List<RawGlobal>),
 
     /// In a global, after its name.
-    Row(BegunGlobal, Row),
+    GlobalTail(BegunGlobal, GlobalTail),
 
     /// Before a unit, or the end of the text.
     Between(TextSoFar),

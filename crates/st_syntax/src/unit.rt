@@ -3,7 +3,7 @@ ghost use Rattle.std.specs.Prelude.{◌≡◌, IfOk, option_map};
 ghost use Rattle.st_grammar.specs.Grammar.{is_formal_type};
 ghost use Rattle.st_grammar.specs.inner.Machine.{code, add_unit, between, inside, local_end};
 ghost use Rattle.st_grammar.specs.inner.Steps.{at_between, at_start, at_heading, may_name, may_type, section_end, at_section, at_typing, ends, leave, at_inside, at_formals_done, at_opened, next, step as body_step};
-ghost use Rattle.st_bodies.specs.inner.BodyStates.{body_state_of, place_of, stack_of};
+ghost use Rattle.st_statement_parser.specs.inner.BodyStates.{body_state_of, place_of, stack_of};
 ghost use Rattle.st_syntax.specs.inner.Views.{
   begun_unit_of,
   section_kind_of,
@@ -13,30 +13,30 @@ ghost use Rattle.st_syntax.specs.inner.Views.{
   typing_step,
 };
 
-use crate::row::{at_globals, at_row};
+use crate::global_tail::{at_globals, at_tail};
 use crate::state::{BegunSection, BegunUnit, DeclaredUnit, SectionKind, State, TextSoFar, Typing};
 use s7_base::{Line, List, NoMemory};
-use st_bodies::{BodyState, step};
-use st_grammar::{Fixed, Heading, Kind, Lead};
+use st_grammar::{Fixed, GrammarKind, Heading, Lead};
+use st_statement_parser::{BodyState, step};
 use st_tree::{RawLocal, RawPou, RawStmt, RawVar, StType, is_free, may_name_local, may_name_unit};
 use std::alloc::Global;
 
-fn at_between(text: TextSoFar, kind: Kind) -> Option<State>
+fn at_between(text: TextSoFar, kind: GrammarKind) -> Option<State>
     ensures { option_map state_of result ≡ at_between code (text_so_far_of text) kind }
 {
     match kind {
-        Kind::Lead(Lead::Program, line) => Some(State::Heading(text, true, line)),
-        Kind::Lead(Lead::Function, line) => Some(State::Heading(text, false, line)),
-        Kind::Fixed(Fixed::End) => Some(State::Over(text)),
+        GrammarKind::Lead(Lead::Program, line) => Some(State::Heading(text, true, line)),
+        GrammarKind::Lead(Lead::Function, line) => Some(State::Heading(text, false, line)),
+        GrammarKind::Fixed(Fixed::End) => Some(State::Over(text)),
         _ => None,
     }
 }
 
-fn at_start(alloc: Global, kind: Kind) -> Option<State>
+fn at_start(alloc: Global, kind: GrammarKind) -> Option<State>
     ensures { option_map state_of result ≡ at_start code kind }
 {
     match kind {
-        Kind::Fixed(Fixed::VarGlobal) => Some(State::Globals(List::new(alloc))),
+        GrammarKind::Fixed(Fixed::VarGlobal) => Some(State::Globals(List::new(alloc))),
         other => {
             let text = TextSoFar {
                 globals: List::new(alloc),
@@ -48,11 +48,11 @@ fn at_start(alloc: Global, kind: Kind) -> Option<State>
 }
 
 /// The name of a unit.
-fn at_heading(text: TextSoFar, program: bool, line: Line, kind: Kind) -> Option<State>
+fn at_heading(text: TextSoFar, program: bool, line: Line, kind: GrammarKind) -> Option<State>
     ensures { option_map state_of result ≡ at_heading code (text_so_far_of text) program line kind }
 {
     match kind {
-        Kind::Variable(RawVar::Name(name), _) => {
+        GrammarKind::Variable(RawVar::Name(name), _) => {
             if !may_name_unit(name.as_slice()) {
                 return None;
             }
@@ -76,7 +76,7 @@ fn may_name(which: &SectionKind, name: &[u8]) -> bool
     }
 }
 
-/// A formal has another type than LINT.
+/// Whether a formal or a local may have this type; no formal may be a LINT.
 fn may_type(which: &SectionKind, ty: StType) -> bool
     ensures { result ≡ may_type code (section_kind_of which.now) ty }
 {
@@ -105,12 +105,12 @@ fn section_end(alloc: Global, section: BegunSection) -> State
 }
 
 /// A token before the name of a formal or a local.
-fn at_section(alloc: Global, section: BegunSection, kind: Kind) -> Option<State>
+fn at_section(alloc: Global, section: BegunSection, kind: GrammarKind) -> Option<State>
     ensures { option_map state_of result
         ≡ at_section code (begun_unit_of section.unit) (section_kind_of section.which) section.done kind }
 {
     match kind {
-        Kind::Variable(var, line) => match var {
+        GrammarKind::Variable(var, line) => match var {
             RawVar::Name(name) => {
                 if !may_name(&section.which, name.as_slice()) {
                     return None;
@@ -119,22 +119,22 @@ fn at_section(alloc: Global, section: BegunSection, kind: Kind) -> Option<State>
             }
             RawVar::Direct(..) => None,
         },
-        Kind::Fixed(Fixed::EndVar) => Some(section_end(alloc, section)),
+        GrammarKind::Fixed(Fixed::EndVar) => Some(section_end(alloc, section)),
         _ => None,
     }
 }
 
 /// A token of a formal or a local after its name, but the `;`.
-fn typing_step(which: &SectionKind, typing: Typing, kind: &Kind) -> Option<Typing>
+fn typing_step(which: &SectionKind, typing: Typing, kind: &GrammarKind) -> Option<Typing>
     ensures { option_map typing_of result ≡ typing_step (section_kind_of which.now) (typing_of typing) kind.now }
 {
     match typing {
         Typing::Colon => match kind {
-            Kind::Fixed(Fixed::Colon) => Some(Typing::Type),
+            GrammarKind::Fixed(Fixed::Colon) => Some(Typing::Type),
             _ => None,
         },
         Typing::Type => match kind {
-            Kind::Fixed(Fixed::Type(ty)) => {
+            GrammarKind::Fixed(Fixed::Type(ty)) => {
                 if !may_type(which, *ty) {
                     return None;
                 }
@@ -150,13 +150,13 @@ fn typing_step(which: &SectionKind, typing: Typing, kind: &Kind) -> Option<Typin
 fn at_typing_end(
     mut section: BegunSection,
     local: RawLocal,
-    kind: &Kind,
+    kind: &GrammarKind,
 ) -> Result<Option<State>, NoMemory>
     ensures { IfOk result (λ o. option_map state_of o
         ≡ at_typing code (begun_unit_of section.unit) (section_kind_of section.which) section.done
         local.name local.line (local_end local.ty) kind.now) }
 {
-    let Kind::Fixed(Fixed::Semicolon) = kind else {
+    let GrammarKind::Fixed(Fixed::Semicolon) = kind else {
         return Ok(None);
     };
     section.done.push(local)?;
@@ -169,7 +169,7 @@ fn at_typing(
     name: List<u8>,
     line: Line,
     typing: Typing,
-    kind: Kind,
+    kind: GrammarKind,
 ) -> Result<Option<State>, NoMemory>
     ensures { IfOk result (λ o. option_map state_of o
         ≡ at_typing code (begun_unit_of section.unit) (section_kind_of section.which) section.done name line
@@ -247,7 +247,11 @@ fn leave(program: bool, unit: DeclaredUnit, at: BodyState) -> Result<Option<Stat
 }
 
 /// The statements after one more token; `None` where it cannot follow.
-fn stepped(alloc: Global, mut at: BodyState, kind: Kind) -> Result<Option<BodyState>, NoMemory>
+fn body_after(
+    alloc: Global,
+    mut at: BodyState,
+    kind: GrammarKind,
+) -> Result<Option<BodyState>, NoMemory>
     ensures { IfOk result (λ o. option_map body_state_of o ≡ body_step code (body_state_of at) kind) }
 {
     match step(alloc, &mut at, kind) {
@@ -279,15 +283,15 @@ fn at_inside(
     alloc: Global,
     unit: DeclaredUnit,
     at: BodyState,
-    kind: Kind,
+    kind: GrammarKind,
 ) -> Result<Option<State>, NoMemory>
     ensures { IfOk result (λ o. option_map state_of o
         ≡ at_inside code (begun_unit_of unit.begun) unit.formals unit.locals (body_state_of at) kind) }
 {
     match kind {
-        Kind::Fixed(Fixed::EndProgram) => leave(true, unit, at),
-        Kind::Fixed(Fixed::EndFunction) => leave(false, unit, at),
-        other => match stepped(alloc, at, other) {
+        GrammarKind::Fixed(Fixed::EndProgram) => leave(true, unit, at),
+        GrammarKind::Fixed(Fixed::EndFunction) => leave(false, unit, at),
+        other => match body_after(alloc, at, other) {
             Ok(to) => Ok(inside(unit, to)),
             Err(no_memory) => {
                 drop(unit);
@@ -302,12 +306,12 @@ fn at_formals_done(
     alloc: Global,
     unit: BegunUnit,
     formals: List<RawLocal>,
-    kind: Kind,
+    kind: GrammarKind,
 ) -> Result<Option<State>, NoMemory>
     ensures { IfOk result (λ o. option_map state_of o ≡ at_formals_done code (begun_unit_of unit) formals kind) }
 {
     match kind {
-        Kind::Fixed(Fixed::VarTemp) => Ok(Some(State::Section(BegunSection {
+        GrammarKind::Fixed(Fixed::VarTemp) => Ok(Some(State::Section(BegunSection {
             unit,
             which: SectionKind::Temps(formals),
             done: List::new(alloc),
@@ -324,11 +328,11 @@ fn at_formals_done(
 }
 
 /// A token after the name of a unit.
-fn at_opened(alloc: Global, unit: BegunUnit, kind: Kind) -> Result<Option<State>, NoMemory>
+fn at_opened(alloc: Global, unit: BegunUnit, kind: GrammarKind) -> Result<Option<State>, NoMemory>
     ensures { IfOk result (λ o. option_map state_of o ≡ at_opened code (begun_unit_of unit) kind) }
 {
     match kind {
-        Kind::Fixed(Fixed::VarInOut) => {
+        GrammarKind::Fixed(Fixed::VarInOut) => {
             if unit.head.program {
                 return Ok(None);
             }
@@ -343,13 +347,13 @@ fn at_opened(alloc: Global, unit: BegunUnit, kind: Kind) -> Result<Option<State>
 }
 
 /// One token of a text; `None` where it cannot follow.
-pub fn next(alloc: Global, state: State, kind: Kind) -> Result<Option<State>, NoMemory>
+pub fn next(alloc: Global, state: State, kind: GrammarKind) -> Result<Option<State>, NoMemory>
     ensures { IfOk result (λ o. option_map state_of o ≡ next code (state_of state) kind) }
 {
     match state {
         State::Start => Ok(at_start(alloc, kind)),
         State::Globals(done) => Ok(at_globals(alloc, done, kind)),
-        State::Row(begun, row) => at_row(alloc, begun, row, kind),
+        State::GlobalTail(begun, global_tail) => at_tail(alloc, begun, global_tail, kind),
         State::Between(text) => Ok(at_between(text, kind)),
         State::Heading(text, program, line) => Ok(at_heading(text, program, line, kind)),
         State::Opened(unit) => at_opened(alloc, unit, kind),

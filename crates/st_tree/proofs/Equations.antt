@@ -1,6 +1,6 @@
 -- What a fold over a tree is: of expressions at each variant, and of statements. First any fold, and then those
 -- of this crate, as rules by which `simp` opens them.
-use Rattle.st_tree.proofs.Common.{◌≡◌, ℕ, ◌-◌, ℤ, List, ◌∷◌, map, Result, Ok, Err, sym, ap, ◌∙◌, and_then, Fault, Width, Form, literal, variable, infix_of, convert, select, shift, area_read, wrap, unary_form, infix_level, canon_step, canon, Calls, Faults, Guarded, Labelled, Out, Sem, then_do, changed, arm_meaning, body_meaning, case_meaning, meaning, Text, ArmText, CaseText, statement_step, statement_text, State, write, Names, Worth, value, value_step, Value, BinaryOp, Expr, fold-Expr, fold-roll-Expr, ShiftOp, StType, UnaryOp, Var, Arm, fold_out-Arm, CaseArm, fold_out-CaseArm, Located, Stmt, map-Stmt, roll-Stmt}
+use Rattle.st_tree.proofs.Common.{◌≡◌, ℕ, ◌-◌, ℤ, List, ◌∷◌, map, Result, Ok, Err, sym, ap, ◌∙◌, and_then, Fault, Width, Form, literal, variable, infix_of, convert, select, shift, area_read, wrap, unary_form, infix_level, canon_step, canon, Calls, Faults, Guarded, Labelled, Out, Sem, then_do, state_or_fault, arm_meaning, body_meaning, case_meaning, meaning, Text, ArmText, CaseText, statement_step, statement_text, State, write, Names, Worth, value, value_step, Value, BinaryOp, Expr, fold-Expr, fold-roll-Expr, ShiftOp, StType, UnaryOp, Var, Arm, fold_out-Arm, CaseArm, fold_out-CaseArm, Located, Stmt, map-Stmt, roll-Stmt}
 use Rattle.st_tree.specs.Meaning.{arm_step, case_step, stmt_step}
 use Rattle.st_tree.specs.Spelling as text
 use Rattle.st_tree.specs.declared.expr.Expr.TheVariants as expr
@@ -197,16 +197,16 @@ text_assign names level v e =
 module _ (g : List Located) (c : Calls) (v : Var) (e : Expr) (rest : List Stmt) (units : ℕ) (s : State) where
   -- by what its expression gives
   assign_first : (r : Result Value Fault) → value g e s ≡ r → body_meaning g c (stmt.Assign v e ∷ rest) units s
-      ≡ then_do (changed (and_then r (λ x. write g v x s)) units s) (body_meaning g c rest)
+      ≡ then_do (state_or_fault (and_then r (λ x. write g v x s)) units s) (body_meaning g c rest)
   assign_first r worth =
       ap (λ (out : Out). then_do out (body_meaning g c rest)) (meaning_assign g c units s v e)
-      ∙ ap (λ r. then_do (changed (and_then r (λ x. write g v x s)) units s) (body_meaning g c rest)) worth
+      ∙ ap (λ r. then_do (state_or_fault (and_then r (λ x. write g v x s)) units s) (body_meaning g c rest)) worth
 
   -- both parts give a value
   pub assign_goes_on : (t : State) (w : Value) → value g e s ≡ Ok w → write g v w s ≡ Ok t
       → body_meaning g c (stmt.Assign v e ∷ rest) units s ≡ body_meaning g c rest units t
   assign_goes_on t w worth written =
-      assign_first (Ok w) worth ∙ ap (λ r. then_do (changed r units s) (body_meaning g c rest)) written
+      assign_first (Ok w) worth ∙ ap (λ r. then_do (state_or_fault r units s) (body_meaning g c rest)) written
 
   -- the expression faults
   pub assign_stops_at_value : (f : Fault) → value g e s ≡ Err f

@@ -1,7 +1,7 @@
 -- Well typed expressions, statements and calls in a state that fits: what variables stand for and what is read is
 -- of its type, and what is written, what statements leave and what the calls of a proper tree leave is a state that
 -- fits.
-use Rattle.st_tree.proofs.Common.{list_any, int_eq, ◌≡◌, ℕ, zero, suc, ℤ, Bool, true, false, ◌&&◌, List, [], ◌∷◌, ◌++◌, length, slice_get, Option, Some, None, Result, Ok, Err, if◌then◌else◌, slice_set, map, get_or, pos, take, All, Contains, option_map, refl, sym, ap, ◌∙◌, subst, arith, append-nil, append_assoc, eqb-true, Decides-int_eq, and_then, aimed, fault_of, unless, Contents, Place, Fault, Reg, Width, ActivationFits, Fits, IsOf, Paired, StandsFor, RegistersFit, EndsFit, Out, Normal, Continues, Sem, Calls, after_body, area_assigned, arm_meaning, assigned, body_meaning, case_meaning, changed, first_true, first_with, meaning, then_do, turns, with_value, Exits, Returns, Faults, NoUnits, is_conversion, binary_value, chosen, converted, shift_value, unary_value, is_block_number, is_place, Activation, State, depth, there, type_of_register, pointed_at, with_local, write, write_place, where_true, type_of_binary, type_of_choice, type_of_conversion, type_of_read, type_of_shift, type_of_unary, value, Worth, value_step, Value, fit, type_of_width, is_set, width_at, Sight, expression_type, is_seen, is_value, sight_in, type_inside, type_outside, variable_type, are_well_typed, each, each_case, is_arm, is_assigned, is_case_arm, is_well_typed, expression_step, on_type, are_given, has_type, head_of, is_call, Expr, StType, Var, Arm, CaseArm, Local, Located, Pou, StProgram, Stmt, Reference, and_parts, get_or_from_slice_get, slice_get-map, slice_get_within, activation_of, after_unit, called, calls_to, entered, invoked, left, located_actual, located_actuals, unit_step, zero_of, IsProperUnit, Proper}
+use Rattle.st_tree.proofs.Common.{list_any, int_eq, ◌≡◌, ℕ, zero, suc, ℤ, Bool, true, false, ◌&&◌, List, [], ◌∷◌, ◌++◌, length, slice_get, Option, Some, None, Result, Ok, Err, if◌then◌else◌, slice_set, map, get_or, pos, take, All, Contains, option_map, refl, sym, ap, ◌∙◌, subst, arith, append-nil, append_assoc, eqb-true, Decides-int_eq, and_then, aim_of_place, fault_of, unless, Contents, Place, Fault, Reg, Width, ActivationFits, Fits, IsOf, Paired, StandsFor, RegistersFit, EndsFit, Out, Normal, Continues, Sem, Calls, after_body, area_assignment, arm_meaning, assignment, body_meaning, case_meaning, state_or_fault, first_true, first_with, meaning, then_do, turns, with_value, Exits, Returns, Faults, NoUnits, is_conversion, binary_value, selected_value, converted_value, shift_value, unary_value, is_block_number, is_place, Activation, State, depth, there, type_of_register, pointed_at, with_local, write, write_place, where_true, type_of_binary, type_of_choice, type_of_conversion, type_of_read, type_of_shift, type_of_unary, value, Worth, value_step, Value, fit, type_of_width, is_set, width_at, UnitScope, expression_type, is_seen, is_value, unit_scope_in, type_inside, type_outside, variable_type, are_well_typed, each, each_case, is_arm, is_assigned, is_case_arm, is_well_typed, expression_step, on_type, are_given, has_type, head_of, is_call, Expr, StType, Var, Arm, CaseArm, Local, Located, Pou, StProgram, Stmt, Reference, and_parts, get_or_from_slice_get, slice_get-map, slice_get_within, activation_of, after_unit, enter_with, calls_to, state_on_entry, unit_call, left, located_actual, located_actuals, unit_step, zero_of, IsProperUnit, Proper}
 use Rattle.memory_areas.specs.declared.place.AreaName.TheVariants as area
 use Rattle.s7_base.specs.RegSet.{place}
 use Rattle.st_tree.specs.Fitting.{ActivationsFit, local_type, locals_declared, CallsFit}
@@ -17,7 +17,7 @@ use Rattle.st_tree.proofs.Induction.{Each, InArm, InCase, StmtSteps, every_body,
 use Rattle.st_tree.proofs.TypedParts.{body_of_case, both_sides, parts_of_arm, parts_of_arms, parts_of_body, parts_of_case, parts_of_cases, parts_of_if, parts_of_while}
 use Rattle.st_tree.proofs.TypingEquations.{good_assign, good_invoke, type_had}
 use Rattle.std.proofs.lemmas.List.Elements.{All-pop, All-push}
-use Rattle.st_tree.specs.Calls.{tested}
+use Rattle.st_tree.specs.Calls.{check_access}
 
 -- Activations
 
@@ -142,7 +142,7 @@ formal_refers waiting more (f ∷ fs) (r ∷ rs) zero h = still_stands waiting m
 formal_refers waiting more (f ∷ fs) (r ∷ rs) (suc i) h = formal_refers waiting more fs rs i h.1
 formal_refers waiting more fs rs i h = absurd h
 
-global_refers : (running : List Pou) (sight : Sight) (o : Option Located)
+global_refers : (running : List Pou) (sight : UnitScope) (o : Option Located)
     → Refers running (type_outside sight o)
     (and_then (there o) (λ (g : Located). Ok (reference.Place g.place g.ty)))
 global_refers running sight None = tt
@@ -155,8 +155,8 @@ module _ (tree : StProgram) (waiting : List Pou) (unit : Pou) where
   abbrev running : List Pou
   running = waiting ++ unit ∷ []
 
-  abbrev sight : Sight
-  sight = sight_in tree unit
+  abbrev sight : UnitScope
+  sight = unit_scope_in tree unit
 
   -- the state after a write, if there is one, fits
   abbrev AfterFits : Result State Fault → Type 0
@@ -221,12 +221,12 @@ module _ (tree : StProgram) (waiting : List Pou) (unit : Pou) where
         on_both (type_of_binary op) (binary_value op) (two_typed op) a.0 b.0 (a.1 s) (b.1 s) a.2 b.2
     layers (E.Convert from to a) =
         on_then (λ ty. on_type (type_of_conversion from to ty) (where_true (is_conversion from to)))
-        (λ v. Ok (converted to v)) (λ ty v i. converted_typed from to ty v) a.0 (a.1 s) a.2
+        (λ v. Ok (converted_value to v)) (λ ty v i. converted_typed from to ty v) a.0 (a.1 s) a.2
     layers (E.Select gate a b) =
         on_then (λ g. on_type a.0 (λ ty. on_type b.0 (type_of_choice g ty)))
-        (λ on. and_then (a.1 s) (λ v. and_then (b.1 s) (λ w. Ok (chosen on v w))))
+        (λ on. and_then (a.1 s) (λ v. and_then (b.1 s) (λ w. Ok (selected_value on v w))))
         (λ g on i.
-        on_both (type_of_choice g) (λ v w. Ok (chosen on v w)) (choice_typed on g) a.0 b.0 (a.1 s) (b.1 s) a.2 b.2)
+        on_both (type_of_choice g) (λ v w. Ok (selected_value on v w)) (choice_typed on g) a.0 b.0 (a.1 s) (b.1 s) a.2 b.2)
         gate.0 (gate.1 s) gate.2
     layers (E.Shift op a b) =
         on_both type_of_shift (λ v count. Ok (shift_value op v count)) (shifted_typed op) a.0 b.0 (a.1 s) (b.1 s)
@@ -336,7 +336,7 @@ module _ (tree : StProgram) (waiting : List Pou) (unit : Pou) where
   -- Assignments
 
   changed_ends : (r : Result State Fault) (u : ℕ) (s : State) → Fits tree waiting unit s
-      → AfterFits r → Ends (changed r u s)
+      → AfterFits r → Ends (state_or_fault r u s)
   changed_ends (Ok new) u s h k = k
   changed_ends (Err f) u s h k = (waiting, unit, h)
 
@@ -347,7 +347,7 @@ module _ (tree : StProgram) (waiting : List Pou) (unit : Pou) where
   assigned_fits v (Err f) s k = tt
 
   assign_keeps : (v : Var) (e : Expr) → is_assigned (variable_type sight v) (expression_type sight e) ≡ true
-      → (s : State) → Fits tree waiting unit s → AfterFits (assigned tree.globals v e s)
+      → (s : State) → Fits tree waiting unit s → AfterFits (assignment tree.globals v e s)
   assign_keeps v e good s h =
       let b = both_sides (variable_type sight v) (expression_type sight e) good in
       assigned_fits v (value tree.globals e s) s (λ w worth.
@@ -408,11 +408,11 @@ module _ (tree : StProgram) (waiting : List Pou) (unit : Pou) where
         record {
           assign = λ v e inside good u s h.
               rw (meaning_assign tree.globals calls u s v e)
-              (changed_ends (assigned tree.globals v e s) u s h
+              (changed_ends (assignment tree.globals v e s) u s h
               (assign_keeps v e (sym (good_assign sight inside v e) ∙ good) s h));
           area_write = λ w p e inside good u s h.
               rw (meaning_area_write tree.globals calls u s w p e)
-              (changed_ends (area_assigned tree.globals w p e s) u s h
+              (changed_ends (area_assignment tree.globals w p e s) u s h
               (area_fits w (value tree.globals p s) (value tree.globals e s) s h));
           invoke = λ n actuals inside good u s h.
               rw (meaning_invoke tree.globals calls u s n actuals)
@@ -480,12 +480,12 @@ module _ (tree : StProgram) (waiting : List Pou) (unit : Pou) where
   abbrev all_running : List Pou
   all_running = waiting ++ unit ∷ []
 
-  abbrev own_sight : Sight
-  own_sight = sight_in tree unit
+  abbrev own_unit_scope : UnitScope
+  own_unit_scope = unit_scope_in tree unit
 
   entered_fits : (n : ℕ) (callee : Pou) (formals : List Reference) (s : State) → slice_get tree.pous n ≡ Some callee
       → Fits tree waiting unit s → Paired (λ (f : Local) r. StandsFor all_running f.ty r) callee.formals formals
-      → Fits tree all_running callee (entered callee formals s)
+      → Fits tree all_running callee (state_on_entry callee formals s)
   entered_fits n callee formals s e h k =
       record {
         units = All-push (Contains tree.pous) all_running callee h.units (is_in tree.pous n callee e);
@@ -524,22 +524,22 @@ module _ (tree : StProgram) (waiting : List Pou) (unit : Pou) where
   unless_refers (Some ty) (Some f) r h = tt
 
   tested_refers : (o : Option StType) (r : Reference) (s : State) → Refers all_running o (Ok r)
-      → Refers all_running o (tested r s)
+      → Refers all_running o (check_access r s)
   tested_refers o (reference.Place p ty) s h =
-      unless_refers o (fault_of (aimed p) (width_at ty) s.memory) (reference.Place p ty) h
+      unless_refers o (fault_of (aim_of_place p) (width_at ty) s.memory) (reference.Place p ty) h
   tested_refers o r s h = h
 
   after_test : (o : Option StType) (r : Result Reference Fault) (s : State) → Refers all_running o r
-      → Refers all_running o (and_then r (λ r. tested r s))
+      → Refers all_running o (and_then r (λ r. check_access r s))
   after_test o (Ok r) s h = tested_refers o r s h
   after_test None (Err f) s h = tt
   after_test (Some ty) (Err f) s h = tt
 
   actual_refers : (v : Var) (s : State) → Fits tree waiting unit s
-      → Refers all_running (variable_type own_sight v) (located_actual tree.globals v s)
+      → Refers all_running (variable_type own_unit_scope v) (located_actual tree.globals v s)
   actual_refers (var.Formal i) s h = variable_refers tree waiting unit s h (var.Formal i)
   actual_refers v s h =
-      after_test (variable_type own_sight v) (reference_of tree.globals v s) s (variable_refers tree waiting unit s h v)
+      after_test (variable_type own_unit_scope v) (reference_of tree.globals v s) s (variable_refers tree waiting unit s h v)
 
   -- references, where there are some, are of the types of formals
   abbrev AreOf : List Local → Result (List Reference) Fault → Type 0
@@ -554,14 +554,14 @@ module _ (tree : StProgram) (waiting : List Pou) (unit : Pou) where
   one_more f fs (Err e) q h k = tt
 
   actuals_are : (fs : List Local) (vars : List Var) (s : State) → Fits tree waiting unit s
-      → are_given own_sight fs vars ≡ true → AreOf fs (located_actuals tree.globals vars s)
+      → are_given own_unit_scope fs vars ≡ true → AreOf fs (located_actuals tree.globals vars s)
   actuals_are [] [] s h good = tt
   actuals_are [] (v ∷ vars) s h good = cc
   actuals_are (f ∷ fs) [] s h good = cc
   actuals_are (f ∷ fs) (v ∷ vars) s h good =
-      let parts = and_parts (has_type f.ty (variable_type own_sight v)) (are_given own_sight fs vars) good in
+      let parts = and_parts (has_type f.ty (variable_type own_unit_scope v)) (are_given own_unit_scope fs vars) good in
       one_more f fs (located_actual tree.globals v s) (located_actuals tree.globals vars s)
-      (rw (type_had f.ty (variable_type own_sight v) parts.0, Refers) at (actual_refers v s h))
+      (rw (type_had f.ty (variable_type own_unit_scope v) parts.0, Refers) at (actual_refers v s h))
       (actuals_are fs vars s h parts.1)
 
   -- Calls
@@ -569,17 +569,17 @@ module _ (tree : StProgram) (waiting : List Pou) (unit : Pou) where
   module _ (proper : Proper tree) (calls : Calls) (fit : CallsFit tree calls) where
     called_ends : (n : ℕ) (callee : Pou) (r : Result (List Reference) Fault) (u : ℕ) (s : State)
         → slice_get tree.pous n ≡ Some callee → Fits tree waiting unit s → AreOf callee.formals r
-        → EndsFit tree waiting unit (called (unit_step tree calls (Some callee)) r u s)
+        → EndsFit tree waiting unit (enter_with (unit_step tree calls (Some callee)) r u s)
     called_ends n callee (Ok formals) u s e h k =
-        after_ends callee (body_meaning tree.globals calls callee.body u (entered callee formals s))
+        after_ends callee (body_meaning tree.globals calls callee.body u (state_on_entry callee formals s))
         (statements_keep tree all_running callee calls fit false callee.body
         (at_position (IsProperUnit tree.globals (map head_of tree.pous)) tree.pous n callee proper.units e).typed u
-        (entered callee formals s) (entered_fits n callee formals s e h k))
+        (state_on_entry callee formals s) (entered_fits n callee formals s e h k))
     called_ends n callee (Err f) u s e h k = (waiting, unit, h)
 
     found_ends : (n : ℕ) (o : Option Pou) (actuals : List Var) (u : ℕ) (s : State) → slice_get tree.pous n ≡ o
-        → is_call own_sight (option_map head_of o) actuals ≡ true → Fits tree waiting unit s
-        → EndsFit tree waiting unit (called (unit_step tree calls o) (located_actuals tree.globals actuals s) u s)
+        → is_call own_unit_scope (option_map head_of o) actuals ≡ true → Fits tree waiting unit s
+        → EndsFit tree waiting unit (enter_with (unit_step tree calls o) (located_actuals tree.globals actuals s) u s)
     found_ends n None actuals u s e good h = cc
     found_ends n (Some callee) actuals u s e good h =
         let given = (and_parts _ _ good).1 in
@@ -587,8 +587,8 @@ module _ (tree : StProgram) (waiting : List Pou) (unit : Pou) where
         (actuals_are callee.formals actuals s h given)
 
     invoked_ends : (n : ℕ) (actuals : List Var) (units : ℕ) (s : State)
-        → is_call own_sight (slice_get (map head_of tree.pous) n) actuals ≡ true → Fits tree waiting unit s
-        → EndsFit tree waiting unit (invoked tree calls n actuals units s)
+        → is_call own_unit_scope (slice_get (map head_of tree.pous) n) actuals ≡ true → Fits tree waiting unit s
+        → EndsFit tree waiting unit (unit_call tree calls n actuals units s)
     invoked_ends n actuals zero s good h = (waiting, unit, h)
     invoked_ends n actuals (suc u) s good h =
         found_ends n (slice_get tree.pous n) actuals u s refl

@@ -1,8 +1,8 @@
 -- Writes keep that each area holds bytes.
-use Rattle.st_tree.proofs.Common.{◌≡◌, ℕ, zero, suc, ◌+◌, ◌<◌, ◌/◌, ◌%◌, ◌^◌, Bool, true, false, cond, ◌==◌, nat_lt, if◌then◌else◌, List, [], ◌∷◌, ◌++◌, length, get_or, take, drop, slice_get, slice_set, All, Option, Some, None, Result, Ok, Err, refl, arith, nat_tests, All-cons, All-head, All-nil, All-replicate, All-tail, aimed, and_then, bytes_there, bytes_wide, fault_of, first_fault, is_closed, is_missing, or_none, unless, Contents, block_of, bytes_in, zero_locals, DataBlock, Area, Place, Fault, Width, HoldsBytes, write_place, Value, is_set, pattern, StType}
+use Rattle.st_tree.proofs.Common.{◌≡◌, ℕ, zero, suc, ◌+◌, ◌<◌, ◌/◌, ◌%◌, ◌^◌, Bool, true, false, cond, ◌==◌, nat_lt, if◌then◌else◌, List, [], ◌∷◌, ◌++◌, length, get_or, take, drop, slice_get, slice_set, All, Option, Some, None, Result, Ok, Err, refl, arith, nat_tests, All-cons, All-head, All-nil, All-replicate, All-tail, aim_of_place, and_then, bytes_there, bytes_wide, fault_of, first_fault, is_closed, is_missing, or_none, unless, Contents, block_of, bytes_in, zero_locals, DataBlock, Area, Place, Fault, Width, HoldsBytes, write_place, Value, is_set, pattern, StType}
 use Rattle.std.proofs.lemmas.List.Elements.{All-append, All-drop, All-take}
-use Rattle.memory_areas.specs.Access.{put, reached}
-use Rattle.memory_areas.specs.Areas.{byte_at, byte_with, bytes_of_dword, bytes_of_word, cleared, replaced, with_block, with_bytes}
+use Rattle.memory_areas.specs.Access.{write_bytes, bytes_for_access}
+use Rattle.memory_areas.specs.Areas.{byte_at, byte_with, bytes_of_dword, bytes_of_word, with_zero_activation, overwrite, with_block, with_bytes}
 use Rattle.memory_areas.specs.declared.place.Area.TheVariants as area
 use Rattle.memory_areas.specs.declared.sizes.TheConstants.{LOCAL_BYTES}
 use Rattle.s7_base.specs.declared.outcome.Fault.TheVariants.{Alignment, AreaCode, AreaLength, DbMissing, DbNotOpen}
@@ -62,7 +62,7 @@ with_bytes_holds a new m h small b = h b
 pub zeros_small : AreBytes zero_locals
 zeros_small = All-replicate IsByte LOCAL_BYTES 0 (omega arith)
 
-pub cleared_holds : (d : ℕ) (m : Contents) → HoldsBytes m → HoldsBytes (cleared d m)
+pub cleared_holds : (d : ℕ) (m : Contents) → HoldsBytes m → HoldsBytes (with_zero_activation d m)
 cleared_holds d m h (area.Local e) = in_list m.locals d e zero_locals zeros_small (h (area.Local e))
 cleared_holds d m h (area.Cell e) = in_list m.cells d e zero_locals zeros_small (h (area.Cell e))
 cleared_holds d m h a = h a
@@ -75,22 +75,22 @@ AfterHolds (Ok m) = HoldsBytes m
 AfterHolds (Err f) = Unit {0}
 
 all_replaced : (bytes : List ℕ) (i : ℕ) (new : List ℕ) → AreBytes bytes → AreBytes new
-    → AreBytes (replaced bytes i new)
+    → AreBytes (overwrite bytes i new)
 all_replaced bytes i new all small =
     All-append IsByte (take i bytes ++ new) (drop (i + length new) bytes)
     (All-append IsByte (take i bytes) new (All-take IsByte i bytes all) small)
     (All-drop IsByte (i + length new) bytes all)
 
 put_holds : (p : Place) (w : Width) (new : List ℕ → List ℕ) (m : Contents) → HoldsBytes m
-    → (fault_of (aimed p) w m ≡ None → (bytes : List ℕ) → AreBytes bytes → AreBytes (new bytes))
-    → AfterHolds (and_then (reached p w m) (λ bytes. Ok (put p bytes (new bytes) m)))
-put_holds p w new m h f = by (fault_of (aimed p) w m) refl
+    → (fault_of (aim_of_place p) w m ≡ None → (bytes : List ℕ) → AreBytes bytes → AreBytes (new bytes))
+    → AfterHolds (and_then (bytes_for_access p w m) (λ bytes. Ok (write_bytes p bytes (new bytes) m)))
+put_holds p w new m h f = by (fault_of (aim_of_place p) w m) refl
   where
-    by : (o : Option Fault) → fault_of (aimed p) w m ≡ o
-        → AfterHolds (and_then (unless o (bytes_there (Some p.area) m)) (λ bytes. Ok (put p bytes (new bytes) m)))
+    by : (o : Option Fault) → fault_of (aim_of_place p) w m ≡ o
+        → AfterHolds (and_then (unless o (bytes_there (Some p.area) m)) (λ bytes. Ok (write_bytes p bytes (new bytes) m)))
     by None e =
         let bytes = bytes_there (Some p.area) m in
-        with_bytes_holds p.area (replaced bytes p.byte (new bytes)) m h
+        with_bytes_holds p.area (overwrite bytes p.byte (new bytes)) m h
         (all_replaced bytes p.byte (new bytes) (h p.area) (f e bytes (h p.area)))
     by (Some fault) e = tt
 
@@ -100,7 +100,7 @@ aligned : (a b c d e : Bool) (u v w x y : Fault)
 aligned false false false false e u v w x y h = refl
 aligned a b c d e u v w x y h = cc
 
-bit_aligned : (p : Place) (m : Contents) → fault_of (aimed p) width.Bit m ≡ None → nat_lt 7 p.bit ≡ false
+bit_aligned : (p : Place) (m : Contents) → fault_of (aim_of_place p) width.Bit m ≡ None → nat_lt 7 p.bit ≡ false
 bit_aligned p m none =
     aligned (is_closed (Some p.area)) (is_missing (Some p.area) m) false (nat_lt 7 p.bit)
     (nat_lt (length (bytes_there (Some p.area) m)) (p.byte + bytes_wide width.Bit))
@@ -119,7 +119,7 @@ bit_small b (suc (suc (suc (suc (suc (suc (suc (suc x)))))))) v h k = absurd (gr
 
 bit_holds : (p : Place) (v : Bool) (m : Contents) → HoldsBytes m
     → AfterHolds
-    (and_then (reached p width.Bit m) (λ bytes. Ok (put p bytes (byte_with (byte_at bytes p.byte) p.bit v ∷ []) m)))
+    (and_then (bytes_for_access p width.Bit m) (λ bytes. Ok (write_bytes p bytes (byte_with (byte_at bytes p.byte) p.bit v ∷ []) m)))
 bit_holds p v m h =
     put_holds p width.Bit (λ bytes. byte_with (byte_at bytes p.byte) p.bit v ∷ []) m h
     (λ none bytes all.
@@ -128,7 +128,7 @@ bit_holds p v m h =
     (All-nil IsByte))
 
 new_holds : (p : Place) (w : Width) (new : List ℕ) (m : Contents) → AreBytes new → HoldsBytes m
-    → AfterHolds (and_then (reached p w m) (λ bytes. Ok (put p bytes new m)))
+    → AfterHolds (and_then (bytes_for_access p w m) (λ bytes. Ok (write_bytes p bytes new m)))
 new_holds p w new m small h = put_holds p w (λ bytes. new) m h (λ none bytes all. small)
 
 word_small : (n : ℕ) → n < 2 ^ 16 → AreBytes (bytes_of_word n)

@@ -1,5 +1,5 @@
 -- What operators give is of the type that the rules say, by one lemma a class of operators.
-use Rattle.st_tree.proofs.Common.{◌≡◌, ℕ, ◌<◌, ◌^◌, Bool, true, false, ◌&&◌, if◌then◌else◌, ℤ, pos, negsuc, int_lt, Option, Some, None, Result, Ok, Err, int_eq, refl, sym, ap, ◌∙◌, subst, arith, ints, and_parts, and_then, Contents, Place, Fault, Width, IsOf, is_conversion, binary_value, chosen, converted, shift_value, unary_value, State, pointed_at, has_bits, is_type, type_of_binary, type_of_choice, type_of_conversion, type_of_read, type_of_shift, type_of_unary, type_on_equals, where_true, Value, fit, flag, is_set, pattern, type_of_width, typed, on_type, BinaryOp, ShiftOp, StType, UnaryOp}
+use Rattle.st_tree.proofs.Common.{◌≡◌, ℕ, ◌<◌, ◌^◌, Bool, true, false, ◌&&◌, if◌then◌else◌, ℤ, pos, negsuc, int_lt, Option, Some, None, Result, Ok, Err, int_eq, refl, sym, ap, ◌∙◌, subst, arith, ints, and_parts, and_then, Contents, Place, Fault, Width, IsOf, is_conversion, binary_value, selected_value, converted_value, shift_value, unary_value, State, pointed_at, has_bits, is_type, type_of_binary, type_of_choice, type_of_conversion, type_of_read, type_of_shift, type_of_unary, type_on_equals, where_true, Value, fit, flag, is_set, pattern, type_of_width, typed, on_type, BinaryOp, ShiftOp, StType, UnaryOp}
 use Rattle.std.proofs.Common.{pow_pos}
 use Rattle.memory_areas.specs.Access.{read_bit}
 use Rattle.bcd_words.specs.Bcd.{bcd_value}
@@ -120,10 +120,10 @@ two_typed op s t v w h k =
     if_typed (is_type s t) (type_on_equals op s) (binary_value op v w) (λ e. equals_typed op s v w h)
 
 pub converted_typed : (from to ty : StType) (v : Value)
-    → Typed (on_type (type_of_conversion from to ty) (where_true (is_conversion from to))) (Ok (converted to v))
+    → Typed (on_type (type_of_conversion from to ty) (where_true (is_conversion from to))) (Ok (converted_value to v))
 converted_typed from to ty v = by (is_type ty from) (is_conversion from to)
   where
-    by : (b c : Bool) → Typed (on_type (where_true b to) (where_true c)) (Ok (converted to v))
+    by : (b c : Bool) → Typed (on_type (where_true b to) (where_true c)) (Ok (converted_value to v))
     by true true = typed_is to v.n
     by true false = tt
     by false c = tt
@@ -135,9 +135,9 @@ either_fits true ty m n h k = h refl
 either_fits false ty m n h k = k
 
 pub choice_typed : (gate : Value) (g a b : StType) (v w : Value) → IsOf a v → IsOf b w
-    → Typed (type_of_choice g a b) (Ok (chosen gate v w))
+    → Typed (type_of_choice g a b) (Ok (selected_value gate v w))
 choice_typed gate g a b v w h k =
-    where_typed (is_type g type.Bool && is_type a b) a (Ok (chosen gate v w))
+    where_typed (is_type g type.Bool && is_type a b) a (Ok (selected_value gate v w))
     (λ e.
     let same : b ≡ a = sym (same_type a b (and_parts (is_type g type.Bool) (is_type a b) e).1) in
     let other : IsOf a w = subst (λ (t : StType). IsOf t w) same k in

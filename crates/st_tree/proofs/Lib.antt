@@ -1,22 +1,22 @@
-mod CallRows
+mod CallCases
 pub mod CalledMost
 pub mod CanonEquations
 pub mod Common
 pub mod Equations
 pub mod FittingCalls
 pub mod FittingMemory
-mod FittingRows
+mod FittingCases
 pub mod FittingStart
 pub mod FittingValues
-mod GraphRows
+mod GraphCases
 pub mod Induction
 mod NameWords
-mod OperatorRows
+mod OperatorCases
 pub mod PartEquations
-mod PartRows
-mod ProperRows
-mod RunRows
-mod SpellingRows
+mod PartCases
+mod ProperCases
+mod RunCases
+mod SpellingCases
 pub mod TypedParts
 pub mod TypesAgree
 pub mod TypingEquations

@@ -2,7 +2,7 @@
 use Rattle.st_tree.proofs.Common.{◌≡◌, ℕ, ◌+◌, max, ℤ, List, [], ◌∷◌, ◌++◌, map, refl, sym, ap, ◌∙◌, append_assoc, flat_map-append, Width, call_step, calls_in, expressions_in, height, reads_in, reads_of, statements_in, BinaryOp, Expr, ShiftOp, StType, UnaryOp, Var, Arm, CaseArm, Stmt, map-Stmt, out-Stmt, roll-Stmt}
 use Rattle.std.specs.List.{flat_map}
 use Rattle.std.proofs.lemmas.List.Folds.{flat_map-map}
-use Rattle.st_tree.specs.Parts.{all_of, expressions_step, height_step, inner_statements, inner_step, reads_step}
+use Rattle.st_tree.specs.BodyParts.{all_of, expressions_step, height_step, inner_statements, inner_step, reads_step}
 use Rattle.st_tree.specs.declared.expr.Expr.TheVariants as expr
 use Rattle.st_tree.specs.declared.program.Arm.{out-Arm, para-Arm, para-roll-Arm, roll-out-Arm}
 use Rattle.st_tree.specs.declared.program.CaseArm.{out-CaseArm, para-CaseArm, para-roll-CaseArm, roll-out-CaseArm}

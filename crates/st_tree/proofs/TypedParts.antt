@@ -1,5 +1,5 @@
 -- What the parts of a well typed statement keep.
-use Rattle.st_tree.proofs.Common.{◌≡◌, Bool, true, List, ◌∷◌, map, Option, Some, None, refl, sym, ◌∙◌, and_parts, CaseCheck, Sight, are_well_typed, each, each_case, expression_type, has_type, is_arm, is_assigned, is_case_arm, is_well_typed, Expr, StType, Arm, CaseArm, Stmt}
+use Rattle.st_tree.proofs.Common.{◌≡◌, Bool, true, List, ◌∷◌, map, Option, Some, None, refl, sym, ◌∙◌, and_parts, CaseCheck, UnitScope, are_well_typed, each, each_case, expression_type, has_type, is_arm, is_assigned, is_case_arm, is_well_typed, Expr, StType, Arm, CaseArm, Stmt}
 use Rattle.st_tree.specs.WellTyped.{are_cases}
 use Rattle.st_tree.specs.declared.expr.StType.TheVariants as type
 use Rattle.st_tree.specs.declared.program.Stmt.TheVariants as stmt
@@ -26,7 +26,7 @@ cases_are : (o : Option StType) (inside : Bool) (arms : List CaseCheck) → are_
 cases_are None inside arms h = cc
 cases_are (Some ty) inside arms h = record { type = ty; selector = refl; arms = (and_parts _ _ h).1 }
 
-module _ (sight : Sight) (inside : Bool) where
+module _ (sight : UnitScope) (inside : Bool) where
   pub parts_of_body : (x : Stmt) (xs : List Stmt) → are_well_typed sight inside (x ∷ xs) ≡ true
       → (is_well_typed sight x inside ≡ true) × (are_well_typed sight inside xs ≡ true)
   parts_of_body x xs h = and_parts (is_well_typed sight x inside) (are_well_typed sight inside xs) h

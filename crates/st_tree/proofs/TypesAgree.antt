@@ -1,5 +1,5 @@
 -- The type of a well typed expression is the one in which the labels of a CASE are written.
-use Rattle.st_tree.proofs.Common.{◌≡◌, Bool, true, false, ◌&&◌, if◌then◌else◌, slice_get, Option, Some, None, refl, is_conversion, is_block_number, is_place, names_in, has_bits, is_type, type_of_binary, type_of_choice, type_of_conversion, type_of_read, type_of_shift, type_of_unary, type_on_equals, where_true, Names, type_of, type_of_width, Sight, expression_step, expression_type, is_seen, is_value, on_type, sight_in, type_inside, type_outside, variable_type, BinaryOp, Expr, StType, UnaryOp, Var, Local, Located, Pou, StProgram}
+use Rattle.st_tree.proofs.Common.{◌≡◌, Bool, true, false, ◌&&◌, if◌then◌else◌, slice_get, Option, Some, None, refl, is_conversion, is_block_number, is_place, names_in, has_bits, is_type, type_of_binary, type_of_choice, type_of_conversion, type_of_read, type_of_shift, type_of_unary, type_on_equals, where_true, Names, type_of, type_of_width, UnitScope, expression_step, expression_type, is_seen, is_value, on_type, unit_scope_in, type_inside, type_outside, variable_type, BinaryOp, Expr, StType, UnaryOp, Var, Local, Located, Pou, StProgram}
 use Rattle.memory_areas.specs.declared.place.AreaName.TheVariants as area
 use Rattle.st_tree.specs.TypeRules.{has_numbers}
 use Rattle.st_tree.specs.Typing.{binary_type, global_type, local_type, type_step, unary_type, var_type}
@@ -52,13 +52,13 @@ inside_agrees : (o : Option Local) → Agrees (type_inside o) (local_type o)
 inside_agrees None = tt
 inside_agrees (Some local) = refl
 
-outside_agrees : (sight : Sight) (o : Option Located) → Agrees (type_outside sight o) (global_type o)
+outside_agrees : (sight : UnitScope) (o : Option Located) → Agrees (type_outside sight o) (global_type o)
 outside_agrees sight None = tt
 outside_agrees sight (Some global) = where_agrees (is_seen sight global.name) global.ty global.ty refl
 
 module _ (tree : StProgram) (unit : Pou) where
-  abbrev sight : Sight
-  sight = sight_in tree unit
+  abbrev sight : UnitScope
+  sight = unit_scope_in tree unit
 
   abbrev names : Names
   names = names_in tree unit

@@ -1,6 +1,6 @@
 -- What the rules of types and of nesting say of an expression and of a statement at each variant, and which types
 -- are the same.
-use Rattle.st_tree.proofs.Common.{◌≡◌, ℕ, suc, max, Bool, true, ◌&&◌, ℤ, List, map, slice_get, Option, Some, None, list_all, refl, ap, Width, greatest, arm_nesting, body_nesting, case_nesting, expression_nesting, nesting, is_type, CaseCheck, Sight, are_well_typed, expression_step, expression_type, has_type, is_arm, is_assigned, is_call, is_case_arm, is_some_of, is_value, is_well_typed, variable_type, type_of_width, BinaryOp, Expr, ShiftOp, StType, UnaryOp, Var, Arm, fold_out-Arm, CaseArm, fold_out-CaseArm, Stmt, map-Stmt, roll-Stmt}
+use Rattle.st_tree.proofs.Common.{◌≡◌, ℕ, suc, max, Bool, true, ◌&&◌, ℤ, List, map, slice_get, Option, Some, None, list_all, refl, ap, Width, greatest, arm_nesting, body_nesting, case_nesting, expression_nesting, nesting, is_type, CaseCheck, UnitScope, are_well_typed, expression_step, expression_type, has_type, is_arm, is_assigned, is_call, is_case_arm, is_some_of, is_value, is_well_typed, variable_type, type_of_width, BinaryOp, Expr, ShiftOp, StType, UnaryOp, Var, Arm, fold_out-Arm, CaseArm, fold_out-CaseArm, Stmt, map-Stmt, roll-Stmt}
 use Rattle.st_tree.specs.Nesting
 use Rattle.st_tree.specs.Nesting.{nesting_step}
 use Rattle.st_tree.specs.WellTyped.{Check, arm_step, case_step, statement_step}
@@ -13,7 +13,7 @@ use Rattle.st_tree.proofs.Equations.{canon_equations, fold_area_read, fold_binar
 
 -- Expressions
 
-module _ (sight : Sight) where
+module _ (sight : UnitScope) where
   pub typed_literal : (ty : StType) (n : ℤ) → expression_type sight (expr.Literal ty n)
       ≡ expression_step sight (E.Literal ty n)
   typed_literal ty n = fold_literal (Option StType) (expression_step sight) ty n
@@ -58,7 +58,7 @@ pub ruleset typed_equations = (
 
 -- Statements, inside a WHILE or not
 
-module _ (sight : Sight) (inside : Bool) where
+module _ (sight : UnitScope) (inside : Bool) where
   good : {x : Stmt} (y : S.Stmt-F Stmt Arm CaseArm) → roll-Stmt y ≡ x → is_well_typed sight x inside
       ≡ statement_step sight
       (map-Stmt Stmt Arm CaseArm Check Check CaseCheck (is_well_typed sight) (is_arm sight) (is_case_arm sight) y)

@@ -13,7 +13,7 @@ use Rattle.st_tree.specs.StRun.{FitsSt, state_at_start, unit_called}
 use Rattle.st_tree.specs.State.{Activation, State, type_of_register}
 use Rattle.st_tree.specs.Value.{value}
 use Rattle.st_tree.specs.Values.{Value, fit}
-use Rattle.st_tree.specs.WellTyped.{are_well_typed, expression_type, head_of, is_call, sight_in, type_inside}
+use Rattle.st_tree.specs.WellTyped.{are_well_typed, expression_type, head_of, is_call, unit_scope_in, type_inside}
 use Rattle.st_tree.specs.declared.expr.Expr.{Expr}
 use Rattle.st_tree.specs.declared.expr.StType.{StType}
 use Rattle.st_tree.specs.declared.expr.Var.{Var}
@@ -31,11 +31,11 @@ pub record IsOf (ty : StType) (v : Value) : Type 0 where
   pub type : v.ty ≡ ty
   pub number : fit ty v.n ≡ v.n
 
--- each register variable holds a number of its type
+-- each register variable has a number of its type
 abbrev pub RegistersFit : (Reg → ℤ) → Type 0
 RegistersFit registers = (r : Reg) → fit (type_of_register r) (registers r) ≡ registers r
 
--- the locals that a unit declares; none where it is not there
+-- the locals that a unit declares; none where the unit does not exist
 abbrev pub locals_declared : Option Pou → List Local
 locals_declared None = []
 locals_declared (Some unit) = unit.locals
@@ -44,27 +44,27 @@ locals_declared (Some unit) = unit.locals
 abbrev pub local_type : List Pou → ℕ → ℕ → Option StType
 local_type running d i = type_inside (slice_get (locals_declared (slice_get running d)) i)
 
--- what a formal of a type may stand for while some units wait: a register of the type, a local of the type in
--- one of them, or a place that is read in the type
+-- the references that a formal of a type may have while some units wait: a register of the type, a local of the type
+-- in one of them, or a place that is read in the type
 abbrev pub StandsFor : List Pou → StType → Reference → Type 0
 StandsFor waiting ty (reference.Register r) = type_of_register r ≡ ty
 StandsFor waiting ty (reference.Local d i) = local_type waiting d i ≡ Some ty
 StandsFor waiting ty (reference.Place p read_in) = read_in ≡ ty
 
--- two lists are equally long, and what is asked holds of each two elements at one position
+-- two lists are equally long, and each two elements at one position have a property
 abbrev pub Paired : {X Y : Type 0} → (X → Y → Type 0) → List X → List Y → Type 0
 Paired R [] [] = Unit {0}
 Paired R [] (y ∷ ys) = ⊥
 Paired R (x ∷ xs) [] = ⊥
 Paired R (x ∷ xs) (y ∷ ys) = R x y × Paired R xs ys
 
--- an activation of a unit for which some units wait: each local has a value of its type, and each formal
--- stands for something of its type
+-- an activation fits of a unit for which some units wait: each local has a value of its type, and each formal a
+-- reference of its type
 pub record ActivationFits (waiting : List Pou) (unit : Pou) (a : Activation) : Type 0 where
   pub locals : Paired (λ (l : Local) v. IsOf l.ty v) unit.locals a.locals
   pub formals : Paired (λ (f : Local) r. StandsFor waiting f.ty r) unit.formals a.formals
 
--- the activations of some units, each waiting for the next, after those that wait for the first
+-- the activations fit of some units, each waiting for the next, after those that wait for the first
 abbrev pub ActivationsFit : List Pou → List Pou → List Activation → Type 0
 ActivationsFit waiting [] [] = Unit {0}
 ActivationsFit waiting [] (a ∷ rest) = ⊥
@@ -72,8 +72,8 @@ ActivationsFit waiting (unit ∷ units) [] = ⊥
 ActivationsFit waiting (unit ∷ units) (a ∷ rest) =
     ActivationFits waiting unit a × ActivationsFit (waiting ++ unit ∷ []) units rest
 
--- a state fits in which a unit of a tree runs, and some wait for it: its registers, its memory and its
--- activations do, one of each of these units
+-- a state fits in which a unit of a tree runs, and some wait for it: its registers, its memory and its activations
+-- fit, one of each of these units
 pub record Fits (tree : StProgram) (waiting : List Pou) (unit : Pou) (s : State) : Type 0 where
   pub units : All (Contains tree.pous) (waiting ++ unit ∷ [])
   pub registers : RegistersFit s.registers
@@ -84,8 +84,8 @@ pub record Fits (tree : StProgram) (waiting : List Pou) (unit : Pou) (s : State)
 abbrev pub FitsSomewhere : StProgram → State → Type 0
 FitsSomewhere tree s = (waiting : List Pou) × (unit : Pou) × Fits tree waiting unit s
 
--- how statements of a unit end leaves a state that fits: in that unit, or in one that it called where a fault
--- or the end of the units of work stops it there
+-- the end of statements of a unit is a state that fits: in that unit, or in one that it called where a fault or the
+-- end of the units of work stops it there
 abbrev pub EndsFit : StProgram → List Pou → Pou → Out → Type 0
 EndsFit tree waiting unit (Normal units s) = Fits tree waiting unit s
 EndsFit tree waiting unit (Exits units s) = Fits tree waiting unit s
@@ -100,14 +100,14 @@ EndsFit tree waiting unit (NoUnits s) = FitsSomewhere tree s
 abbrev pub ValuesFit : Type 0
 ValuesFit =
     (tree : StProgram) (waiting : List Pou) (unit : Pou) (s : State) (e : Expr) (ty : StType) (v : Value)
-    → Fits tree waiting unit s → expression_type (sight_in tree unit) e ≡ Some ty → value tree.globals e s ≡ Ok v
+    → Fits tree waiting unit s → expression_type (unit_scope_in tree unit) e ≡ Some ty → value tree.globals e s ≡ Ok v
     → IsOf ty v
 
 -- what calls do leaves states that fit, where each formal is given a variable of its type
 abbrev pub CallsFit : StProgram → Calls → Type 0
 CallsFit tree calls =
     (n : ℕ) (actuals : List Var) (waiting : List Pou) (unit : Pou) (units : ℕ) (s : State)
-    → is_call (sight_in tree unit) (slice_get (map head_of tree.pous) n) actuals ≡ true → Fits tree waiting unit s
+    → is_call (unit_scope_in tree unit) (slice_get (map head_of tree.pous) n) actuals ≡ true → Fits tree waiting unit s
     → EndsFit tree waiting unit (calls n actuals units s)
 
 -- well typed statements leave states that fit, where their calls do
@@ -115,7 +115,7 @@ abbrev pub StatementsFit : Type 0
 StatementsFit =
     (tree : StProgram) (calls : Calls) (waiting : List Pou) (unit : Pou) (inside : Bool) (body : List Stmt)
     (units : ℕ) (s : State)
-    → CallsFit tree calls → are_well_typed (sight_in tree unit) inside body ≡ true → Fits tree waiting unit s
+    → CallsFit tree calls → are_well_typed (unit_scope_in tree unit) inside body ≡ true → Fits tree waiting unit s
     → EndsFit tree waiting unit (body_meaning tree.globals calls body units s)
 
 -- the calls of a proper tree leave states that fit
@@ -129,7 +129,7 @@ StartFits =
     → Proper tree → unit_called call.block tree.pous ≡ Some unit → FitsSt tree call → IsMemoryOf tree.dbs areas
     → Fits tree [] unit (state_at_start unit call areas)
 
--- and so does each state in which its run stands after some units of work
+-- each state of the run of a call that fits a proper tree fits, after some units of work
 abbrev pub RunsFit : Type 0
 RunsFit =
     (tree : StProgram) (call : Call) (unit : Pou) (areas : Areas) (units : ℕ)

@@ -1,4 +1,6 @@
--- An expression with its brackets, as a text has them, and the brackets that its tree needs.
+-- Expressions with their brackets. An expression as a text has it, the precedence of operators, and the brackets that
+-- a tree needs.
+-- Held against: IEC 61131-3, 'Expressions'.
 use Rattle.std.specs.Prelude.{ℕ, ◌-◌, ℤ, nat_lt, if◌then◌else◌}
 use Rattle.s7_base.specs.declared.word.Width.{Width}
 use Rattle.st_tree.specs.declared.expr.StType.{StType}

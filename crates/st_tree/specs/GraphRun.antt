@@ -6,7 +6,7 @@ use Rattle.memory_areas.specs.Areas.{Areas}
 use Rattle.memory_areas.specs.End.{End, Going}
 use Rattle.s7_base.specs.declared.outcome.Fault.{Fault}
 use Rattle.memory_areas.specs.declared.call.Call.{Call}
-use Rattle.st_tree.specs.Calls.{after_unit, called, entered, located_actuals}
+use Rattle.st_tree.specs.Calls.{after_unit, enter_with, state_on_entry, located_actuals}
 use Rattle.s7_base.specs.Numbers.{greatest}
 use Rattle.st_tree.specs.Meaning.{Normal, Faults, NoUnits, Sem, Calls, body_meaning, then_do}
 use Rattle.st_tree.specs.StRun.{FitsSt, end_seen, is_meant, state_at_start}
@@ -28,22 +28,22 @@ use Rattle.st_tree.specs.declared.state.Reference.{Reference}
 abbrev pub Counting : Type 0
 Counting = ℕ → ℕ → Bool
 
--- each node that is begun is
+-- each node that is begun is counted
 abbrev pub each_node : Counting
 each_node from to = true
 
--- each pass is: a way to the same node or an earlier one
+-- each pass is counted: a way to the same node or an earlier one
 abbrev pub each_pass : Counting
 each_pass from to = not (nat_lt from to)
 
 -- what is counted takes a unit of work first; where none is left it is not begun
-abbrev pub counted : Sem → Sem
-counted begun zero s = NoUnits s
-counted begun (suc units) s = begun units s
+abbrev pub for_one_unit : Sem → Sem
+for_one_unit begun zero s = NoUnits s
+for_one_unit begun (suc units) s = begun units s
 
--- it takes one only where it is counted
+-- what is counted takes a unit of work only where it is counted
 abbrev pub counted_if : Bool → Sem → Sem
-counted_if true begun units s = counted begun units s
+counted_if true begun units s = for_one_unit begun units s
 counted_if false begun units s = begun units s
 
 -- Exits
@@ -74,7 +74,7 @@ way_of globals i (exit.Table e targets last) s =
     and_then (value globals e s) (λ v. Ok (to (chosen_node v.n targets last)))
 way_of globals i exit.End s = Ok out
 
--- what follows the node at a position on its way, by what the nodes do
+-- what is done after the node at a position on its way, by what the nodes do
 abbrev pub follow : Counting → (ℕ → Sem) → ℕ → Result Way Fault → Sem
 follow counts nodes i (Ok (to j)) units s = counted_if (counts i j) (nodes j) units s
 follow counts nodes i (Ok out) units s = Normal units s
@@ -86,7 +86,7 @@ exit_meaning globals counts nodes i exit units s = follow counts nodes i (way_of
 
 -- Nodes
 
--- what a node does, and what follows it; where none is there, as in no plain graph, the run never ends
+-- what a node does, and what follows it; where no node is at the position, as in no plain graph, the run never ends
 abbrev pub node_meaning : List Located → Counting → Calls → (ℕ → Sem) → ℕ → Option StNode → Sem
 node_meaning globals counts calls nodes i None units s = NoUnits s
 node_meaning globals counts calls nodes i (Some node) units s =
@@ -94,20 +94,20 @@ node_meaning globals counts calls nodes i (Some node) units s =
 
 -- Calls
 
--- what a unit does whose formals stand for these, by what its nodes do; its first node is counted
+-- what a unit does whose formals have these references, by what its nodes do; its first node is counted
 abbrev pub unit_begun : (List StNode → Sem) → Option GraphPou → List Reference → Sem
 unit_begun begin None formals units s = NoUnits s
 unit_begun begin (Some unit) formals units s =
-    after_unit (counted (begin unit.graph.nodes) units (entered unit.head formals s))
+    after_unit (for_one_unit (begin unit.graph.nodes) units (state_on_entry unit.head formals s))
 
 -- a call locates its actuals, then begins the unit
 abbrev pub graph_calls : (List StNode → Sem) → GraphProgram → Calls
 graph_calls begin graph n actuals units s =
-    called (unit_begun begin (slice_get graph.pous n)) (located_actuals graph.globals actuals s) units s
+    enter_with (unit_begun begin (slice_get graph.pous n)) (located_actuals graph.globals actuals s) units s
 
 -- Runs
 
--- what nodes do from the one at a position on, where at most so many follow one another, those of called units
+-- what nodes do from the one at a position on, where at most this many follow one another, those of called units
 -- among them
 abbrev pub nodes_do : Counting → GraphProgram → ℕ → List StNode → ℕ → Sem
 nodes_do counts graph zero nodes i units s = NoUnits s
@@ -123,11 +123,11 @@ longest graph = greatest (map (λ (u : GraphPou). length u.graph.nodes) graph.po
 abbrev pub most_nodes : GraphProgram → ℕ → ℕ
 most_nodes graph units = suc units * suc (longest graph)
 
--- the run of a unit; one that is not there never ends
+-- the run of a unit; one that does not exist never ends
 abbrev pub run_of_graph : Counting → GraphProgram → Option GraphPou → Call → Areas → ℕ → End
 run_of_graph counts graph None call memory units = Going
 run_of_graph counts graph (Some unit) call memory units =
-    end_seen (counted (nodes_do counts graph (most_nodes graph units) unit.graph.nodes 0) units
+    end_seen (for_one_unit (nodes_do counts graph (most_nodes graph units) unit.graph.nodes 0) units
     (state_at_start unit.head call memory))
 
 -- the run of a call within a bound on what is counted
@@ -135,12 +135,12 @@ abbrev pub counted_run : Counting → GraphProgram → Call → Areas → ℕ �
 counted_run counts graph call memory units =
     run_of_graph counts graph (find (λ (u : GraphPou). is_meant call.block u.head) graph.pous) call memory units
 
--- the run of a call that begins at most so many nodes
+-- the run of a call that begins at most this many nodes
 abbrev pub graph_run : GraphProgram → Call → Areas → ℕ → End
 graph_run graph call memory nodes = counted_run each_node graph call memory nodes
 
--- the run of a call in at most so many passes: one at the start, one for each unit that is called and one for
--- each way to the same node or an earlier one
+-- the run of a call in at most this many passes: one at the start, one for each unit that is called and one for each
+-- way to the same node or an earlier one
 abbrev pub pass_run : GraphProgram → Call → Areas → ℕ → End
 pass_run graph call memory passes = counted_run each_pass graph call memory passes
 

@@ -9,7 +9,7 @@ use Rattle.st_tree.specs.State.{State}
 use Rattle.st_tree.specs.declared.graph.GraphPou.{GraphPou}
 use Rattle.st_tree.specs.declared.graph.GraphProgram.{GraphProgram}
 
--- a way that is not counted leads forward; so it is with nodes and with passes
+-- a way that is not counted leads forward; this is so with nodes and with passes
 abbrev pub FreeIsForward : Counting → Type 0
 FreeIsForward counts = (i j : ℕ) → counts i j ≡ false → i < j
 

@@ -9,7 +9,7 @@ pub mod Meaning
 pub mod Naming
 pub mod Nesting
 pub mod Operators
-pub mod Parts
+pub mod BodyParts
 pub mod PlaceRules
 pub mod Proper
 pub mod ProperLaws

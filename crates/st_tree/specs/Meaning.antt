@@ -1,5 +1,6 @@
--- What statements do to a state, within a number of units. Each test of a WHILE takes one unit first. What a
--- call does, the units that it takes too, is given.
+-- What statements do to a state. They work within a number of units, of which each test of a WHILE takes one first.
+-- What a call does, and the units that it takes, is given.
+-- Held against: IEC 61131-3, 'Statements'.
 use Rattle.std.specs.Prelude.{ℕ, zero, suc, if◌then◌else◌, ℤ, List, [], ◌∷◌, map, Result, Ok, Err}
 use Rattle.std.specs.List.{list_any}
 use Rattle.std.specs.Ordering.{int_eq}
@@ -17,8 +18,8 @@ use Rattle.st_tree.specs.declared.program.Located.{Located}
 use Rattle.st_tree.specs.declared.program.Stmt.{Stmt, fold-Stmt}
 use Rattle.st_tree.specs.declared.program.Stmt.TheOpen as S
 
--- how statements end: at their end, by EXIT, CONTINUE or RETURN, each with the units that are left; by a
--- fault; or because no unit is left; and the state then
+-- the end of statements: at their end, by EXIT, CONTINUE or RETURN, each with the units that are left; by a fault; or
+-- because no unit is left; and the state then
 pub data Out : Type 0 where
   Normal : ℕ → State → Out
   Exits : ℕ → State → Out
@@ -49,23 +50,23 @@ in_order (first ∷ rest) units s = then_do (first units s) (in_order rest)
 
 -- Assignments
 
--- the new state, or a fault, which leaves the state as it was
-abbrev pub changed : Result State Fault → Sem
-changed (Ok new) units s = Normal units new
-changed (Err f) units s = Faults f s
+-- the state after a change, or a fault, which leaves the state as it was
+abbrev pub state_or_fault : Result State Fault → Sem
+state_or_fault (Ok new) units s = Normal units new
+state_or_fault (Err f) units s = Faults f s
 
 -- an assignment evaluates its expression, then locates its variable, then writes
-abbrev pub assigned : List Located → Var → Expr → State → Result State Fault
-assigned globals v e s = and_then (value globals e s) (λ w. write globals v w s)
+abbrev pub assignment : List Located → Var → Expr → State → Result State Fault
+assignment globals v e s = and_then (value globals e s) (λ w. write globals v w s)
 
 -- an area write evaluates its pointer, then its expression, then locates and writes
-abbrev pub area_assigned : List Located → Width → Expr → Expr → State → Result State Fault
-area_assigned globals w p e s =
+abbrev pub area_assignment : List Located → Width → Expr → Expr → State → Result State Fault
+area_assignment globals w p e s =
     and_then (value globals p s) (λ at. and_then (value globals e s) (λ v. area_write w at v s))
 
 -- Choices
 
--- what is done with a value, or its fault
+-- what is done with a value, or the fault instead of it
 abbrev pub with_value : Result Value Fault → ℕ → State → (Value → Out) → Out
 with_value (Ok v) units s next = next v
 with_value (Err f) units s next = Faults f s
@@ -78,13 +79,13 @@ Guarded = Worth × Sem
 abbrev pub Labelled : Type 0
 Labelled = List ℤ × Sem
 
--- the first arm whose test is TRUE, or else the statements after ELSE
+-- the statements of the first arm whose test is TRUE, or else those after ELSE
 abbrev pub first_true : List Guarded → Sem → Sem
 first_true [] other units s = other units s
 first_true (arm ∷ rest) other units s =
     with_value (arm.0 s) units s (λ v. if is_set v then arm.1 units s else first_true rest other units s)
 
--- the first arm that has the value, or else the statements after ELSE
+-- the statements of the first arm that has the value, or else those after ELSE
 abbrev pub first_with : ℤ → List Labelled → Sem → Sem
 first_with n [] other units s = other units s
 first_with n (arm ∷ rest) other units s =
@@ -92,7 +93,7 @@ first_with n (arm ∷ rest) other units s =
 
 -- Loops
 
--- what follows the body of a loop: EXIT ends the loop, and its end and CONTINUE lead to the test again
+-- what follows the body of a loop: EXIT ends the loop, and after its end and CONTINUE the test is evaluated again
 abbrev pub after_body : Out → Sem → Out
 after_body (Normal units s) again = again units s
 after_body (Exits units s) again = Normal units s
@@ -107,7 +108,7 @@ turn test body again zero s = NoUnits s
 turn test body again (suc units) s =
     with_value (test s) units s (λ v. if is_set v then after_body (body units s) again else Normal units s)
 
--- at most so many turns
+-- at most this many turns
 abbrev pub turns : ℕ → Worth → Sem → Sem
 turns zero test body units s = NoUnits s
 turns (suc most) test body units s = turn test body (turns most test body) units s
@@ -127,8 +128,8 @@ Calls = ℕ → List Var → Sem
 
 -- one layer of a statement, in a text with these globals and calls
 abbrev pub stmt_step : List Located → Calls → S.Stmt-F Sem Guarded Labelled → Sem
-stmt_step globals calls (S.Assign v e) units s = changed (assigned globals v e s) units s
-stmt_step globals calls (S.AreaWrite w p e) units s = changed (area_assigned globals w p e s) units s
+stmt_step globals calls (S.Assign v e) units s = state_or_fault (assignment globals v e s) units s
+stmt_step globals calls (S.AreaWrite w p e) units s = state_or_fault (area_assignment globals w p e s) units s
 stmt_step globals calls (S.Invoke n actuals) units s = calls n actuals units s
 stmt_step globals calls (S.If arms other) units s = first_true arms (in_order other) units s
 stmt_step globals calls (S.Case e arms other) units s =
@@ -138,19 +139,19 @@ stmt_step globals calls S.Exit units s = Exits units s
 stmt_step globals calls S.Continue units s = Continues units s
 stmt_step globals calls S.Return units s = Returns units s
 
--- an arm of an IF whose statements mean what is given
+-- an arm of an IF, by what its statements do
 abbrev pub arm_step : List Located → S.Arm-F Sem Guarded Labelled → Guarded
 arm_step globals arm = (value globals arm.test, in_order arm.body)
 
--- an arm of a CASE whose statements mean what is given
+-- an arm of a CASE, by what its statements do
 abbrev pub case_step : S.CaseArm-F Sem Guarded Labelled → Labelled
 case_step arm = (arm.labels, in_order arm.body)
 
--- each statement
+-- what a statement does
 abbrev pub meaning : List Located → Calls → Stmt → Sem
 meaning globals calls = fold-Stmt Sem Guarded Labelled (stmt_step globals calls) (arm_step globals) case_step
 
--- the statements of a body
+-- what the statements of a body do
 abbrev pub body_meaning : List Located → Calls → List Stmt → Sem
 body_meaning globals calls body = in_order (map (meaning globals calls) body)
 

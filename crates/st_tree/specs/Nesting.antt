@@ -1,5 +1,6 @@
--- How deep a text nests that spells a tree: IF, CASE, WHILE and brackets that are open, and `-` and NOT whose
--- operand is not complete; and of an operator between operands also how high the tree to its left is.
+-- How deep a text nests. The IF, CASE, WHILE and brackets count that are open, and each `-` and NOT whose operand is
+-- not complete; and of an operator between operands also how high the tree to its left is.
+-- Held against: this project's own bounds.
 use Rattle.std.specs.Prelude.{ℕ, suc, max, List, map}
 use Rattle.s7_base.specs.Numbers.{greatest}
 use Rattle.st_tree.specs.Form.{Form, area_read, canon, convert, digits_to, group, infix_of, literal, prefix, select, shift, variable}
@@ -22,8 +23,8 @@ form_height (select f g h) = suc (max (max (form_height f) (form_height g)) (for
 form_height (shift op f g) = suc (max (form_height f) (form_height g))
 form_height (area_read w f) = suc (form_height f)
 
--- how many levels an expression opens, with its brackets: what stands in brackets, or after `-` or NOT, is one
--- deeper, and an operator between operands is as deep as the tree to its left is high
+-- how many levels an expression opens, with its brackets: what is in brackets, or after `-` or NOT, is one deeper,
+-- and an operator between operands is as deep as the tree to its left is high
 abbrev pub form_nesting : Form → ℕ
 form_nesting (literal ty n) = 0
 form_nesting (variable v) = 0
@@ -52,11 +53,11 @@ nesting_step S.Exit = 0
 nesting_step S.Continue = 0
 nesting_step S.Return = 0
 
--- an arm of an IF
+-- how many levels an arm of an IF opens inside it, by those of its parts
 abbrev pub arm_step : Arm-F ℕ ℕ ℕ → ℕ
 arm_step arm = max (expression_nesting arm.test) (greatest arm.body)
 
--- an arm of a CASE
+-- how many levels an arm of a CASE opens inside it, by those of its statements
 abbrev pub case_step : CaseArm-F ℕ ℕ ℕ → ℕ
 case_step arm = greatest arm.body
 

@@ -1,4 +1,5 @@
--- The places that a text may name.
+-- Places that a text may name. Their bytes lie in their area, and a bit has a number from 0 to 7.
+-- Held against: IEC 61131-3, 'Directly represented variables', and this project's own bounds.
 use Rattle.std.specs.Prelude.{ℕ, Bool, false, ◌&&◌, ◌==◌, nat_le}
 use Rattle.memory_areas.specs.Access.{is_byte_in}
 use Rattle.memory_areas.specs.declared.place.Area.{Area}
@@ -8,7 +9,7 @@ use Rattle.memory_areas.specs.declared.place.AreaName.TheVariants as area
 use Rattle.s7_base.specs.declared.word.Width.{Width}
 use Rattle.s7_base.specs.declared.word.Width.TheVariants as width
 
--- a bit has a number from 0 to 7, a byte or more has none
+-- a bit number that a width has: 0 to 7 for a bit, 0 for a byte or more
 abbrev pub is_bit_of : Width → ℕ → Bool
 is_bit_of width.Bit bit = nat_le bit 7
 is_bit_of width.Byte bit = bit == 0
@@ -23,7 +24,7 @@ is_place a w byte bit = is_byte_in a w byte && is_bit_of w bit
 abbrev pub is_block_number : ℕ → Bool
 is_block_number n = nat_le 1 n && nat_le n 65535
 
--- a global lies on I, Q or M
+-- a global is on I, Q or M
 abbrev pub is_located : Area → Width → ℕ → ℕ → Bool
 is_located place.I w byte bit = is_place area.I w byte bit
 is_located place.Q w byte bit = is_place area.Q w byte bit

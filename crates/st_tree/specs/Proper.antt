@@ -1,5 +1,6 @@
--- The trees that a text can have: the rules of the language, on the tree itself. What is asked of a unit names
--- that unit, the globals and the heads of the others alone.
+-- The trees that texts can have. These are the rules of the language, on the tree itself. What is asked of a unit
+-- names that unit, the globals and the heads of the others alone.
+-- Held against: IEC 61131-3, 'Program organization units', and this project's own bounds.
 use Rattle.std.specs.Prelude.{◌≡◌, ◌≢◌, ℕ, ◌≤◌, ◌<◌, true, false, ◌++◌, List, [], map, All, Some, slice_get}
 use Rattle.memory_areas.specs.Areas.{AreBlocks}
 use Rattle.memory_areas.specs.declared.data_block.DataBlock.{DataBlock}
@@ -10,7 +11,7 @@ use Rattle.st_tree.specs.Naming.{are_apart, is_free, is_name, key_of, may_name_l
 use Rattle.st_tree.specs.Nesting.{body_nesting}
 use Rattle.st_tree.specs.PlaceRules.{is_located}
 use Rattle.st_tree.specs.Values.{width_at}
-use Rattle.st_tree.specs.WellTyped.{Head, are_well_typed, head_of, keys_of, sight_of}
+use Rattle.st_tree.specs.WellTyped.{Head, are_well_typed, head_of, keys_of, unit_scope_of}
 use Rattle.st_tree.specs.declared.expr.StType.TheVariants as type
 use Rattle.st_tree.specs.declared.program.Local.{Local}
 use Rattle.st_tree.specs.declared.program.Located.{Located}
@@ -50,7 +51,7 @@ pub record IsProperUnit (globals : List Located) (heads : List Head) (unit : Pou
   pub formals : All IsFormal unit.formals
   pub locals : All IsLocal unit.locals
   pub apart : are_apart (keys_of unit.formals ++ keys_of unit.locals) ≡ true
-  pub typed : are_well_typed (sight_of globals heads unit) false unit.body ≡ true
+  pub typed : are_well_typed (unit_scope_of globals heads unit) false unit.body ≡ true
   pub nesting : body_nesting unit.body ≤ deepest
 
 -- the keys of what is declared outside the units, but for data blocks, whose names nothing else has

@@ -2,7 +2,7 @@
 use Rattle.std.specs.Prelude.{◌≡◌, Some}
 use Rattle.st_tree.specs.Spelling.{names_in}
 use Rattle.st_tree.specs.Typing.{type_of}
-use Rattle.st_tree.specs.WellTyped.{expression_type, sight_in}
+use Rattle.st_tree.specs.WellTyped.{expression_type, unit_scope_in}
 use Rattle.st_tree.specs.declared.expr.Expr.{Expr}
 use Rattle.st_tree.specs.declared.expr.StType.{StType}
 use Rattle.st_tree.specs.declared.program.Pou.{Pou}
@@ -12,4 +12,4 @@ use Rattle.st_tree.specs.declared.program.StProgram.{StProgram}
 abbrev pub TypesAgree : Type 0
 TypesAgree =
     (tree : StProgram) (unit : Pou) (e : Expr) (ty : StType)
-    → expression_type (sight_in tree unit) e ≡ Some ty → type_of (names_in tree unit) e ≡ ty
+    → expression_type (unit_scope_in tree unit) e ≡ Some ty → type_of (names_in tree unit) e ≡ ty

@@ -1,5 +1,6 @@
--- The canonical spelling of a tree: words in capitals, names as declared, four blanks for each level,
--- one blank around an operator and `:=`, a statement, a heading, a declaration or a label list to a line.
+-- The canonical spelling of a tree. Words are in capitals, names as declared, with four blanks for each level, one
+-- blank around an operator and `:=`, and a statement, a heading, a declaration or a label list to a line.
+-- Held against: IEC 61131-3, 'Structured Text', and this project's own spelling.
 use Rattle.std.specs.Prelude.{ℕ, zero, suc, ◌+◌, ◌-◌, ◌/◌, ◌%◌, ◌==◌, Bool, true, false, ℤ, pos, unsigned_abs, int_lt, List, [], ◌∷◌, ◌++◌, codes, decimal, map, flat_map, length, slice_get, Option, Some, None, if◌then◌else◌}
 use Rattle.std.specs.Ordering.{int_eq}
 use Rattle.digit_texts.specs.Digits.{hex_digit}
@@ -29,9 +30,9 @@ use Rattle.st_tree.specs.declared.program.StProgram.{StProgram}
 -- Pieces
 
 -- texts with a comma and a blank between each two
-abbrev pub listed : List (List ℕ) → List ℕ
-listed [] = []
-listed (first ∷ more) = first ++ flat_map (λ text. codes ", " ++ text) more
+abbrev pub comma_list : List (List ℕ) → List ℕ
+comma_list [] = []
+comma_list (first ∷ more) = first ++ flat_map (λ text. codes ", " ++ text) more
 
 -- four blanks for each level
 abbrev pub blanks : ℕ → List ℕ
@@ -42,7 +43,7 @@ blanks (suc level) = codes "    " ++ blanks level
 unfoldable pub line : ℕ → List ℕ → List ℕ
 line level text = blanks level ++ text ++ codes "\n"
 
--- the last so many hexadecimal digits of a number
+-- the lowest hexadecimal digits of a number, as many as a count says
 unfoldable pub hexadecimal : ℕ → ℕ → List ℕ
 hexadecimal zero n = []
 hexadecimal (suc count) n = hexadecimal count (n / 16) ++ hex_digit (n % 16) ∷ []
@@ -96,37 +97,37 @@ literal_text type.Lint n = codes "LINT#" ++ integer_text n
 -- Expressions
 
 -- an expression with its brackets
-abbrev pub written : Names → Form → List ℕ
-written names (literal ty n) = literal_text ty n
-written names (variable v) = var_text names v
-written names (group f) = codes "(" ++ written names f ++ codes ")"
-written names (prefix op f) = prefix_word op ++ written names f
-written names (infix_of op f g) = written names f ++ infix_word op ++ written names g
-written names (digits_to op f) = prefix_word op ++ written names f ++ codes ")"
-written names (convert from to f) =
-    type_word from ++ codes "_TO_" ++ type_word to ++ codes "(" ++ written names f ++ codes ")"
-written names (select f g h) =
-    codes "SEL(" ++ written names f ++ codes ", " ++ written names g ++ codes ", " ++ written names h ++ codes ")"
-written names (shift op f g) =
-    shift_word op ++ codes "(" ++ written names f ++ codes ", " ++ written names g ++ codes ")"
-written names (area_read w f) = codes "AREA_READ_" ++ width_word w ++ codes "(" ++ written names f ++ codes ")"
+abbrev pub form_text : Names → Form → List ℕ
+form_text names (literal ty n) = literal_text ty n
+form_text names (variable v) = var_text names v
+form_text names (group f) = codes "(" ++ form_text names f ++ codes ")"
+form_text names (prefix op f) = prefix_word op ++ form_text names f
+form_text names (infix_of op f g) = form_text names f ++ infix_word op ++ form_text names g
+form_text names (digits_to op f) = prefix_word op ++ form_text names f ++ codes ")"
+form_text names (convert from to f) =
+    type_word from ++ codes "_TO_" ++ type_word to ++ codes "(" ++ form_text names f ++ codes ")"
+form_text names (select f g h) =
+    codes "SEL(" ++ form_text names f ++ codes ", " ++ form_text names g ++ codes ", " ++ form_text names h ++ codes ")"
+form_text names (shift op f g) =
+    shift_word op ++ codes "(" ++ form_text names f ++ codes ", " ++ form_text names g ++ codes ")"
+form_text names (area_read w f) = codes "AREA_READ_" ++ width_word w ++ codes "(" ++ form_text names f ++ codes ")"
 
 -- the text of an expression, in brackets only where precedence asks for them
 abbrev pub expr_text : Names → Expr → List ℕ
-expr_text names e = written names (canon e)
+expr_text names e = form_text names (canon e)
 
 -- Statements
 
--- what a statement spells at a level, each level four blanks
+-- the text of a statement at a level, each level four blanks
 abbrev pub Text : Type 0
 Text = ℕ → List ℕ
 
--- what an arm of an IF spells after its first word, `IF ` or `ELSIF `, at the level of its statement
+-- the text of an arm of an IF after its first word, `IF ` or `ELSIF `, at the level of its statement
 abbrev pub ArmText : Type 0
 ArmText = List ℕ → ℕ → List ℕ
 
--- what an arm of a CASE spells, by the type of the selector, in which labels are spelled, at the level
--- of its statement
+-- the text of an arm of a CASE, by the type of the selector, in which labels are spelled, at the level of its
+-- statement
 abbrev pub CaseText : Type 0
 CaseText = StType → ℕ → List ℕ
 
@@ -134,12 +135,12 @@ CaseText = StType → ℕ → List ℕ
 abbrev pub texts_at : ℕ → List Text → List ℕ
 texts_at level texts = flat_map (λ text. text level) texts
 
--- the statements where no arm applies; none are not written
+-- ELSE and the statements after it; without statements it is not written
 abbrev pub else_text : ℕ → List Text → List ℕ
 else_text level [] = []
 else_text level (first ∷ more) = line level (codes "ELSE") ++ texts_at (level + 1) (first ∷ more)
 
--- the first arm begins with IF, each other with ELSIF
+-- the text of the arms of an IF: the first begins with IF, each other with ELSIF
 abbrev pub arms_text : ℕ → List ArmText → List ℕ
 arms_text level [] = []
 arms_text level (first ∷ more) = first (codes "IF ") level ++ flat_map (λ arm. arm (codes "ELSIF ") level) more
@@ -164,7 +165,7 @@ actuals_text names (formal ∷ formals) (v ∷ vars) =
 -- a call of a unit: its name, and each formal with its variable in brackets
 abbrev pub call_text : Names → Option Pou → List Var → List ℕ
 call_text names unit vars =
-    unit_name unit ++ codes "(" ++ listed (actuals_text names (formals_of unit) vars) ++ codes ");"
+    unit_name unit ++ codes "(" ++ comma_list (actuals_text names (formals_of unit) vars) ++ codes ");"
 
 -- a label of an arm of a CASE after others, a literal of the selector's type
 unfoldable pub label_text : StType → ℤ → List ℕ
@@ -174,7 +175,8 @@ label_text ty label = codes ", " ++ literal_text ty label
 abbrev pub labels_text : StType → ℤ → List ℤ → List ℕ
 labels_text ty first more = literal_text ty first ++ flat_map (label_text ty) more
 
--- labels on a line one level in, and statements behind; an arm without labels, which never applies, is not written
+-- labels on a line one level in, and statements after them; an arm without labels, which never applies, is not
+-- written
 abbrev pub labelled_text : StType → ℕ → List ℤ → List ℕ → List ℕ
 labelled_text ty level [] body = []
 labelled_text ty level (first ∷ more) body = line (level + 1) (labels_text ty first more ++ codes ":") ++ body
@@ -256,21 +258,21 @@ unit_text tree unit =
 
 -- Globals
 
--- a byte
+-- a byte as `16#` and two digits
 abbrev pub byte_text : ℕ → List ℕ
 byte_text b = codes "16#" ++ hexadecimal 2 b
 
--- so many equal bytes; two or more have their count
+-- equal bytes; two or more have their count
 abbrev pub run_text : ℕ → ℕ → List ℕ
 run_text count b = if count == 1 then byte_text b else decimal count ++ codes "(" ++ byte_text b ++ codes ")"
 
--- the list of these bytes after so many equal ones
+-- the list of these bytes after equal ones
 abbrev pub list_behind : ℕ → ℕ → List ℕ → List ℕ
 list_behind count b [] = run_text count b
 list_behind count b (next ∷ rest) =
     if b == next then list_behind (count + 1) b rest else run_text count b ++ codes ", " ++ list_behind 1 next rest
 
--- the initial value: bytes, equal ones that stand together as one item; without bytes there is none
+-- the initial value: bytes, equal ones in sequence as one item; without bytes there is none
 abbrev pub initial_text : List ℕ → List ℕ
 initial_text [] = []
 initial_text (b ∷ rest) = codes " := [" ++ list_behind 1 b rest ++ codes "]"

@@ -1,7 +1,9 @@
--- What a text does when one of its units is called from outside, within a number of units of work.
+-- The run of a called unit. What a text does when one of its units is called from outside, within a number of units
+-- of work, and which calls fit.
+-- Held against: IEC 61131-3, 'Program organization units', and this project's own runs.
 use Rattle.std.specs.Prelude.{◌≡◌, ℕ, pos, Bool, true, false, not, ◌&&◌, ℤ, List, [], ◌∷◌, ◌++◌, codes, decimal, find, IsSome, Option, Some, None}
 use Rattle.std.specs.Str.{str_eq_ignore_ascii_case}
-use Rattle.memory_areas.specs.Access.{aimed, fault_of}
+use Rattle.memory_areas.specs.Access.{aim_of_place, fault_of}
 use Rattle.memory_areas.specs.Areas.{Areas, block_of, fresh, with_areas}
 use Rattle.memory_areas.specs.End.{End, Ended, Going}
 use Rattle.memory_areas.specs.declared.data_block.DataBlock.{DataBlock}
@@ -38,12 +40,12 @@ is_program (name.Ob n) = true
 is_program (name.Fc n) = false
 is_program (name.Fb n) = false
 
--- both are programs, or both are functions
+-- two units are both programs, or both functions
 abbrev pub is_same_kind : Bool → Bool → Bool
 is_same_kind false b = not b
 is_same_kind true b = b
 
--- a unit is the one that a call means: it has its name, case ignored, and its kind
+-- a unit is the one that a call means: it has its name, in any case, and its kind
 abbrev pub is_meant : BlockName → Pou → Bool
 is_meant called unit =
     str_eq_ignore_ascii_case unit.name (called_name called) && is_same_kind (is_program called) unit.program
@@ -52,7 +54,7 @@ is_meant called unit =
 abbrev pub unit_called : BlockName → List Pou → Option Pou
 unit_called called units = find (is_meant called) units
 
--- a place that a call may give from outside: one of I, Q, M or a data block
+-- a place that a call may give from outside is one of I, Q, M or a data block
 abbrev pub IsOutsidePlace : Area → Type 0
 IsOutsidePlace area.I = Unit {0}
 IsOutsidePlace area.Q = Unit {0}
@@ -65,7 +67,7 @@ IsOutsidePlace (area.Cell d) = ⊥
 pub record FitsFormal (blocks : List DataBlock) (formal : Local) (actual : Place × Width) : Type 0 where
   pub width : actual.1 ≡ width_at formal.ty
   pub outside : IsOutsidePlace actual.0.area
-  pub lies : fault_of (aimed actual.0) actual.1 (fresh blocks) ≡ None
+  pub lies : fault_of (aim_of_place actual.0) actual.1 (fresh blocks) ≡ None
 
 -- there are as many actuals as formals, and each fits
 abbrev pub FitFormals : List DataBlock → List Local → List (Place × Width) → Type 0
@@ -75,18 +77,18 @@ FitFormals blocks (formal ∷ formals) [] = ⊥
 FitFormals blocks (formal ∷ formals) (actual ∷ actuals) =
     FitsFormal blocks formal actual × FitFormals blocks formals actuals
 
--- the unit of a function block has no formals, and the instance is there
+-- the unit of a function block has no formals, and the instance exists
 pub record FitsInstance (blocks : List DataBlock) (unit : Pou) (instance : ℕ) : Type 0 where
   pub formals : unit.formals ≡ []
   pub block : IsSome (block_of instance blocks)
 
--- a call fits the unit that it means; a program has no formals, so its call's actuals are not looked at
+-- a call fits the unit that it means; a program has no formals, so the actuals of its call are not tested
 abbrev pub FitsUnit : List DataBlock → Pou → BlockName → ℕ → List (Place × Width) → Type 0
 FitsUnit blocks unit (name.Ob n) instance actuals = Unit {0}
 FitsUnit blocks unit (name.Fc n) instance actuals = FitFormals blocks unit.formals actuals
 FitsUnit blocks unit (name.Fb n) instance actuals = FitsInstance blocks unit instance
 
--- a call fits the unit that it means, if one is there
+-- a call fits the unit that it means, if the unit exists
 abbrev pub FitsIfThere : StProgram → Call → Option Pou → Type 0
 FitsIfThere tree call None = ⊥
 FitsIfThere tree call (Some unit) = FitsUnit tree.dbs unit call.block call.instance call.actuals
@@ -97,14 +99,14 @@ FitsSt tree call = FitsIfThere tree call (unit_called call.block tree.pous)
 
 -- Runs
 
--- what the formals of a unit stand for that is called from outside: the places of the actuals, each in
--- the type of its formal; a call that fits has one for each
+-- the references of the formals of a unit that is called from outside: the places of the actuals, each in the type of
+-- its formal; a call that fits has one for each
 abbrev pub references : List Local → List (Place × Width) → List Reference
 references [] actuals = []
 references (formal ∷ formals) [] = []
 references (formal ∷ formals) (actual ∷ actuals) = reference.Place actual.0 formal.ty ∷ references formals actuals
 
--- what the formals stand for in a call from outside; only functions have formals
+-- the references of the formals in a call from outside; only functions have formals
 abbrev pub formals_given : BlockName → List Local → List (Place × Width) → List Reference
 formals_given (name.Ob n) formals actuals = []
 formals_given (name.Fc n) formals actuals = references formals actuals
@@ -130,7 +132,7 @@ state_at_start unit call areas =
       activations = activation_of unit (formals_given call.block unit.formals call.actuals) ∷ [];
     }
 
--- what can be seen of the statements of the first unit, which ended so
+-- the end of a run, by that of the statements of its first unit
 abbrev pub end_seen : Out → End
 end_seen (Normal units s) = Ended s.memory.areas None
 end_seen (Exits units s) = Ended s.memory.areas None
@@ -139,7 +141,7 @@ end_seen (Returns units s) = Ended s.memory.areas None
 end_seen (Faults f s) = Ended s.memory.areas (Some f)
 end_seen (NoUnits s) = Going
 
--- the run of a unit, which takes no unit of work for its own call; one that is not there never ends
+-- the run of a unit, which takes no unit of work for its own call; one that does not exist never ends
 abbrev pub run_of_unit : StProgram → Option Pou → Call → Areas → ℕ → End
 run_of_unit tree None call memory units = Going
 run_of_unit tree (Some unit) call memory units =

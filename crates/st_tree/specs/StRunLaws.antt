@@ -17,7 +17,7 @@ EndStays =
     (tree : StProgram) (call : Call) (memory : Areas) (units more : ℕ) (after : Areas) (f : Option Fault) → units ≤ more
     → st_run tree call memory units ≡ Ended after f → st_run tree call memory more ≡ Ended after f
 
--- calls that may nest deeper than there are units mean the same
+-- a greater limit on the nesting of calls than the number of units does not change what calls do
 abbrev pub DepthIsFree : Type 0
 DepthIsFree =
     (tree : StProgram) (body : List Stmt) (units deep : ℕ) (s : State) → units ≤ deep

@@ -1,6 +1,8 @@
--- The state of a run: memory, registers and activations; and how variables are located, read and written.
+-- The state of a text's run. It has memory, register variables and activations; also how variables are located, read
+-- and written.
+-- Held against: IEC 61131-3, 'Variables', and this project's own register variables.
 use Rattle.std.specs.Prelude.{ℕ, zero, suc, ◌-◌, ◌==◌, ℤ, pos, Bool, if◌then◌else◌, List, [], ◌∷◌, length, slice_get, slice_set, Option, Some, None, Result, Ok, Err}
-use Rattle.memory_areas.specs.Access.{and_then, area_named, place_aimed, pointed, read_bit, read_byte, read_dword, read_word, write_bit, write_byte, write_dword, write_word}
+use Rattle.memory_areas.specs.Access.{and_then, area_named, place_aimed, aim_of_pointer, read_bit, read_byte, read_dword, read_word, write_bit, write_byte, write_dword, write_word}
 use Rattle.memory_areas.specs.Areas.{Contents}
 use Rattle.memory_areas.specs.declared.place.Area.TheVariants as area
 use Rattle.memory_areas.specs.declared.place.AreaName.{AreaName}
@@ -22,12 +24,12 @@ use Rattle.st_tree.specs.declared.state.Reference.TheVariants as reference
 
 -- The state
 
--- a unit that runs: the values of its locals, and what its formals stand for
+-- a unit that runs: the values of its locals, and the references of its formals
 pub record Activation : Type 0 where
   pub locals : List Value
   pub formals : List Reference
 
--- the memory, the number that each register variable holds, and the activations, the running one last
+-- the memory, the number of each register variable, and the activations, the running one last
 pub record State : Type 0 where
   pub memory : Contents
   pub registers : Reg → ℤ
@@ -37,17 +39,17 @@ pub record State : Type 0 where
 abbrev pub depth : State → ℕ
 depth s = length s.activations - 1
 
--- the values of the locals of an activation; none where it is not there
+-- the values of the locals of an activation; none where it does not exist
 abbrev pub locals_of : Option Activation → List Value
 locals_of None = []
 locals_of (Some a) = a.locals
 
--- what the formals of an activation stand for; none where it is not there
+-- the references of the formals of an activation; none where it does not exist
 abbrev pub formals_of : Option Activation → List Reference
 formals_of None = []
 formals_of (Some a) = a.formals
 
--- two register variables are the same one
+-- two register variables are equal
 abbrev pub is_same_register : Reg → Reg → Bool
 is_same_register q r = place q == place r
 
@@ -93,11 +95,11 @@ di_number s = pattern 16 (s.registers reg.DiNo)
 abbrev pub place_of : AreaName → ℕ → ℕ → State → Place
 place_of a byte x s = record { area = area_named a (db_number s) (di_number s) (depth s); byte = byte; bit = x }
 
--- the place that a pointer names, a DWORD, with the area code of a place that there is
+-- the place that a pointer names, a DWORD, whose area code must be that of an area
 abbrev pub pointed_at : Value → State → Result Place Fault
-pointed_at p s = place_aimed (pointed (pattern 32 p.n) (db_number s) (di_number s) (depth s))
+pointed_at p s = place_aimed (aim_of_pointer (pattern 32 p.n) (db_number s) (di_number s) (depth s))
 
--- the value that a place in memory holds, read in its type; a LINT has no place, and 4 bytes
+-- the value of a place in memory, read in its type; a LINT has no place, and is read from 4 bytes
 abbrev pub read_place : StType → Place → Contents → Result Value Fault
 read_place type.Bool p memory = and_then (read_bit p memory) (λ b. Ok (flag b))
 read_place type.Byte p memory = and_then (read_byte p memory) (λ n. Ok (typed type.Byte (pos n)))
@@ -119,12 +121,12 @@ write_place type.Lint p v memory = write_dword p (pattern 32 v.n) memory
 
 -- Variables
 
--- what is there; a variable that no declaration has, as no proper tree names, lies nowhere
+-- a variable, if it exists, else the fault `AreaLength`; no proper tree names one that no declaration has
 abbrev pub there : {A : Type 0} → Option A → Result A Fault
 there None = Err AreaLength
 there (Some x) = Ok x
 
--- what a variable of the running unit stands for; whether a place is there is not tested
+-- the reference of a variable of the running unit; whether a place exists is not tested
 abbrev pub reference_of : List Located → Var → State → Result Reference Fault
 reference_of globals (var.Register r) s = Ok (reference.Register r)
 reference_of globals (var.Local i) s = Ok (reference.Local (depth s) i)

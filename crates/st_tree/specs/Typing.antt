@@ -1,4 +1,5 @@
--- The types of variables and expressions.
+-- The types of variables and expressions. Whether the operands of an expression fit is not asked here.
+-- Held against: IEC 61131-3, 'Data types' and 'Expressions'.
 use Rattle.std.specs.Prelude.{List, slice_get, Option, Some, None}
 use Rattle.st_tree.specs.State.{type_of_register}
 use Rattle.st_tree.specs.Values.{type_of_width}
@@ -23,12 +24,12 @@ pub record Names : Type 0 where
   pub formals : List Local
   pub locals : List Local
 
--- the type of a local or a formal; a position past the last has none, and BOOL stands for it
+-- the type of a local or a formal; a position past the last has none, and counts as BOOL
 abbrev pub local_type : Option Local → StType
 local_type None = type.Bool
 local_type (Some local) = local.ty
 
--- the type of a global; a position past the last has none, and BOOL stands for it
+-- the type of a global; a position past the last has none, and counts as BOOL
 abbrev pub global_type : Option Located → StType
 global_type None = type.Bool
 global_type (Some global) = global.ty

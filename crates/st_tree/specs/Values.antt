@@ -1,4 +1,5 @@
--- Values: what a number leaves in a type, and the patterns and truth values that values are.
+-- The values of each type. What a number leaves in a type, and the patterns and truth values that values are.
+-- Held against: IEC 61131-3, 'Data types' and 'Data type conversion functions'.
 use Rattle.std.specs.Prelude.{ℕ, ℤ, pos, Bool, true, false, not}
 use Rattle.std.specs.Ordering.{int_eq}
 pub use Rattle.s7_base.specs.SignedNumbers.{pattern, number}
@@ -35,7 +36,7 @@ width_at type.Int = width.Word
 width_at type.Dint = width.Dword
 width_at type.Lint = width.Dword
 
--- what a number leaves in a type: a pattern in a bit type, and a number type wraps
+-- the number of a type that a number becomes: a bit type has its pattern, and a number type wraps
 abbrev pub fit : StType → ℤ → ℤ
 fit type.Bool z = pos (pattern 1 z)
 fit type.Byte z = pos (pattern 8 z)
@@ -45,11 +46,11 @@ fit type.Int z = number 16 (pattern 16 z)
 fit type.Dint z = number 32 (pattern 32 z)
 fit type.Lint z = number 64 (pattern 64 z)
 
--- the value of a type that a number leaves
+-- the value of a type that a number becomes
 abbrev pub typed : StType → ℤ → Value
 typed ty z = record { ty = ty; n = fit ty z }
 
--- the value of a type that a pattern stands for
+-- the value of a type that has this pattern
 abbrev pub of_bits : StType → ℕ → Value
 of_bits ty bits = typed ty (pos bits)
 
@@ -57,7 +58,7 @@ of_bits ty bits = typed ty (pos bits)
 abbrev pub bits_of : Value → ℕ
 bits_of v = pattern (width_of v.ty) v.n
 
--- FALSE is 0 and TRUE is 1
+-- the number of a truth value: 0 of FALSE and 1 of TRUE
 abbrev pub number_of : Bool → ℤ
 number_of false = pos 0
 number_of true = pos 1

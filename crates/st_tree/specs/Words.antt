@@ -1,4 +1,6 @@
--- The words and letters of the language as a canonical text has them, all in capitals.
+-- The words of Structured Text. They name registers, areas, widths, types, operators and functions, all in capitals
+-- as a canonical text has them.
+-- Held against: IEC 61131-3, 'Keywords', and this project's own register variables.
 use Rattle.std.specs.Prelude.{ℕ, List, ◌++◌, codes}
 use Rattle.memory_areas.specs.declared.place.AreaName.{AreaName}
 use Rattle.memory_areas.specs.declared.place.AreaName.TheVariants as area
@@ -83,7 +85,7 @@ operator_word binary.And = codes "AND"
 operator_word binary.Xor = codes "XOR"
 operator_word binary.Or = codes "OR"
 
--- the same with a blank on either side, as it is written
+-- an operator between its operands, with a blank on either side, as it is written
 abbrev pub infix_word : BinaryOp → List ℕ
 infix_word op = codes " " ++ (operator_word op ++ codes " ")
 

@@ -5,7 +5,7 @@ use crate::program::{Located, Pou, Stmt};
 use memory_areas::DataBlock;
 use s7_base::List;
 
-/// Where a unit goes on behind a node. The numbers are positions of nodes of the same unit.
+/// Where a unit continues after a node. The numbers are positions of nodes of the same unit.
 #[derive(Drop)]
 pub enum StExit {
     /// At the next node.
@@ -13,7 +13,7 @@ pub enum StExit {
 
     Jump(u32),
 
-    /// There where the test is TRUE, else at the next node.
+    /// At this node where the test is TRUE, else at the next node.
     Branch(Expr, u32),
 
     /// The unit ends where the test is TRUE, else the next node follows.
@@ -26,7 +26,7 @@ pub enum StExit {
     End,
 }
 
-/// Statements without a way out of them, and where the unit goes on behind them.
+/// Statements without jumps, and where the unit continues after them.
 #[derive(Drop)]
 pub struct StNode {
     pub steps: List<Stmt>,

@@ -1,7 +1,7 @@
 //! Laws of graph runs. Each is the contract of a function that does nothing.
 ghost use Rattle.st_tree.specs.GraphRunLaws.{GraphEndStays, LengthIsFree};
 
-/// A graph run may go on over more nodes than its definition lets it: it comes to no more of them.
+/// A graph run may pass more nodes than its definition lets it: it reaches no more of them.
 pub fn length_is_free()
     ensures { LengthIsFree }
 {}

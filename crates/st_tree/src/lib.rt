@@ -1,11 +1,10 @@
 //! The tree of an ST text, how a tree is spelled, and what it does.
 //!
-//! Stands on `s7_base`, `digit_texts`, `memory_areas`, `address_registers` and `bcd_words`. The trees are
-//! those of the whole language, and so are the raw trees, which have names as texts and lines, and the
-//! tokens. `specs/` has the canonical spelling of every tree and the types of expressions; the value of
-//! an expression, the meaning of statements and the run of a unit (`run_laws`); and which trees a text
-//! can have, whose runs keep types (`type_laws`). How a text is read stands in `st_lexer`, `st_types` and
-//! `st_parser`.
+//! Uses `s7_base`, `digit_texts`, `memory_areas`, `address_registers` and `bcd_words`. The trees are those of
+//! the whole language, and so are the raw trees, which have names as texts and lines, and the tokens.
+//! `specs/` defines the canonical spelling of every tree and the types of expressions; the value of an
+//! expression, the meaning of statements and the run of a unit (`run_laws`); and which trees a text can have,
+//! whose runs keep types (`type_laws`). How a text is read is in `st_lexer`, `st_types` and `st_parser`.
 #![tactic(auto)]
 
 pub use expr::{BinaryOp, Expr, ShiftOp, StType, UnaryOp, Var};

@@ -89,7 +89,7 @@ const TYPES: [StType; 7] = [
 
 // Letters and digits
 
-/// Two letters in any case, and a number after them.
+/// Whether a name is two letters in any case and a number after them.
 fn is_numbered(letters: &str, name: &[u8]) -> bool
     ensures { result ≡ is_numbered letters.now name.now }
 {
@@ -131,7 +131,7 @@ fn is_conversion(from: StType, to: StType) -> bool
     }
 }
 
-/// The word is the name of the conversion from one type to another, in any case.
+/// Whether the word is the name of the conversion from one type to another, in any case.
 #[tactic(auto, using(crate::proofs::NameWords::conversion_is))]
 fn is_word_of(name: &[u8], from: StType, to: StType) -> bool
     ensures { result ≡ is_same_word name.now (conversion_word from to) }
@@ -143,7 +143,7 @@ fn is_word_of(name: &[u8], from: StType, to: StType) -> bool
         && is_same_word(rest_after(rest, 4), type_word(to))
 }
 
-/// The word is the name of a conversion from a type, in any case.
+/// Whether the word is the name of a conversion from a type, in any case.
 fn is_conversion_from(name: &[u8], from: StType) -> bool
     ensures { result ≡ list_any (λ to. is_conversion from to && is_same_word name.now (conversion_word from to)) types }
 {
@@ -156,14 +156,14 @@ fn is_conversion_word(name: &[u8]) -> bool
     TYPES.iter().any(|from| is_conversion_from(name, *from))
 }
 
-/// No word of the language, in any case.
+/// Whether a name is no word of the language, in any case.
 pub fn is_unreserved(name: &[u8]) -> bool
     ensures { result ≡ is_unreserved name.now }
 {
     !is_keyword(name) && !is_conversion_word(name)
 }
 
-/// A letter or `_`, then letters, digits and `_`, and no word of the language.
+/// Whether a text is a letter or `_`, then letters, digits and `_`, and no word of the language.
 pub fn is_name(name: &[u8]) -> bool
     ensures { result ≡ is_name name.now }
 {
@@ -183,7 +183,7 @@ fn is_register(name: &[u8]) -> bool
     is_listed(name, &REGISTERS)
 }
 
-/// The name of a data block, as DB5.
+/// Whether a name is that of a data block, as DB5.
 pub fn names_block(name: &[u8]) -> bool
     ensures { result ≡ names_block name.now }
 {
@@ -202,28 +202,28 @@ fn is_next(name: &[u8]) -> bool
     is_same_word(name, "NEXT")
 }
 
-/// A name that no word of the language is, for a global on I, Q or M or a formal, where it is a name.
+/// Whether a name that no word of the language is may be that of a global on I, Q or M or of a formal.
 pub fn is_free(name: &[u8]) -> bool
     ensures { result ≡ is_free name.now }
 {
     !is_register(name) && !is_next(name) && !names_block(name) && !is_unit_number(name)
 }
 
-/// A name that a local may have: `NEXT`, or one that is free.
+/// Whether a local may have the name: `NEXT`, or a name that is free.
 pub fn may_name_local(name: &[u8]) -> bool
     ensures { result ≡ may_name_local name.now }
 {
     is_next(name) || is_free(name)
 }
 
-/// A name that a unit may have: OB, FC or FB with a number, or one that is free.
+/// Whether a unit may have the name: OB, FC or FB with a number, or a name that is free.
 pub fn may_name_unit(name: &[u8]) -> bool
     ensures { result ≡ may_name_unit name.now }
 {
     is_unit_number(name) || is_free(name)
 }
 
-/// A name that a global may have: DB with a number for a data block, or one that is free.
+/// Whether a global may have the name: DB with a number for a data block, or a name that is free.
 pub fn may_name_global(name: &[u8]) -> bool
     ensures { result ≡ may_name_global name.now }
 {
@@ -238,7 +238,7 @@ fn zeros_before(digits: &[u8]) -> usize
     digits.iter().take_while(|b| **b == b'0').count()
 }
 
-/// The digits without the zeros that stand before others.
+/// The digits without leading zeros.
 fn without_zeros(digits: &[u8]) -> &[u8]
     ensures { result.now ≡ without_zeros digits.now }
 {

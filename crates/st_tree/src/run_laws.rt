@@ -6,7 +6,7 @@ pub fn end_stays()
     ensures { EndStays }
 {}
 
-/// Calls that may nest deeper than there are units mean the same.
+/// A greater limit on the nesting of calls than the number of units does not change what a call means.
 pub fn depth_is_free()
     ensures { DepthIsFree }
 {}

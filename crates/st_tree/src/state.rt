@@ -1,4 +1,4 @@
-//! Values, and what a formal stands for, as a run of a text has them.
+//! Values, and what a formal means, as a run of a text has them.
 
 use crate::expr::StType;
 use memory_areas::Place;
@@ -12,7 +12,7 @@ pub struct Value {
     pub n: i64,
 }
 
-/// What a variable stands for while a unit runs, and what a formal is given.
+/// What a variable means while a unit runs, and what a formal is given.
 #[derive(Clone, Copy, Debug, PartialEq, Eq)]
 pub enum Reference {
     Register(Reg),

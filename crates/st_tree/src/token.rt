@@ -18,7 +18,7 @@ pub enum StKind {
     Sign,
 }
 
-/// A token: its characters as they are written, and the line on which it stands.
+/// A token: its characters as they are written, and its line.
 #[derive(Debug, Drop, PartialEq)]
 pub struct StToken {
     pub kind: StKind,

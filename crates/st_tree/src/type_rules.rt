@@ -14,7 +14,7 @@ fn place_of(ty: StType) -> u32
     ty as u32
 }
 
-/// Whether two types are the same.
+/// Whether two types are equal.
 pub fn is_type(a: StType, b: StType) -> bool
     ensures { result ≡ is_type a b }
 {

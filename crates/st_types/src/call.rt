@@ -1,11 +1,11 @@
 //! The calls of functions in the statements of a unit, with their lines.
 ghost use Rattle.std.specs.Prelude.{◌≡◌, ◌++◌, map, OnOk};
-ghost use Rattle.st_rules.specs.Calls.{all_calls, call_on, calls_of, calls_of_action, calls_of_arm, calls_of_case_arm, joined};
+ghost use Rattle.st_rules.specs.Calls.{all_calls, call_on, calls_of, calls_of_action, calls_of_arm, calls_of_case_arm, join_calls};
 
 use call_chains::Call;
 use s7_base::{Line, List, NoMemory, Reason};
-use st_rules::scope::Scope;
-use st_statements::callee;
+use st_names::scope::NameScope;
+use st_statement_types::callee;
 use st_tree::{RawArm, RawCaseArm, RawStmt, RawStmtKind, key_of};
 use std::alloc::Global;
 
@@ -22,7 +22,7 @@ fn call_on(line: Line, called: Result<u32, Reason>, calls: &mut List<Call>) -> R
 #[cycle(calls)]
 pub fn all_calls(
     alloc: Global,
-    scope: &Scope,
+    scope: &NameScope,
     raws: &[RawStmt],
     calls: &mut List<Call>,
 ) -> Result<(), NoMemory>
@@ -37,11 +37,11 @@ pub fn all_calls(
 #[cycle(calls)]
 fn calls_of_arms(
     alloc: Global,
-    scope: &Scope,
+    scope: &NameScope,
     raws: &[RawArm],
     calls: &mut List<Call>,
 ) -> Result<(), NoMemory>
-    ensures { OnOk result (calls.new ≡ calls.old ++ joined (map (calls_of_arm scope.now) raws.now)) }
+    ensures { OnOk result (calls.new ≡ calls.old ++ join_calls (map (calls_of_arm scope.now) raws.now)) }
 {
     for raw in raws {
         all_calls(alloc, scope, raw.body.as_slice(), calls)?;
@@ -52,11 +52,11 @@ fn calls_of_arms(
 #[cycle(calls)]
 fn calls_of_case_arms(
     alloc: Global,
-    scope: &Scope,
+    scope: &NameScope,
     raws: &[RawCaseArm],
     calls: &mut List<Call>,
 ) -> Result<(), NoMemory>
-    ensures { OnOk result (calls.new ≡ calls.old ++ joined (map (calls_of_case_arm scope.now) raws.now)) }
+    ensures { OnOk result (calls.new ≡ calls.old ++ join_calls (map (calls_of_case_arm scope.now) raws.now)) }
 {
     for raw in raws {
         all_calls(alloc, scope, raw.body.as_slice(), calls)?;
@@ -67,7 +67,7 @@ fn calls_of_case_arms(
 #[cycle(calls)]
 fn calls_of_action(
     alloc: Global,
-    scope: &Scope,
+    scope: &NameScope,
     line: Line,
     raw: &RawStmtKind,
     calls: &mut List<Call>,

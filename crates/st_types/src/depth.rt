@@ -1,4 +1,4 @@
-//! At which headings chains of calls are too long.
+//! The headings at which chains of calls begin that are too long.
 ghost use Rattle.std.specs.Prelude.{◌≡◌, ◌++◌, IfOk, OnOk};
 ghost use Rattle.st_rules.specs.LongChains.{chain_break, first_long_chain, long_chains};
 
@@ -29,7 +29,7 @@ fn long_chains(alloc: Global, begins: &[bool], units: &[RawPou]) -> Result<List<
     Ok(breaks)
 }
 
-/// The first heading at which a chain of more units begins than may run at a time.
+/// The first heading at which a chain of more units begins than may run at the same time.
 pub fn first_long_chain(
     alloc: Global,
     graph: &[List<Call>],

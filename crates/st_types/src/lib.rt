@@ -1,8 +1,8 @@
-//! Names, types, places and the chain of calls of a Structured Text: the raw tree of a text becomes its
-//! tree, or the first rule that is broken is named.
+//! Names, types, places and the chain of calls of a Structured Text: the raw tree of a text becomes its tree,
+//! or the first rule that is broken is named.
 //!
-//! Stands on `st_rules`, which defines what that is, on `st_declarations` and `st_statements` for the parts
-//! of a text, and on `call_chains`.
+//! Uses `st_rules`, which defines all of this, `st_scopes` and `st_statement_types` for the parts of a text,
+//! and `call_chains`.
 #![tactic(auto)]
 
 pub use text::typed;

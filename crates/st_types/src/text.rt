@@ -8,15 +8,15 @@ use crate::depth::first_long_chain;
 use crate::unit::{Units, all_units};
 use call_chains::{Call, first_cycle};
 use s7_base::{Break, Line, List, NoMemory, Reason, Rejection, first_of_all};
-use st_declarations::{all_globals, all_outside, formals_of};
-use st_rules::lists::put_breaks;
-use st_rules::scope::Meaning;
-use st_rules::table::Table;
+use st_names::lists::put_breaks;
+use st_names::scope::Meaning;
+use st_names::table::Table;
+use st_scopes::{all_globals, all_outside, formals_of};
 use st_tree::{RawPou, RawSt, StProgram};
 use std::alloc::Global;
 
-/// A text as it is judged: its tree where no rule is broken, the calls of its units, and the rules that
-/// are broken.
+/// The result for a text: its tree where no rule is broken, the calls of its units, and the rules that are
+/// broken.
 #[derive(Drop)]
 pub struct Judgement {
     pub tree: StProgram,

@@ -7,11 +7,11 @@ ghost use Rattle.st_rules.specs.Units.{all_unit_breaks, all_units, breaks_of_uni
 use crate::call::all_calls;
 use call_chains::Call;
 use s7_base::{Break, List, NoMemory};
-use st_declarations::{all_inside, locals_of};
-use st_rules::lists::put_breaks;
-use st_rules::scope::{Formals, Meaning, Scope};
-use st_rules::table::Table;
-use st_statements::statements;
+use st_names::lists::put_breaks;
+use st_names::scope::{Formals, Meaning, NameScope};
+use st_names::table::Table;
+use st_scopes::{all_inside, locals_of};
+use st_statement_types::statements;
 use st_tree::{Pou, RawPou};
 use std::alloc::Global;
 
@@ -23,10 +23,10 @@ pub struct Units {
     pub breaks: List<Break>,
 }
 
-/// Makes the names of a unit those of the scope.
+/// Replaces the names of a unit in the scope by those of another unit.
 fn enter(
     alloc: Global,
-    scope: &mut Scope,
+    scope: &mut NameScope,
     raw: &RawPou,
     breaks: &mut List<Break>,
 ) -> Result<(), NoMemory>
@@ -39,10 +39,10 @@ fn enter(
     Ok(())
 }
 
-/// A unit; makes its names those of the scope.
+/// A unit of the tree, from a raw one. The scope has its names afterwards.
 fn unit_in(
     alloc: Global,
-    scope: &mut Scope,
+    scope: &mut NameScope,
     raw: &RawPou,
     breaks: &mut List<Break>,
 ) -> Result<Pou, NoMemory>
@@ -64,7 +64,7 @@ fn unit_in(
 
 fn with_unit(
     alloc: Global,
-    scope: &mut Scope,
+    scope: &mut NameScope,
     raw: &RawPou,
     all: &mut Units,
 ) -> Result<(), NoMemory>
@@ -84,10 +84,10 @@ fn with_unit(
     all.calls.push(calls)
 }
 
-/// Puts units of a text after others.
+/// Appends units of a text to others.
 fn put_units(
     alloc: Global,
-    scope: &mut Scope,
+    scope: &mut NameScope,
     raws: &[RawPou],
     all: &mut Units,
 ) -> Result<(), NoMemory>
@@ -103,7 +103,7 @@ fn put_units(
     Ok(())
 }
 
-fn units_from(alloc: Global, scope: &mut Scope, raws: &[RawPou]) -> Result<Units, NoMemory>
+fn units_from(alloc: Global, scope: &mut NameScope, raws: &[RawPou]) -> Result<Units, NoMemory>
     ensures units { IfOk result (λ all. all.units ≡ all_units scope.old.outer scope.old.formals raws.now) }
     ensures calls { IfOk result (λ all. all.calls ≡ calls_of_units scope.old.outer scope.old.formals raws.now) }
     ensures breaks { IfOk result (λ all. all.breaks ≡ all_unit_breaks scope.old.outer scope.old.formals raws.now) }
@@ -128,7 +128,7 @@ pub fn all_units(
     ensures calls { IfOk result (λ all. all.calls ≡ calls_of_units outer formals raws.now) }
     ensures breaks { IfOk result (λ all. all.breaks ≡ all_unit_breaks outer formals raws.now) }
 {
-    let mut scope = Scope {
+    let mut scope = NameScope {
         outer,
         formals,
         inner: Table::new(alloc),

@@ -1,3 +1,3 @@
-mod StatusRows
+mod StatusCases
 mod Packing
 mod WordLaws

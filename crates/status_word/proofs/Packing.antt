@@ -101,4 +101,4 @@ pub get_bit : (s : Status) (f : Flag) → nat_eq (bit_and (s.0 / 2 ^ place f) 1)
 unfolding has_bit
 get_bit s f = ap (λ b. b == 1) (shr_and_one s.0 (place f)) ∙ sym (flag_is_bit f s)
 
-pub ruleset flag_lemmas = (place_fits, set_bits, clear_bits, get_bit)
+pub ruleset flag_laws = (place_fits, set_bits, clear_bits, get_bit)

@@ -1,4 +1,6 @@
--- The bits of the status word, and what the instructions make of them, an equation for each mnemonic.
+-- Status bits after bit logic. The bits of the status word, and what checks, brackets, assignments, edges, the
+-- instructions on the RLO alone, jumps and ends of blocks make of them, an equation for each mnemonic.
+-- Held against: the manual's chapters 'Bit Logic', 'Logic Control' and 'Program Control'.
 use Rattle.std.specs.Prelude.{Bool, true, false, not, ◌&&◌, ◌||◌, if◌then◌else◌}
 use Rattle.s7_base.specs.declared.check.Check.{Check}
 use Rattle.s7_base.specs.declared.check.Check.TheVariants as check
@@ -45,7 +47,7 @@ rlo_after check.On b s = if s.nfc then s.rlo || not b else not b
 rlo_after check.X b s = if s.nfc then (if s.rlo then not b else b) else b
 rlo_after check.Xn b s = if s.nfc then (if s.rlo then b else not b) else not b
 
--- OR after a check: an AND keeps it
+-- OR after a check: an AND keeps it, the others clear it
 abbrev pub orb_after : Check → StatusBits → Bool
 orb_after check.A s = s.orb
 orb_after check.An s = s.orb
@@ -54,12 +56,12 @@ orb_after check.On s = false
 orb_after check.X s = false
 orb_after check.Xn s = false
 
--- A, AN, O, ON, X, XN of bit b
+-- the status bits after A, AN, O, ON, X or XN of bit b
 abbrev pub after_check : Check → Bool → StatusBits → StatusBits
 after_check c b s = record s { rlo = rlo_after c b s; orb = orb_after c s; sta = b; nfc = true }
 
--- the answer to a question to the status word, CC1 before CC0: 00; 01 or 10; 10; 01; 00 or 10; 00 or 01; 11;
--- the flag itself
+-- the answer to a test of the status word, CC1 before CC0: 00; 01 or 10; 10; 01; 00 or 10; 00 or 01; 11; the flag
+-- itself
 abbrev pub answer_to : Test → StatusBits → Bool
 answer_to test.Eq s = not s.cc1 && not s.cc0
 answer_to test.Ne s = (not s.cc1 && s.cc0) || (s.cc1 && not s.cc0)
@@ -72,7 +74,7 @@ answer_to test.Ov s = s.ov
 answer_to test.Os s = s.os
 answer_to test.Br s = s.br
 
--- O without operand: an AND before an OR is kept in OR, and the next check is a first one
+-- the status bits after O without operand: an AND before an OR is kept in OR, and the next check is a first one
 abbrev pub after_or : StatusBits → StatusBits
 after_or s = record s { orb = s.rlo && s.nfc; sta = true; nfc = false }
 
@@ -80,36 +82,41 @@ after_or s = record s { orb = s.rlo && s.nfc; sta = true; nfc = false }
 abbrev pub entry_of : Check → StatusBits → Entry
 entry_of c s = record { check = c; rlo = s.rlo; orb = s.orb; nfc = s.nfc }
 
--- an opening bracket, in which the next check is a first one
+-- the status bits after an opening bracket, in which the next check is a first one
 abbrev pub after_open : StatusBits → StatusBits
 after_open s = record s { orb = false; sta = true; nfc = false }
 
--- the bits with RLO, OR and /FC as a bracket kept them
-abbrev pub restored : Entry → StatusBits → StatusBits
-restored e s = record s { rlo = e.rlo; orb = e.orb; nfc = e.nfc }
+-- the status bits with RLO, OR and /FC as a bracket kept them
+abbrev pub with_bracket_entry : Entry → StatusBits → StatusBits
+with_bracket_entry e s = record s { rlo = e.rlo; orb = e.orb; nfc = e.nfc }
 
--- a closing bracket: the check that opened it, of the RLO inside, on what the bracket kept
+-- the status bits after a closing bracket: the check that opened it, of the RLO inside, on what the bracket kept
 abbrev pub after_close : Entry → StatusBits → StatusBits
 after_close e s =
-    record s { rlo = rlo_after e.check s.rlo (restored e s); orb = orb_after e.check (restored e s); sta = true; nfc = true }
+    record s {
+      rlo = rlo_after e.check s.rlo (with_bracket_entry e s);
+      orb = orb_after e.check (with_bracket_entry e s);
+      sta = true;
+      nfc = true;
+    }
 
--- = S R, where this is the bit as it then stands
+-- the status bits after =, S or R, by the new value of the bit
 abbrev pub after_store : Bool → StatusBits → StatusBits
 after_store b s = record s { sta = b; orb = false; nfc = false }
 
--- SET
+-- the status bits after SET
 abbrev pub after_set : StatusBits → StatusBits
 after_set s = record s { rlo = true; sta = true; orb = false; nfc = false }
 
--- CLR
+-- the status bits after CLR
 abbrev pub after_clear : StatusBits → StatusBits
 after_clear s = record s { rlo = false; sta = false; orb = false; nfc = false }
 
--- NOT
+-- the status bits after NOT
 abbrev pub after_not : StatusBits → StatusBits
 after_not s = record s { rlo = not s.rlo; sta = true }
 
--- SAVE
+-- the status bits after SAVE
 abbrev pub after_save : StatusBits → StatusBits
 after_save s = record s { br = s.rlo }
 
@@ -117,15 +124,15 @@ after_save s = record s { br = s.rlo }
 abbrev pub rlo_at_edge : Bool → Bool → StatusBits → Bool
 rlo_at_edge rising e s = if rising then s.rlo && not e else not s.rlo && e
 
--- FP and FN
+-- the status bits after FP or FN, by the edge bit
 abbrev pub after_edge : Bool → Bool → StatusBits → StatusBits
 after_edge rising e s =
     record s { rlo = rlo_at_edge rising e s; sta = rlo_at_edge rising e s; orb = false; nfc = true }
 
--- the end word of a block
+-- the status bits after the end word of a block
 abbrev pub after_end : StatusBits → StatusBits
 after_end s = record s { os = false; orb = false; sta = true; nfc = false }
 
--- JC, where it jumps and where it does not
+-- the status bits after JC, whether it jumps or not
 abbrev pub after_jump : StatusBits → StatusBits
 after_jump s = record s { orb = false; sta = true; rlo = true; nfc = false }

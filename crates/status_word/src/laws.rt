@@ -1,7 +1,7 @@
 //! Laws of the status word.
 ghost use Rattle.status_word.specs.StatusLaws.{LoadedIsStored, PutIsGot, StoredIsLoaded};
 
-/// A flag that is put has the value given, and the others stay.
+/// A flag that is put has the value given, and the others keep theirs.
 pub fn put_is_got()
     ensures { PutIsGot }
 {}

@@ -2,13 +2,13 @@
 ghost use Rattle.std.specs.Prelude.{◌≡◌};
 ghost use Rattle.status_word.specs.Flags.{bits, bits_of, flag_of, from_word, place, with_flag, word_of};
 ghost use Rattle.status_word.specs.Results.{after_compared, after_converted, after_logic, after_shifted, after_signed, after_zero_divisor, with_overflow};
-ghost use Rattle.status_word.specs.StatusBits.{after_check, after_clear, after_close, after_edge, after_end, after_jump, after_not, after_open, after_or, after_save, after_set, after_store, answer_to, orb_after, restored, rlo_after, rlo_at_edge};
+ghost use Rattle.status_word.specs.StatusBits.{after_check, after_clear, after_close, after_edge, after_end, after_jump, after_not, after_open, after_or, after_save, after_set, after_store, answer_to, orb_after, with_bracket_entry, rlo_after, rlo_at_edge};
 
 use crate::test::{Flag, Test};
 use s7_base::{Check, Entry};
 
 impl Flag {
-    /// The place of the flag's bit.
+    /// The number of the flag's bit in the status word, from 0.
     fn place(self) -> u16
         ensures { result ≡ place self }
     {
@@ -21,16 +21,16 @@ impl Flag {
 pub struct Status(pub u16);
 
 impl Status {
-    /// A flag.
-    #[tactic(auto, using(crate::proofs::Packing::flag_lemmas))]
+    /// The value of a flag.
+    #[tactic(auto, using(crate::proofs::Packing::flag_laws))]
     pub fn get(self, f: Flag) -> bool
         ensures { result ≡ flag_of f (bits self) }
     {
         self.0 >> f.place() & 1 == 1
     }
 
-    /// The same with another value of a flag.
-    #[tactic(auto, using(crate::proofs::Packing::flag_lemmas))]
+    /// The status word with another value of a flag.
+    #[tactic(auto, using(crate::proofs::Packing::flag_laws))]
     pub fn put(self, f: Flag, v: bool) -> Status
         ensures { bits result ≡ with_flag f v (bits self) }
     {
@@ -42,7 +42,7 @@ impl Status {
         }
     }
 
-    /// The answer to a question.
+    /// The answer to a test of the status word.
     pub fn test(self, t: Test) -> bool
         ensures { result ≡ answer_to t (bits self) }
     {
@@ -87,7 +87,7 @@ impl Status {
         }
     }
 
-    /// `A`, `AN`, `O`, `ON`, `X` and `XN` of a bit.
+    /// The status word after `A`, `AN`, `O`, `ON`, `X` or `XN` of a bit.
     pub fn checked(self, c: Check, value: bool) -> Status
         ensures { bits result ≡ after_check c value (bits self) }
     {
@@ -97,7 +97,7 @@ impl Status {
             .put(Flag::Nfc, true)
     }
 
-    /// `O` without operand.
+    /// The status word after `O` without operand.
     pub fn and_before_or(self) -> Status
         ensures { bits result ≡ after_or (bits self) }
     {
@@ -106,7 +106,7 @@ impl Status {
             .put(Flag::Nfc, false)
     }
 
-    /// An opening bracket, once what it keeps is kept.
+    /// The status word after an opening bracket, once what it keeps is kept.
     pub fn opened(self) -> Status
         ensures { bits result ≡ after_open (bits self) }
     {
@@ -115,24 +115,24 @@ impl Status {
             .put(Flag::Nfc, false)
     }
 
-    fn restored(self, e: Entry) -> Status
-        ensures { bits result ≡ restored e (bits self) }
+    fn with_bracket_entry(self, e: Entry) -> Status
+        ensures { bits result ≡ with_bracket_entry e (bits self) }
     {
         self.put(Flag::Rlo, e.rlo)
             .put(Flag::Orb, e.orb)
             .put(Flag::Nfc, e.nfc)
     }
 
-    /// A closing bracket, by what was kept when it was opened.
+    /// The status word after a closing bracket, by what was kept when it was opened.
     pub fn closed(self, e: Entry) -> Status
         ensures { bits result ≡ after_close e (bits self) }
     {
-        self.restored(e)
+        self.with_bracket_entry(e)
             .checked(e.check, self.get(Flag::Rlo))
             .put(Flag::Sta, true)
     }
 
-    /// `=`, `S` and `R`, by the bit as it then stands.
+    /// The status word after `=`, `S` or `R`, by the new value of the bit.
     pub fn stored(self, bit: bool) -> Status
         ensures { bits result ≡ after_store bit (bits self) }
     {
@@ -141,21 +141,21 @@ impl Status {
             .put(Flag::Nfc, false)
     }
 
-    /// `SET`
+    /// The status word after `SET`.
     pub fn set_rlo(self) -> Status
         ensures { bits result ≡ after_set (bits self) }
     {
         self.put(Flag::Rlo, true).stored(true)
     }
 
-    /// `CLR`
+    /// The status word after `CLR`.
     pub fn clear_rlo(self) -> Status
         ensures { bits result ≡ after_clear (bits self) }
     {
         self.put(Flag::Rlo, false).stored(false)
     }
 
-    /// `NOT`
+    /// The status word after `NOT`.
     pub fn negated(self) -> Status
         ensures { bits result ≡ after_not (bits self) }
     {
@@ -163,7 +163,7 @@ impl Status {
             .put(Flag::Sta, true)
     }
 
-    /// `SAVE`
+    /// The status word after `SAVE`.
     pub fn saved(self) -> Status
         ensures { bits result ≡ after_save (bits self) }
     {
@@ -176,7 +176,7 @@ impl Status {
         self.get(Flag::Rlo) == rising && old != rising
     }
 
-    /// `FP`, where the edge is a rising one, and `FN`, by the edge bit as it was.
+    /// The status word after `FP`, where the edge is a rising one, or `FN`, by the edge bit as it was.
     pub fn edge(self, rising: bool, old: bool) -> Status
         ensures { bits result ≡ after_edge rising old (bits self) }
     {
@@ -194,7 +194,7 @@ impl Status {
             .put(Flag::Os, self.get(Flag::Os) || over)
     }
 
-    /// A calculation, by the value whose sign is shown, and whether it overflowed.
+    /// The status word after a calculation, by the value whose sign is shown, and whether it overflowed.
     pub fn signed(self, value: i64, over: bool) -> Status
         ensures { bits result ≡ after_signed value over (bits self) }
     {
@@ -203,7 +203,7 @@ impl Status {
             .with_overflow(over)
     }
 
-    /// A division by 0.
+    /// The status word after a division by 0.
     pub fn zero_divisor(self) -> Status
         ensures { bits result ≡ after_zero_divisor (bits self) }
     {
@@ -213,14 +213,14 @@ impl Status {
             .put(Flag::Os, true)
     }
 
-    /// `ITB` and `DTB`, by whether the number is out of range.
+    /// The status word after `ITB` or `DTB`, by whether the number is out of range.
     pub fn converted(self, over: bool) -> Status
         ensures { bits result ≡ after_converted over (bits self) }
     {
         self.with_overflow(over)
     }
 
-    /// A comparison of the number `a` in ACCU2 with `b` in ACCU1, by its result.
+    /// The status word after a comparison of the number `a` in ACCU2 with `b` in ACCU1, by its result.
     pub fn compared(self, a: i32, b: i32, holds: bool) -> Status
         ensures { bits result ≡ after_compared a b holds (bits self) }
     {
@@ -233,7 +233,7 @@ impl Status {
             .put(Flag::Nfc, true)
     }
 
-    /// A shift or rotation by one bit or more, by the last bit that went out.
+    /// The status word after a shift or a rotation by one bit or more, by the last bit that was shifted out.
     pub fn shifted(self, out: bool) -> Status
         ensures { bits result ≡ after_shifted out (bits self) }
     {
@@ -242,35 +242,35 @@ impl Status {
             .put(Flag::Ov, false)
     }
 
-    /// Word logic, by whether its result is other than zero.
+    /// The status word after word logic, by whether its result is other than zero.
     pub fn logic(self, nonzero: bool) -> Status
         ensures { bits result ≡ after_logic nonzero (bits self) }
     {
         self.shifted(nonzero)
     }
 
-    /// `JC`, where it jumps and where it does not.
+    /// The status word after `JC`, whether it jumps or not.
     pub fn after_jump(self) -> Status
         ensures { bits result ≡ after_jump (bits self) }
     {
         self.opened().put(Flag::Rlo, true)
     }
 
-    /// `CALL`, once its block is called.
+    /// The status word after `CALL`, once its block is called.
     pub fn called(self) -> Status
         ensures { bits result ≡ after_end (bits self) }
     {
         self.ended()
     }
 
-    /// The end word of a block.
+    /// The status word after the end word of a block.
     pub fn ended(self) -> Status
         ensures { bits result ≡ after_end (bits self) }
     {
         self.opened().put(Flag::Os, false)
     }
 
-    /// What `L STW` loads.
+    /// The word that `L STW` loads.
     pub fn word(self) -> u16
         ensures { result ≡ word_of (bits self) }
     {
@@ -282,7 +282,7 @@ impl Status {
             + u16::from(self.get(Flag::Br)) * 0x100
     }
 
-    /// `T STW`, of this word.
+    /// The status word after `T STW` of this word.
     pub fn from_word(self, w: u16) -> Status
         ensures { bits result ≡ from_word (bits_of w) (bits self) }
     {

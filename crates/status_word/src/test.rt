@@ -15,7 +15,7 @@ pub enum Flag {
     Br,
 }
 
-/// A question to the status word: how a result compares with 0, whether it is no number, or a flag alone.
+/// A test of the status word: how a result compares with 0, whether it is no number, or a flag alone.
 #[derive(Clone, Copy, Debug, PartialEq, Eq)]
 pub enum Test {
     Eq,

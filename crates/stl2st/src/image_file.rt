@@ -3,8 +3,8 @@ use std::fs::File;
 use std::io;
 use std::io::Read;
 
-/// A file that is opened where it is first read, so that a file which nothing reads is left alone. Each
-/// read of one that cannot be opened fails.
+/// A file that is opened where it is first read, so that a file which is never read is not opened. Each read
+/// of one that cannot be opened fails.
 #[derive(Drop)]
 pub struct ImageFile<'a> {
     rt: &'a HostRuntime,
@@ -14,7 +14,7 @@ pub struct ImageFile<'a> {
 
 impl<'a> ImageFile<'a> {
     /// The file of this name, not yet opened.
-    pub fn named(rt: &'a HostRuntime, name: &'a str) -> ImageFile<'a> {
+    pub fn of_name(rt: &'a HostRuntime, name: &'a str) -> ImageFile<'a> {
         ImageFile {
             rt,
             name,

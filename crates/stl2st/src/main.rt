@@ -1,9 +1,9 @@
-//! `stl2st` reads Statement List for the S7-300 and writes Structured Text that does exactly what the
-//! source did, or names the first broken rule and its line. It runs both on memory images.
+//! `stl2st` reads Statement List for the S7-300 and writes Structured Text that does exactly what the source
+//! did, or names the first broken rule and its line. It runs both on memory images.
 //!
-//! The call that it makes, `stl2st` of `command_answers`, has the promises of the program as its clauses. Here
-//! arguments and streams are handed to it, with the image that `image_name` of `command_words` finds, and the
-//! number of its status is that of the process. Rows on the call stand in `worked_rows`.
+//! The call that it makes, `stl2st` of `command_answers`, has the promises of the program as its clauses.
+//! Here it gets arguments and streams, with the image that `image_name` of `command_words` finds, and the
+//! number of its status is that of the process. Cases of the call are in `worked_rows`.
 #![tactic(auto)]
 
 use crate::image_file::ImageFile;
@@ -15,7 +15,7 @@ use std::{env, io};
 
 mod image_file;
 
-/// The words behind the program's name.
+/// The words after the program's name.
 fn arguments(rt: &HostRuntime) -> io::Result<Vec<String>> {
     let mut words = Vec::new(rt.alloc());
     for word in env::args(rt)?.skip(1) {
@@ -36,7 +36,7 @@ fn run(rt: &HostRuntime) -> Status {
     let mut out = StdSink::new(io::writer(rt));
     match image_name(words) {
         Some(name) => {
-            let mut image = StdSource::new(ImageFile::named(rt, name));
+            let mut image = StdSource::new(ImageFile::of_name(rt, name));
             stl2st(rt.alloc(), words, &mut program, &mut image, &mut out)
         }
         None => {

@@ -4,14 +4,15 @@ use Rattle.std.specs.Prelude.{IfOk}
 use Rattle.s7_base.specs.Answers.{Answers}
 use Rattle.s7_base.specs.declared.reason.Rejection.{Rejection}
 use Rattle.s7_base.specs.declared.reason.Rejection.TheVariants.{Refused, NoMemory}
-use Rattle.stl_rules.proofs.AcceptedLaws.{verdict_accepted}
+use Rattle.verdict_laws.proofs.AcceptedLaws.{verdict_accepted}
 use Rattle.stl_tree.specs.Accepted.{IsAccepted}
 use Rattle.stl_grammar.specs.RawPrograms.{raw_text}
-use Rattle.stl_rules.specs.Verdict.{judged, judged_by, verdict}
+use Rattle.stl_rules.specs.Verdict.{checked_program, judged_by, verdict}
 use Rattle.stl_tree.specs.declared.program.Program.{Program}
 use Rattle.stl_tree.specs.declared.raw.RawProgram.{RawProgram}
 
-answers_verdict : (bytes : List ℕ) (raw : RawProgram) (answer : Result Program Rejection) → raw_text bytes ≡ Ok raw → Answers answer (judged raw) → Answers answer (verdict bytes)
+answers_verdict : (bytes : List ℕ) (raw : RawProgram) (answer : Result Program Rejection)
+    → raw_text bytes ≡ Ok raw → Answers answer (checked_program raw) → Answers answer (verdict bytes)
 unfolding verdict
 answers_verdict bytes raw answer e h = let P : Result RawProgram Rejection → Type 0 = λ r. Answers answer (judged_by r) in subst P (sym e) h
 
@@ -21,5 +22,6 @@ answer_accepted bytes (Err (Refused line reason)) e = tt
 answer_accepted bytes (Err NoMemory) e = tt
 
 -- the program of a text that is read
-pub accepts : (bytes : List ℕ) (raw : RawProgram) (answer : Result Program Rejection) → raw_text bytes ≡ Ok raw → Answers answer (judged raw) → IfOk answer IsAccepted
+pub accepts : (bytes : List ℕ) (raw : RawProgram) (answer : Result Program Rejection)
+    → raw_text bytes ≡ Ok raw → Answers answer (checked_program raw) → IfOk answer IsAccepted
 accepts bytes raw answer e h = answer_accepted bytes answer (answers_verdict bytes raw answer e h)

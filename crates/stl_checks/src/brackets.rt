@@ -7,13 +7,13 @@ ghost use Rattle.stl_rules.specs.Stages.{bodies, body_breaks, brackets_at, brack
 use s7_base::{Break, Line, List, NoMemory, Reason, first_of_all, note, rest_after};
 use std::alloc::Global;
 use stl_mnemonics::mnemonic_named;
-use stl_statements::Mnemonic;
+use stl_statement_grammar::Mnemonic;
 use stl_tree::{RawBlock, RawInstr, RawProgram};
 
 /// The most brackets that may be open.
 const MOST_OPEN: usize = 7;
 
-/// What an instruction breaks before which so many brackets are open.
+/// Notes the rule of brackets that an instruction breaks before which this many brackets are open.
 #[tactic(auto, using(crate::proofs::Turns::close_missing, crate::proofs::Turns::close_there))]
 fn note_at(
     breaks: &mut List<Break>,
@@ -32,7 +32,7 @@ fn note_at(
     }
 }
 
-/// How many brackets are open behind an instruction.
+/// How many brackets are open after an instruction.
 #[tactic(auto, using(crate::proofs::Turns::close_then))]
 fn open_then(what: Option<Mnemonic>, count: usize) -> Result<usize, NoMemory>
     ensures { IfOk result (λ then. then ≡ open_then what count) }
@@ -44,7 +44,7 @@ fn open_then(what: Option<Mnemonic>, count: usize) -> Result<usize, NoMemory>
     }
 }
 
-/// What brackets break that are open at the end of a block.
+/// Notes the rule that is broken where brackets are open at the end of a block.
 #[tactic(auto, using(crate::proofs::Turns::end_closed, crate::proofs::Turns::end_open))]
 fn note_end(breaks: &mut List<Break>, end: Line, count: usize) -> Result<(), NoMemory>
     ensures { OnOk result (breaks.new ≡ breaks.old ++ open_at_end end count) }
@@ -56,7 +56,7 @@ fn note_end(breaks: &mut List<Break>, end: Line, count: usize) -> Result<(), NoM
     }
 }
 
-/// What the brackets of a body break, where the block ends on a line.
+/// Notes the rules of brackets that a body breaks, where the block ends on a line.
 #[tactic(auto, using(crate::proofs::Lists::brackets_more))]
 fn note_brackets(breaks: &mut List<Break>, end: Line, body: &[RawInstr]) -> Result<(), NoMemory>
     ensures { OnOk result (breaks.new ≡ breaks.old ++ brackets_from end 0 body.now) }
@@ -72,7 +72,7 @@ fn note_brackets(breaks: &mut List<Break>, end: Line, body: &[RawInstr]) -> Resu
     note_end(breaks, end, count)
 }
 
-/// What the bodies of blocks break.
+/// Notes the rules of brackets that the bodies of blocks break.
 fn note_bodies(breaks: &mut List<Break>, blocks: &[RawBlock]) -> Result<(), NoMemory>
     ensures { OnOk result (breaks.new ≡ breaks.old ++ flat_map body_breaks blocks.now) }
 {
@@ -82,7 +82,7 @@ fn note_bodies(breaks: &mut List<Break>, blocks: &[RawBlock]) -> Result<(), NoMe
     Ok(())
 }
 
-/// The first rule that the bodies of a text break.
+/// The first rule of brackets that the bodies of a text break.
 pub fn first_in_bodies(alloc: Global, raw: &RawProgram) -> Result<Option<Break>, NoMemory>
     ensures { IfOk result (λ first. first ≡ first_of_all (bodies raw.now)) }
 {

@@ -4,7 +4,7 @@ ghost use Rattle.s7_base.specs.Answers.{Answers};
 ghost use Rattle.s7_base.specs.Broken.{first_of_all};
 ghost use Rattle.stl_checks.specs.inner.Later.{first_later};
 ghost use Rattle.stl_rules.specs.Stages.{no_blocks};
-ghost use Rattle.stl_rules.specs.Verdict.{judged, verdict};
+ghost use Rattle.stl_rules.specs.Verdict.{checked_program, verdict};
 ghost use Rattle.stl_tree.specs.Accepted.{IsAccepted};
 
 use crate::brackets::first_in_bodies;
@@ -27,7 +27,7 @@ fn no_blocks(raw: &RawProgram) -> Option<Break>
     }
 }
 
-/// The first rule of the stages behind that of the names.
+/// The first broken rule of the stages after that of the names.
 fn first_later(alloc: Global, raw: &RawProgram) -> Result<Option<Break>, NoMemory>
     ensures { IfOk result (λ first. first ≡ first_later raw.now) }
 {
@@ -35,9 +35,9 @@ fn first_later(alloc: Global, raw: &RawProgram) -> Result<Option<Break>, NoMemor
 }
 
 /// The program of a raw program, or its first broken rule.
-#[tactic(auto, using(crate::proofs::Judging::judged_lemmas))]
-fn judged(alloc: Global, raw: RawProgram) -> Result<Program, Rejection>
-    ensures { Answers result (judged raw) }
+#[tactic(auto, using(crate::proofs::Judging::checked_program_laws))]
+fn checked_program(alloc: Global, raw: RawProgram) -> Result<Program, Rejection>
+    ensures { Answers result (checked_program raw) }
 {
     let later = first_later(alloc, &raw)?;
     let program = resolve(alloc, raw)?;
@@ -54,5 +54,5 @@ pub fn verdict(alloc: Global, bytes: &[u8]) -> Result<Program, Rejection>
     ensures accepted { IfOk result (λ program. IsAccepted program) }
 {
     let raw = read_blocks(alloc, bytes)?;
-    judged(alloc, raw)
+    checked_program(alloc, raw)
 }

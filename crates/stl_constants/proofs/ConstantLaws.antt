@@ -12,16 +12,16 @@ use Rattle.s7_base.specs.declared.token.Token.{Token}
 use Rattle.s7_base.specs.declared.word.Width.{Width}
 use Rattle.s7_base.specs.declared.word.Width.TheVariants as width
 use Rattle.memory_areas.specs.Access.{bits_wide}
-use Rattle.stl_statements.specs.ConstantForms.{IsAddend, IsAmong, IsBehind, IsConstant, IsHex, IsNumberIn, IsPair, IsPrefixed, IsSigned, IsUpTo}
-use Rattle.stl_statements.specs.ConstantForms as form
-use Rattle.stl_statements.specs.Constants.{Prefixed, addend_at, addend_prefixes, begins_real, is_real, behind_prefix, binary, binary_behind, binary_of, constant, constant_at, four_behind, four_bytes, half, has_prefix, hex_behind, hex_of, left_out_prefixes, long_behind, marked_at, name_behind, negative, negative_behind, number_at, pair_of, plain, plain_at, prefixed, prefixed_at, prefixed_by, prefixes, real_at, signed_at, text_at, text_in, text_of, two_behind, two_bytes, up_to, with_byte, zero_behind}
+use Rattle.stl_statement_grammar.specs.ConstantForms.{IsAddend, IsAmong, IsBehind, IsConstant, IsHex, IsNumberIn, IsPair, IsPrefixed, IsSigned, IsUpTo}
+use Rattle.stl_statement_grammar.specs.ConstantForms as form
+use Rattle.stl_statement_grammar.specs.Constants.{Prefixed, addend_at, addend_prefixes, begins_real, is_real, behind_prefix, binary, binary_behind, binary_of, constant, constant_at, four_behind, four_bytes, half, has_prefix, hex_behind, hex_of, left_out_prefixes, long_behind, marked_at, name_behind, negative, negative_behind, number_at, pair_of, plain, plain_at, prefixed_word, prefixed_at, prefixed_by, prefixes, real_at, signed_at, text_at, text_in, text_of, two_behind, two_bytes, up_to, with_byte, zero_behind}
 use Rattle.digit_texts.specs.Digits.{are_digits, number_up_to}
-use Rattle.stl_statements.specs.Numbers.{bits_of, hex_number}
-use Rattle.stl_statements.specs.Readers.{fitting, number_in, read_as}
-use Rattle.stl_statements.specs.Words.{is_joined, is_joined_word, is_sign, is_text_kind, is_word, is_word_kind}
-use Rattle.stl_statements.specs.declared.mnemonic.Prefix.{Prefix}
-use Rattle.stl_statements.specs.declared.mnemonic.Prefix.TheVariants as prefix
-use Rattle.stl_statements.specs.declared.mnemonic.Read.TheVariants.{Fits, LeftOut, No}
+use Rattle.stl_statement_grammar.specs.Numbers.{bits_of, hex_number}
+use Rattle.stl_statement_grammar.specs.Readers.{fitting, number_in, read_as}
+use Rattle.stl_statement_grammar.specs.Words.{is_joined, is_joined_word, is_sign, is_text_kind, is_word, is_word_kind}
+use Rattle.stl_statement_grammar.specs.declared.mnemonic.Prefix.{Prefix}
+use Rattle.stl_statement_grammar.specs.declared.mnemonic.Prefix.TheVariants as prefix
+use Rattle.stl_statement_grammar.specs.declared.mnemonic.Read.TheVariants.{Fits, LeftOut, No}
 use Rattle.stl_tree.specs.declared.raw.Constant.{Constant}
 use Rattle.stl_constants.proofs.Reading.{AllOf, alike, as_all, chained, fitting_all, if_false, if_true, joined_sign, mapped, no_sign, no_word, or_all, or_no, or_this, other_sign, other_word, same_letters, sign_no_text, taken, text_no_word, weaker, word_no_text}
 use Rattle.stl_constants.proofs.Tables.{found_among, found_passes, none_at, none_found}
@@ -66,16 +66,21 @@ hex_is w base hash digits c P make e =
     let m = mapped (constant w) (hex_number (2 ^ bits_wide w - 1) digits.text) c t.1 in
     subst P m.made (make m.a (record { base_is = r.0; base_glued = r.1; hash_is = q.1; word = p.1; number = m.found }))
 
-hex_all : (n : ℕ) (w : Width) (what : Prefix) → ((base hash digits : Token) (value : ℕ) → IsHex w base hash digits value → IsBehind what (base ∷ hash ∷ digits ∷ []) (constant w value)) →
-    (tokens : List Token) → n ≡ 2 + length tokens → AllOf n (IsBehind what tokens) (hex_behind w tokens)
+hex_all : (n : ℕ) (w : Width) (what : Prefix)
+    → ((base hash digits : Token) (value : ℕ) → IsHex w base hash digits value → IsBehind what (base ∷ hash ∷ digits ∷ []) (constant w value))
+    → (tokens : List Token) → n ≡ 2 + length tokens → AllOf n (IsBehind what tokens) (hex_behind w tokens)
 hex_all n w what make [] all = tt
 hex_all n w what make (a ∷ []) all = tt
 hex_all n w what make (a ∷ b ∷ []) all = tt
 hex_all n w what make (base ∷ hash ∷ digits ∷ rest) all = by rest all
   where
-    by : (rest : List Token) → n ≡ 2 + length (base ∷ hash ∷ digits ∷ rest) → AllOf n (IsBehind what (base ∷ hash ∷ digits ∷ rest)) (fitting 5 (hex_of w base hash digits))
-    by [] all = fitting_all n 5 (IsBehind what (base ∷ hash ∷ digits ∷ [])) (hex_of w base hash digits) (λ c e size. hex_is w base hash digits c (IsBehind what (base ∷ hash ∷ digits ∷ [])) (make base hash digits) e)
-    by (next ∷ rest) all = fitting_all n 5 (IsBehind what (base ∷ hash ∷ digits ∷ next ∷ rest)) (hex_of w base hash digits) (λ c e size. absurd (omega (arith, all, size)))
+    by : (rest : List Token) → n ≡ 2 + length (base ∷ hash ∷ digits ∷ rest)
+        → AllOf n (IsBehind what (base ∷ hash ∷ digits ∷ rest)) (fitting 5 (hex_of w base hash digits))
+    by [] all =
+        fitting_all n 5 (IsBehind what (base ∷ hash ∷ digits ∷ [])) (hex_of w base hash digits)
+        (λ c e size. hex_is w base hash digits c (IsBehind what (base ∷ hash ∷ digits ∷ [])) (make base hash digits) e)
+    by (next ∷ rest) all =
+        fitting_all n 5 (IsBehind what (base ∷ hash ∷ digits ∷ next ∷ rest)) (hex_of w base hash digits) (λ c e size. absurd (omega (arith, all, size)))
 
 pair_is : (high comma low : Token) (value : ℕ) → pair_of high comma low ≡ Some value → IsPair high comma low value
 pair_is high comma low value e =
@@ -84,25 +89,31 @@ pair_is high comma low value e =
     let m = mapped (λ b. with_byte c.a b) (number_in 255 low) value c.made in
     record { a = c.a; b = m.a; comma_is = t.0; high_is = number_is 255 high c.a c.found; low_is = number_is 255 low m.a m.found; value_is = m.made }
 
-two_is : (before a comma b behind : Token) (c : Constant) → two_bytes before a comma b behind ≡ Some c → IsBehind prefix.Bytes (before ∷ a ∷ comma ∷ b ∷ behind ∷ []) c
+two_is : (before a comma b behind : Token) (c : Constant) → two_bytes before a comma b behind ≡ Some c
+    → IsBehind prefix.Bytes (before ∷ a ∷ comma ∷ b ∷ behind ∷ []) c
 two_is before a comma b behind c e =
     let t = taken (is_joined (codes "(") before && is_sign (codes ")") behind) _ c e in
     let p = and_parts (is_joined (codes "(") before) (is_sign (codes ")") behind) t.0 in
     let m = mapped (constant width.Word) (pair_of a comma b) c t.1 in
-    subst (IsBehind prefix.Bytes (before ∷ a ∷ comma ∷ b ∷ behind ∷ [])) m.made (form.two_bytes before a comma b behind m.a p.0 (pair_is a comma b m.a m.found) p.1)
+    subst (IsBehind prefix.Bytes (before ∷ a ∷ comma ∷ b ∷ behind ∷ [])) m.made
+    (form.two_bytes before a comma b behind m.a p.0 (pair_is a comma b m.a m.found) p.1)
 
 two_all : (n : ℕ) (tokens : List Token) → n ≡ 2 + length tokens → AllOf n (IsBehind prefix.Bytes tokens) (two_behind tokens)
 two_all n (before ∷ a ∷ comma ∷ b ∷ behind ∷ rest) all = by rest all
   where
     by : (rest : List Token) → n ≡ 2 + length (before ∷ a ∷ comma ∷ b ∷ behind ∷ rest) →
         AllOf n (IsBehind prefix.Bytes (before ∷ a ∷ comma ∷ b ∷ behind ∷ rest)) (fitting 7 (two_bytes before a comma b behind))
-    by [] all = fitting_all n 7 (IsBehind prefix.Bytes (before ∷ a ∷ comma ∷ b ∷ behind ∷ [])) (two_bytes before a comma b behind) (λ c e size. two_is before a comma b behind c e)
+    by [] all =
+        fitting_all n 7 (IsBehind prefix.Bytes (before ∷ a ∷ comma ∷ b ∷ behind ∷ []))
+        (two_bytes before a comma b behind) (λ c e size. two_is before a comma b behind c e)
     by (next ∷ rest) all =
-        fitting_all n 7 (IsBehind prefix.Bytes (before ∷ a ∷ comma ∷ b ∷ behind ∷ next ∷ rest)) (two_bytes before a comma b behind) (λ c e size. absurd (omega (arith, all, size)))
+        fitting_all n 7 (IsBehind prefix.Bytes (before ∷ a ∷ comma ∷ b ∷ behind ∷ next ∷ rest))
+        (two_bytes before a comma b behind) (λ c e size. absurd (omega (arith, all, size)))
 two_all n fewer all = tt
 
-four_is : (before a first b comma c second d behind : Token) (k : Constant) →
-    four_bytes before (pair_of a first b) comma (pair_of c second d) behind ≡ Some k → IsBehind prefix.Bytes (before ∷ a ∷ first ∷ b ∷ comma ∷ c ∷ second ∷ d ∷ behind ∷ []) k
+four_is : (before a first b comma c second d behind : Token) (k : Constant)
+    → four_bytes before (pair_of a first b) comma (pair_of c second d) behind ≡ Some k
+    → IsBehind prefix.Bytes (before ∷ a ∷ first ∷ b ∷ comma ∷ c ∷ second ∷ d ∷ behind ∷ []) k
 four_is before a first b comma c second d behind k e =
     let t = taken (is_joined (codes "(") before && is_sign (codes ",") comma && is_sign (codes ")") behind) _ k e in
     let p = and_parts (is_joined (codes "(") before && is_sign (codes ",") comma) (is_sign (codes ")") behind) t.0 in
@@ -128,7 +139,8 @@ four_all n (before ∷ a ∷ first ∷ b ∷ comma ∷ c ∷ second ∷ d ∷ be
         (λ k e size. absurd (omega (arith, all, size)))
 four_all n fewer all = tt
 
-binary_is : (digits : Token) (rest : List Token) (n : ℕ) → n ≡ 2 + length (digits ∷ rest) → (c : Constant) → binary_of digits ≡ Some c → 3 ≡ n → IsBehind prefix.Binary (digits ∷ rest) c
+binary_is : (digits : Token) (rest : List Token) (n : ℕ) → n ≡ 2 + length (digits ∷ rest)
+    → (c : Constant) → binary_of digits ≡ Some c → 3 ≡ n → IsBehind prefix.Binary (digits ∷ rest) c
 binary_is digits [] n all c e size =
     let t = taken (is_joined_word digits) (option_map binary (bits_of digits.text)) c e in
     let m = mapped binary (bits_of digits.text) c t.1 in
@@ -172,7 +184,8 @@ behind_all n (prefix.LeftOut kind) tokens all = tt
 prefixed_all : (table : List Prefixed) (tokens : List Token) → AllOf (length tokens) (IsPrefixed table tokens) (prefixed_at table tokens)
 prefixed_all table tokens = by (find (has_prefix tokens) table) refl
   where
-    row_at : (row : Prefixed) (tokens : List Token) → IsAmong row table → has_prefix tokens row ≡ true → AllOf (length tokens) (IsPrefixed table tokens) (behind_prefix row.what (drop 2 tokens))
+    row_at : (row : Prefixed) (tokens : List Token) → IsAmong row table → has_prefix tokens row ≡ true
+        → AllOf (length tokens) (IsPrefixed table tokens) (behind_prefix row.what (drop 2 tokens))
     row_at row [] among e = absurd cc
     row_at row (first ∷ []) among e = absurd cc
     row_at row (first ∷ hash ∷ rest) among e =
@@ -194,11 +207,13 @@ real_all n P tokens = by (begins_real tokens)
 
 marked_all : (table : List Prefixed) (tokens : List Token) → AllOf (length tokens) (IsPrefixed table tokens) (marked_at table tokens)
 marked_all table tokens =
-    or_all (length tokens) (IsPrefixed table tokens) (prefixed_at table tokens) (real_at tokens) (prefixed_all table tokens) (real_all (length tokens) (IsPrefixed table tokens) tokens)
+    or_all (length tokens) (IsPrefixed table tokens) (prefixed_at table tokens) (real_at tokens)
+    (prefixed_all table tokens) (real_all (length tokens) (IsPrefixed table tokens) tokens)
 
 plain_all : (tokens : List Token) (P : Constant → Type 0) → ((v : ℕ) → IsSigned width.Word tokens v → P (plain v)) → AllOf (length tokens) P (plain_at tokens)
 plain_all tokens P make =
-    as_all (length tokens) plain (IsSigned width.Word tokens) P make (signed_at 0 width.Word tokens) (signed_all 0 (length tokens) width.Word tokens (omega arith))
+    as_all (length tokens) plain (IsSigned width.Word tokens) P make
+    (signed_at 0 width.Word tokens) (signed_all 0 (length tokens) width.Word tokens (omega arith))
 
 text_is : (token : Token) (rest : List Token) (c : Constant) → text_in token ≡ Some c → 1 ≡ length (token ∷ rest) → IsConstant (token ∷ rest) c
 text_is token [] c e size = let t = taken (is_text_kind token.kind) (text_of token.text) c e in form.text token c t.0 t.1
@@ -212,13 +227,15 @@ pub constant_all : (tokens : List Token) → AllOf (length tokens) (IsConstant t
 constant_all tokens =
     or_all (length tokens) (IsConstant tokens) (text_at tokens) _ (text_all tokens)
     (or_all (length tokens) (IsConstant tokens) (marked_at prefixes tokens) (plain_at tokens)
-    (weaker (length tokens) (IsPrefixed prefixes tokens) (IsConstant tokens) (λ c is. form.prefixed tokens c is) (marked_at prefixes tokens) (marked_all prefixes tokens))
+    (weaker (length tokens) (IsPrefixed prefixes tokens) (IsConstant tokens)
+    (λ c is. form.prefixed_word tokens c is) (marked_at prefixes tokens) (marked_all prefixes tokens))
     (plain_all tokens (IsConstant tokens) (λ v is. form.number tokens v is)))
 
 pub addend_all : (tokens : List Token) → AllOf (length tokens) (IsAddend tokens) (addend_at tokens)
 addend_all tokens =
     or_all (length tokens) (IsAddend tokens) (marked_at addend_prefixes tokens) (plain_at tokens)
-    (weaker (length tokens) (IsPrefixed addend_prefixes tokens) (IsAddend tokens) (λ c is. form.dword tokens c is) (marked_at addend_prefixes tokens) (marked_all addend_prefixes tokens))
+    (weaker (length tokens) (IsPrefixed addend_prefixes tokens) (IsAddend tokens)
+    (λ c is. form.dword tokens c is) (marked_at addend_prefixes tokens) (marked_all addend_prefixes tokens))
     (plain_all tokens (IsAddend tokens) (λ v is. form.word tokens v is))
 
 -- a constant with a prefix of those that are left out has no form
@@ -244,9 +261,11 @@ none_prefixed tokens c (form.behind table row first hash rest k among word joine
 -- a constant that is left out has no form
 pub left_out_marked_all : (tokens : List Token) (P : Constant → Type 0) → AllOf (length tokens) P (marked_at left_out_prefixes tokens)
 left_out_marked_all tokens P =
-    weaker (length tokens) (IsPrefixed left_out_prefixes tokens) P (λ c is. absurd (none_prefixed tokens c is)) (marked_at left_out_prefixes tokens) (marked_all left_out_prefixes tokens)
+    weaker (length tokens) (IsPrefixed left_out_prefixes tokens) P (λ c is. absurd (none_prefixed tokens c is))
+    (marked_at left_out_prefixes tokens) (marked_all left_out_prefixes tokens)
 
-up_to_is : (most : ℕ) (sign : Token) (rest : List Token) → is_sign (codes "-") sign ≡ true → (n : ℕ) → zero_behind rest ≡ Some n → 2 ≡ length (sign ∷ rest) → IsUpTo most (sign ∷ rest) n
+up_to_is : (most : ℕ) (sign : Token) (rest : List Token) → is_sign (codes "-") sign ≡ true
+    → (n : ℕ) → zero_behind rest ≡ Some n → 2 ≡ length (sign ∷ rest) → IsUpTo most (sign ∷ rest) n
 up_to_is most sign [] minus n e size = absurd cc
 up_to_is most sign (zero ∷ next ∷ rest) minus n e size = absurd (omega (arith, size))
 up_to_is most sign (zero ∷ []) minus n e size =
@@ -265,7 +284,8 @@ up_to_all most (first ∷ rest) = by (is_sign (codes "-") first) refl
     by true t = fitting_all (length (first ∷ rest)) 2 (IsUpTo most (first ∷ rest)) (zero_behind rest) (up_to_is most first rest t)
     by false t = fitting_all (length (first ∷ rest)) 1 (IsUpTo most (first ∷ rest)) (number_in most first) (unsigned_is most first rest)
 
-pub number_all : (most : ℕ) (tokens : List Token) (P : Constant → Type 0) → ((n : ℕ) → IsUpTo most tokens n → P (plain n)) → AllOf (length tokens) P (number_at most tokens)
+pub number_all : (most : ℕ) (tokens : List Token) (P : Constant → Type 0)
+    → ((n : ℕ) → IsUpTo most tokens n → P (plain n)) → AllOf (length tokens) P (number_at most tokens)
 number_all most tokens P make =
     or_all (length tokens) P (marked_at left_out_prefixes tokens) _
     (left_out_marked_all tokens P)
@@ -283,17 +303,21 @@ signed_read before w tokens v (form.minus u sign word n minus glued is) =
     if_true (is_sign (codes "-") sign) _ _ minus
     ∙ ap (fitting (before + 2)) (if_true word.glued _ None glued ∙ ap (option_map (negative u)) (number_read (half u) word n is))
 
-hex_read : (w : Width) (base hash digits : Token) (value : ℕ) → IsHex w base hash digits value → hex_behind w (base ∷ hash ∷ digits ∷ []) ≡ Fits (constant w value) 5
+hex_read : (w : Width) (base hash digits : Token) (value : ℕ) → IsHex w base hash digits value
+    → hex_behind w (base ∷ hash ∷ digits ∷ []) ≡ Fits (constant w value) 5
 hex_read w base hash digits value is =
     ap (fitting 5)
-    (if_true (is_word (codes "16") base && base.glued && is_joined (codes "#") hash && is_joined_word digits) _ None (and_from _ _ (and_from _ _ (and_from _ _ is.base_is is.base_glued) is.hash_is) is.word)
+    (if_true (is_word (codes "16") base && base.glued && is_joined (codes "#") hash && is_joined_word digits) _ None
+    (and_from _ _ (and_from _ _ (and_from _ _ is.base_is is.base_glued) is.hash_is) is.word)
     ∙ ap (option_map (constant w)) is.number)
 
 -- behind a bracket no hexadecimal number stands
 no_hex : (w : Width) (base hash digits : Token) (rest : List Token) → is_joined (codes "(") base ≡ true → hex_behind w (base ∷ hash ∷ digits ∷ rest) ≡ No
 no_hex w base hash digits rest h =
     let word : is_word (codes "16") base ≡ false = and_left _ _ (no_word (codes "(") base (joined_sign (codes "(") base h)) in
-    ap (fitting 5) (if_false (is_word (codes "16") base && base.glued && is_joined (codes "#") hash && is_joined_word digits) _ None (and_left _ _ (and_left _ _ (and_left _ _ word))))
+    ap (fitting 5)
+    (if_false (is_word (codes "16") base && base.glued && is_joined (codes "#") hash && is_joined_word digits) _ None
+    (and_left _ _ (and_left _ _ (and_left _ _ word))))
 
 pair_read : (high comma low : Token) (value : ℕ) → IsPair high comma low value → pair_of high comma low ≡ Some value
 pair_read high comma low value is =
@@ -306,19 +330,22 @@ two_read : (before a comma b behind : Token) (value : ℕ) → is_joined (codes 
     two_behind (before ∷ a ∷ comma ∷ b ∷ behind ∷ []) ≡ Fits (constant width.Word value) 7
 two_read before a comma b behind value opens is closes =
     ap (fitting 7)
-    (if_true (is_joined (codes "(") before && is_sign (codes ")") behind) _ None (and_from _ _ opens closes) ∙ ap (option_map (constant width.Word)) (pair_read a comma b value is))
+    (if_true (is_joined (codes "(") before && is_sign (codes ")") behind) _ None (and_from _ _ opens closes)
+    ∙ ap (option_map (constant width.Word)) (pair_read a comma b value is))
 
 no_two : (before a comma b behind : Token) (rest : List Token) → is_sign (codes ")") behind ≡ false → two_behind (before ∷ a ∷ comma ∷ b ∷ behind ∷ rest) ≡ No
 no_two before a comma b behind rest h = ap (fitting 7) (if_false (is_joined (codes "(") before && is_sign (codes ")") behind) _ None (and_right _ _ h))
 
-four_read : (before a first b comma c second d behind : Token) (high low : ℕ) → is_joined (codes "(") before ≡ true → IsPair a first b high → is_sign (codes ",") comma ≡ true →
-    IsPair c second d low → is_sign (codes ")") behind ≡ true →
-    four_behind (before ∷ a ∷ first ∷ b ∷ comma ∷ c ∷ second ∷ d ∷ behind ∷ []) ≡ Fits (constant width.Dword (high * 2 ^ 16 + low)) 11
+four_read : (before a first b comma c second d behind : Token) (high low : ℕ)
+    → is_joined (codes "(") before ≡ true → IsPair a first b high → is_sign (codes ",") comma ≡ true
+    → IsPair c second d low → is_sign (codes ")") behind ≡ true
+    → four_behind (before ∷ a ∷ first ∷ b ∷ comma ∷ c ∷ second ∷ d ∷ behind ∷ []) ≡ Fits (constant width.Dword (high * 2 ^ 16 + low)) 11
 four_read before a first b comma c second d behind high low opens left between right closes =
     ap (fitting 11)
     (ap (λ (h : Option ℕ). four_bytes before h comma (pair_of c second d) behind) (pair_read a first b high left)
     ∙ ap (λ (l : Option ℕ). four_bytes before (Some high) comma l behind) (pair_read c second d low right)
-    ∙ if_true (is_joined (codes "(") before && is_sign (codes ",") comma && is_sign (codes ")") behind) _ None (and_from _ _ (and_from _ _ opens between) closes))
+    ∙ if_true (is_joined (codes "(") before && is_sign (codes ",") comma && is_sign (codes ")") behind) _ None
+    (and_from _ _ (and_from _ _ opens between) closes))
 
 behind_read : (what : Prefix) (tokens : List Token) (c : Constant) → IsBehind what tokens c → behind_prefix what tokens ≡ Fits c (2 + length tokens)
 behind_read what tokens c (form.long first rest value glued is) =
@@ -342,7 +369,8 @@ abbrev are_apart : List Prefixed → Bool
 are_apart [] = true
 are_apart (row ∷ rest) = not (list_any (λ (other : Prefixed). is_same_word other.word row.word) rest) && are_apart rest
 
-row_found : (table : List Prefixed) (row : Prefixed) (tokens : List Token) → are_apart table ≡ true → IsAmong row table → has_prefix tokens row ≡ true → find (has_prefix tokens) table ≡ Some row
+row_found : (table : List Prefixed) (row : Prefixed) (tokens : List Token) → are_apart table ≡ true
+    → IsAmong row table → has_prefix tokens row ≡ true → find (has_prefix tokens) table ≡ Some row
 row_found [] row tokens apart among passes = elim among [ ]
 row_found (x ∷ xs) row tokens apart among passes =
     let p = and_parts (not (list_any (λ (other : Prefixed). is_same_word other.word x.word) xs)) (are_apart xs) apart in
@@ -354,7 +382,8 @@ row_found (x ∷ xs) row tokens apart among passes =
     words (first ∷ hash ∷ rest) a b =
         let p = and_parts (is_word x.word first) (is_joined (codes "#") hash) a in
         let q = and_parts (is_word row.word first) (is_joined (codes "#") hash) b in
-        alike first.text x.word row.word (and_parts (is_word_kind first.kind) (is_same_word first.text x.word) p.0).1 (and_parts (is_word_kind first.kind) (is_same_word first.text row.word) q.0).1
+        alike first.text x.word row.word (and_parts (is_word_kind first.kind) (is_same_word first.text x.word) p.0).1
+        (and_parts (is_word_kind first.kind) (is_same_word first.text row.word) q.0).1
 
     by : (b : Bool) → has_prefix tokens x ≡ b → (row ≡ x) ⊎ IsAmong row xs → list_any (λ (other : Prefixed). is_same_word other.word x.word) xs ≡ false →
         (IsAmong row xs → find (has_prefix tokens) xs ≡ Some row) → cond b (Some x) (find (has_prefix tokens) xs) ≡ Some row
@@ -364,13 +393,15 @@ row_found (x ∷ xs) row tokens apart among passes =
     by false t (inl same) none next = let clash : true ≡ false = sym passes ∙ ap (has_prefix tokens) same ∙ t in absurd cc
     by false t (inr more) none next = next more
 
-prefixed_read : (table : List Prefixed) (tokens : List Token) (c : Constant) → are_apart table ≡ true → IsPrefixed table tokens c → prefixed_at table tokens ≡ Fits c (length tokens)
+prefixed_read : (table : List Prefixed) (tokens : List Token) (c : Constant) → are_apart table ≡ true
+    → IsPrefixed table tokens c → prefixed_at table tokens ≡ Fits c (length tokens)
 prefixed_read table tokens c apart (form.behind t row first hash rest k among word joined is) =
     let size : 2 + length rest ≡ length (first ∷ hash ∷ rest) = omega arith in
     ap (λ (o : Option Prefixed). prefixed_by o (first ∷ hash ∷ rest)) (row_found t row (first ∷ hash ∷ rest) apart among (and_from _ _ word joined))
     ∙ behind_read row.what rest k is ∙ ap (λ n. Fits k n) size
 
-marked_read : (table : List Prefixed) (tokens : List Token) (c : Constant) → are_apart table ≡ true → IsPrefixed table tokens c → marked_at table tokens ≡ Fits c (length tokens)
+marked_read : (table : List Prefixed) (tokens : List Token) (c : Constant) → are_apart table ≡ true
+    → IsPrefixed table tokens c → marked_at table tokens ≡ Fits c (length tokens)
 marked_read table tokens c apart is = or_this (prefixed_at table tokens) (real_at tokens) c (length tokens) (prefixed_read table tokens c apart is)
 
 -- tokens of a number, of a place or of an operand with a bracket, on which no mark is: one word, a sign and a word, two
@@ -382,7 +413,8 @@ pub data AreUnmarked : List Token → Type 0 where
   pointed : (first point : Token) (rest : List Token) → is_word_kind first.kind ≡ true → are_digits first.text ≡ false → is_sign (codes ".") point ≡ true →
       AreUnmarked (first ∷ point ∷ rest)
   bracket : (first : Token) (rest : List Token) → is_sign (codes "[") first ≡ true → AreUnmarked (first ∷ rest)
-  before_bracket : (first before : Token) (rest : List Token) → is_word_kind first.kind ≡ true → is_sign (codes "[") before ≡ true → AreUnmarked (first ∷ before ∷ rest)
+  before_bracket : (first before : Token) (rest : List Token) → is_word_kind first.kind ≡ true
+      → is_sign (codes "[") before ≡ true → AreUnmarked (first ∷ before ∷ rest)
 
 no_prefix : (tokens : List Token) → AreUnmarked tokens → (row : Prefixed) → has_prefix tokens row ≡ false
 no_prefix tokens (one word w) row = refl
@@ -394,7 +426,8 @@ no_prefix tokens (bracket first (hash ∷ rest) sign) row = and_left _ _ (and_le
 no_prefix tokens (before_bracket first before rest w sign) row = and_right _ _ (and_left _ _ (other_sign (codes "[") (codes "#") before sign refl))
 
 -- two words are no number before a point, nor is a word that is no number
-no_whole : (first point : Token) (rest : List Token) → (is_word_kind first.kind && are_digits first.text && is_joined (codes ".") point) ≡ false → is_real (first ∷ point ∷ rest) ≡ false
+no_whole : (first point : Token) (rest : List Token)
+    → (is_word_kind first.kind && are_digits first.text && is_joined (codes ".") point) ≡ false → is_real (first ∷ point ∷ rest) ≡ false
 no_whole first point [] h = refl
 no_whole first point (part ∷ rest) h = and_left _ _ (and_left _ _ h)
 
@@ -402,7 +435,8 @@ no_real : (tokens : List Token) → AreUnmarked tokens → begins_real tokens �
 no_real tokens (one word w) = if_false (is_sign (codes "-") word) _ _ (no_sign (codes "-") word w)
 no_real tokens (signed sign word minus w) = if_true (is_sign (codes "-") sign) _ _ minus ∙ and_right _ _ refl
 no_real tokens (two first word rest f w) =
-    if_false (is_sign (codes "-") first) _ _ (no_sign (codes "-") first f) ∙ no_whole first word rest (and_right _ _ (and_left _ _ (no_sign (codes ".") word w)))
+    if_false (is_sign (codes "-") first) _ _ (no_sign (codes "-") first f)
+    ∙ no_whole first word rest (and_right _ _ (and_left _ _ (no_sign (codes ".") word w)))
 no_real tokens (pointed first point rest f d at) =
     if_false (is_sign (codes "-") first) _ _ (no_sign (codes "-") first f) ∙ no_whole first point rest (and_left _ _ (and_right _ _ d))
 no_real tokens (bracket first [] sign) = if_false (is_sign (codes "-") first) _ _ (other_sign (codes "[") (codes "-") first sign refl)
@@ -415,7 +449,8 @@ no_real tokens (before_bracket first before rest w sign) =
 
 pub no_mark : (table : List Prefixed) (tokens : List Token) → AreUnmarked tokens → marked_at table tokens ≡ No
 no_mark table tokens are =
-    or_no (prefixed_at table tokens) (real_at tokens) (ap (λ (o : Option Prefixed). prefixed_by o tokens) (none_found (has_prefix tokens) table (no_prefix tokens are)))
+    or_no (prefixed_at table tokens) (real_at tokens)
+    (ap (λ (o : Option Prefixed). prefixed_by o tokens) (none_found (has_prefix tokens) table (no_prefix tokens are)))
     ∙ if_false (begins_real tokens) _ _ (no_real tokens are)
 
 no_text : (first : Token) (rest : List Token) → is_text_kind first.kind ≡ false → text_at (first ∷ rest) ≡ No
@@ -446,13 +481,14 @@ pub constant_read : (tokens : List Token) (c : Constant) → IsConstant tokens c
 constant_read tokens c (form.number ts v is) =
     let are = signed_unmarked width.Word ts v is in
     or_no (text_at ts) _ (unmarked_no_text ts are) ∙ or_no (marked_at prefixes ts) _ (no_mark prefixes ts are) ∙ plain_read ts v is
-constant_read tokens c (form.prefixed ts k is) =
+constant_read tokens c (form.prefixed_word ts k is) =
     or_no (text_at ts) _ (prefixed_no_text prefixes ts k is) ∙ or_this (marked_at prefixes ts) _ k (length ts) (marked_read prefixes ts k refl is)
 constant_read tokens c (form.text token k kind is) =
     or_this (text_at (token ∷ [])) _ k 1 (ap (fitting 1) (if_true (is_text_kind token.kind) _ None kind ∙ is))
 
 pub addend_read : (tokens : List Token) (c : Constant) → IsAddend tokens c → addend_at tokens ≡ Fits c (length tokens)
-addend_read tokens c (form.word ts v is) = or_no (marked_at addend_prefixes ts) _ (no_mark addend_prefixes ts (signed_unmarked width.Word ts v is)) ∙ plain_read ts v is
+addend_read tokens c (form.word ts v is) =
+    or_no (marked_at addend_prefixes ts) _ (no_mark addend_prefixes ts (signed_unmarked width.Word ts v is)) ∙ plain_read ts v is
 addend_read tokens c (form.dword ts k is) = or_this (marked_at addend_prefixes ts) _ k (length ts) (marked_read addend_prefixes ts k refl is)
 
 up_to_unmarked : (most : ℕ) (tokens : List Token) (n : ℕ) → IsUpTo most tokens n → AreUnmarked tokens
@@ -467,7 +503,8 @@ up_to_read most tokens n (form.minus_zero m sign zero k minus glued is) =
 
 pub number_at_read : (most : ℕ) (tokens : List Token) (n : ℕ) → IsUpTo most tokens n → number_at most tokens ≡ Fits (plain n) (length tokens)
 number_at_read most tokens n is =
-    or_no (marked_at left_out_prefixes tokens) _ (no_mark left_out_prefixes tokens (up_to_unmarked most tokens n is)) ∙ ap (read_as plain) (up_to_read most tokens n is)
+    or_no (marked_at left_out_prefixes tokens) _ (no_mark left_out_prefixes tokens (up_to_unmarked most tokens n is))
+    ∙ ap (read_as plain) (up_to_read most tokens n is)
 
 -- no constant begins with a word of another operand
 
@@ -504,7 +541,8 @@ pub late_no_number : (most : ℕ) (text : List ℕ) → starts_late (str_to_asci
 late_no_number most [] late = absurd cc
 late_no_number most (c ∷ cs) late = if_false (is_between 48 57 c && nat_le (0 * 10 + (c - 48)) most) _ None (and_left _ _ (late_no_digit c late))
 
-digit_no_word : (most : ℕ) (text : List ℕ) (n : ℕ) (word : List ℕ) → number_up_to most text ≡ Some n → starts_late (str_to_ascii_lowercase word) ≡ true → is_same_word text word ≡ false
+digit_no_word : (most : ℕ) (text : List ℕ) (n : ℕ) (word : List ℕ) → number_up_to most text ≡ Some n
+    → starts_late (str_to_ascii_lowercase word) ≡ true → is_same_word text word ≡ false
 digit_no_word most text n word e letter = by (is_same_word text word) refl
   where
     by : (b : Bool) → is_same_word text word ≡ b → b ≡ false
@@ -514,15 +552,17 @@ digit_no_word most text n word e letter = by (is_same_word text word) refl
         absurd cc
     by false s = refl
 
-signed_no_word : (w : Width) (tokens : List Token) (v : ℕ) (word : List ℕ) → IsSigned w tokens v → starts_late (str_to_ascii_lowercase word) ≡ true → word_is word tokens ≡ false
+signed_no_word : (w : Width) (tokens : List Token) (v : ℕ) (word : List ℕ) → IsSigned w tokens v
+    → starts_late (str_to_ascii_lowercase word) ≡ true → word_is word tokens ≡ false
 signed_no_word w tokens v word (form.positive u first n is) letter = and_right _ _ (digit_no_word (half u - 1) first.text n word is.number letter)
 signed_no_word w tokens v word (form.minus u sign first n minus glued is) letter = and_left _ _ (no_word (codes "-") sign minus)
 
 pub constant_no_word : (tokens : List Token) (c : Constant) (word : List ℕ) → IsConstant tokens c → IsNoConstant word → word_is word tokens ≡ false
 constant_no_word tokens c word (form.number ts v is) none = signed_no_word width.Word ts v word is none.letter
-constant_no_word tokens c word (form.prefixed ts k is) none = by ts k is none.other
+constant_no_word tokens c word (form.prefixed_word ts k is) none = by ts k is none.other
   where
-    by : (ts : List Token) (k : Constant) → IsPrefixed prefixes ts k → list_any (λ (r : Prefixed). is_same_word word r.word) prefixes ≡ false → word_is word ts ≡ false
+    by : (ts : List Token) (k : Constant) → IsPrefixed prefixes ts k
+        → list_any (λ (r : Prefixed). is_same_word word r.word) prefixes ≡ false → word_is word ts ≡ false
     by ts k (form.behind t row first hash rest m among there joined is) other =
         other_word row.word word first there (none_at (λ (r : Prefixed). is_same_word word r.word) t row among other)
 constant_no_word tokens c word (form.text token k kind is) none = and_left _ _ (text_no_word token kind)
@@ -543,35 +583,39 @@ up_to_there most tokens n (form.minus_zero m sign zero k minus glued is) e = abs
 -- a pointer constant is no other constant
 
 -- a word that begins with a letter is no plain number
-pub plain_none : (first : Token) (rest : List Token) → is_sign (codes "-") first ≡ false → (is_word_kind first.kind ≡ true → starts_late (str_to_ascii_lowercase first.text) ≡ true) →
-    plain_at (first ∷ rest) ≡ No
-plain_none first rest no_minus letter = ap (read_as plain) (if_false (is_sign (codes "-") first) _ _ no_minus ∙ ap (fitting 1) (by (is_word_kind first.kind) refl))
+pub plain_none : (first : Token) (rest : List Token) → is_sign (codes "-") first ≡ false
+    → (is_word_kind first.kind ≡ true → starts_late (str_to_ascii_lowercase first.text) ≡ true)
+    → plain_at (first ∷ rest) ≡ No
+plain_none first rest no_minus letter =
+    ap (read_as plain) (if_false (is_sign (codes "-") first) _ _ no_minus ∙ ap (fitting 1) (by (is_word_kind first.kind) refl))
   where
     by : (b : Bool) → is_word_kind first.kind ≡ b → (if b then number_up_to 32767 first.text else None) ≡ None
     by true kind = late_no_number 32767 first.text (letter kind)
     by false kind = refl
 
 -- behind `P#` only another `#` is left out
-pub pointer_no_mark : (table : List Prefixed) (word hash : Token) (rest : List Token) → are_apart table ≡ true → IsAmong (prefixed prefix.Pointer (codes "P")) table →
-    is_word (codes "P") word ≡ true → is_joined (codes "#") hash ≡ true → name_behind rest ≡ No → marked_at table (word ∷ hash ∷ rest) ≡ No
+pub pointer_no_mark : (table : List Prefixed) (word hash : Token) (rest : List Token)
+    → are_apart table ≡ true → IsAmong (prefixed_word prefix.Pointer (codes "P")) table
+    → is_word (codes "P") word ≡ true → is_joined (codes "#") hash ≡ true → name_behind rest ≡ No → marked_at table (word ∷ hash ∷ rest) ≡ No
 pointer_no_mark table word hash rest apart among is joined none =
     let kind = (and_parts (is_word_kind word.kind) (is_same_word word.text (codes "P")) is).0 in
     let no_point : is_joined (codes ".") hash ≡ false = and_left _ _ (other_sign (codes "#") (codes ".") hash (joined_sign (codes "#") hash joined) refl) in
     or_no (prefixed_at table (word ∷ hash ∷ rest)) (real_at (word ∷ hash ∷ rest))
     (ap (λ (o : Option Prefixed). prefixed_by o (word ∷ hash ∷ rest))
-    (row_found table (prefixed prefix.Pointer (codes "P")) (word ∷ hash ∷ rest) apart among (and_from _ _ is joined))
+    (row_found table (prefixed_word prefix.Pointer (codes "P")) (word ∷ hash ∷ rest) apart among (and_from _ _ is joined))
     ∙ none)
     ∙ if_false (begins_real (word ∷ hash ∷ rest)) _ No
     (if_false (is_sign (codes "-") word) _ _ (no_sign (codes "-") word kind) ∙ no_whole word hash rest (and_right _ _ no_point))
 
-pub pointer_no_constant : (word hash : Token) (rest : List Token) → is_word (codes "P") word ≡ true → is_joined (codes "#") hash ≡ true → name_behind rest ≡ No →
-    constant_at (word ∷ hash ∷ rest) ≡ No
+pub pointer_no_constant : (word hash : Token) (rest : List Token) → is_word (codes "P") word ≡ true → is_joined (codes "#") hash ≡ true → name_behind rest ≡ No
+    → constant_at (word ∷ hash ∷ rest) ≡ No
 pointer_no_constant word hash rest is joined none =
     let p = and_parts (is_word_kind word.kind) (is_same_word word.text (codes "P")) is in
     or_no (text_at (word ∷ hash ∷ rest)) _ (no_text word (hash ∷ rest) (word_no_text word p.0))
-    ∙ or_no (marked_at prefixes (word ∷ hash ∷ rest)) _ (pointer_no_mark prefixes word hash rest refl (inr (inr (inr (inr (inr (inr (inl refl))))))) is joined none)
+    ∙ or_no (marked_at prefixes (word ∷ hash ∷ rest)) _
+    (pointer_no_mark prefixes word hash rest refl (inr (inr (inr (inr (inr (inr (inl refl))))))) is joined none)
     ∙ plain_none word (hash ∷ rest) (no_sign (codes "-") word p.0) (λ kind. ap starts_late (same_letters word.text (codes "P") p.1))
 
-pub pointer_no_left_out : (word hash : Token) (rest : List Token) → is_word (codes "P") word ≡ true → is_joined (codes "#") hash ≡ true → name_behind rest ≡ No →
-    marked_at left_out_prefixes (word ∷ hash ∷ rest) ≡ No
+pub pointer_no_left_out : (word hash : Token) (rest : List Token) → is_word (codes "P") word ≡ true → is_joined (codes "#") hash ≡ true → name_behind rest ≡ No
+    → marked_at left_out_prefixes (word ∷ hash ∷ rest) ≡ No
 pointer_no_left_out word hash rest is joined none = pointer_no_mark left_out_prefixes word hash rest refl (inr (inl refl)) is joined none

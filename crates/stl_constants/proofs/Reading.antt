@@ -8,10 +8,10 @@ use Rattle.s7_base.specs.Tokens.{is_same_word}
 use Rattle.s7_base.specs.declared.token.Token.{Token}
 use Rattle.s7_base.specs.declared.token.TokenKind.{TokenKind}
 use Rattle.s7_base.specs.declared.token.TokenKind.TheVariants.{Word, Quoted, Text, Sign}
-use Rattle.stl_statements.specs.Readers.{fitting, or_else, read_as}
-use Rattle.stl_statements.specs.Words.{is_joined, is_quoted_kind, is_sign, is_sign_kind, is_text_kind, is_word, is_word_kind}
-use Rattle.stl_statements.specs.declared.mnemonic.Read.{Read}
-use Rattle.stl_statements.specs.declared.mnemonic.Read.TheVariants.{Fits, LeftOut, No}
+use Rattle.stl_statement_grammar.specs.Readers.{fitting, or_else, read_as}
+use Rattle.stl_statement_grammar.specs.Words.{is_joined, is_quoted_kind, is_sign, is_sign_kind, is_text_kind, is_word, is_word_kind}
+use Rattle.stl_statement_grammar.specs.declared.mnemonic.Read.{Read}
+use Rattle.stl_statement_grammar.specs.declared.mnemonic.Read.TheVariants.{Fits, LeftOut, No}
 
 -- Tests
 
@@ -179,7 +179,8 @@ or_all n P No b p q = q
 or_all n P (LeftOut kind) b p q = p
 or_all n P (Fits a size) b p q = p
 
-pub as_all : {A B : Type 0} (n : ℕ) (make : A → B) (P : A → Type 0) (Q : B → Type 0) → ((a : A) → P a → Q (make a)) → (r : Read A) → AllOf n P r → AllOf n Q (read_as make r)
+pub as_all : {A B : Type 0} (n : ℕ) (make : A → B) (P : A → Type 0) (Q : B → Type 0)
+    → ((a : A) → P a → Q (make a)) → (r : Read A) → AllOf n P r → AllOf n Q (read_as make r)
 as_all n make P Q h No p = tt
 as_all n make P Q h (LeftOut kind) p = tt
 as_all n make P Q h (Fits a size) p = λ e. h a (p e)

@@ -3,12 +3,12 @@ use Rattle.std.proofs.Common.{◌≡◌, ◌⊎◌, inl, inr, Bool, true, false,
 use Rattle.std.proofs.lemmas.Bool.{and_parts, not-true, or_parts}
 use Rattle.std.specs.List.{find, list_any}
 use Rattle.std.specs.Prelude.{◌||◌, option_map}
-use Rattle.stl_statements.specs.ConstantForms.{IsAmong}
+use Rattle.stl_statement_grammar.specs.ConstantForms.{IsAmong}
 
 -- a table that is seen as another
 
-at : {X Y : Type 0} (view : X → Y) (test : Y → Bool) (x : X) (xs : List X) (b : Bool) → option_map view (find (λ y. test (view y)) xs) ≡ find test (map view xs) →
-    option_map view (cond b (Some x) (find (λ y. test (view y)) xs)) ≡ cond b (Some (view x)) (find test (map view xs))
+at : {X Y : Type 0} (view : X → Y) (test : Y → Bool) (x : X) (xs : List X) (b : Bool) → option_map view (find (λ y. test (view y)) xs) ≡ find test (map view xs)
+    → option_map view (cond b (Some x) (find (λ y. test (view y)) xs)) ≡ cond b (Some (view x)) (find test (map view xs))
 at view test x xs true h = refl
 at view test x xs false h = h
 
@@ -55,7 +55,8 @@ pub none_passes : {X : Type 0} (test : X → Bool) (xs : List X) (other : X) →
 none_passes test [] other e h = elim h [ ]
 none_passes test (x ∷ xs) other e h = by (test x) refl e h (λ k more. none_passes test xs other k more)
   where
-    by : (b : Bool) → test x ≡ b → cond b (Some x) (find test xs) ≡ None → (other ≡ x) ⊎ IsAmong other xs → (find test xs ≡ None → IsAmong other xs → test other ≡ false)
+    by : (b : Bool) → test x ≡ b → cond b (Some x) (find test xs) ≡ None
+        → (other ≡ x) ⊎ IsAmong other xs → (find test xs ≡ None → IsAmong other xs → test other ≡ false)
         → test other ≡ false
     by true t e h next = absurd cc
     by false t e (inl same) next = ap test same ∙ t
@@ -108,7 +109,8 @@ found_apart test clash (y ∷ ys) x apart both among passes =
     let p = and_parts (not (list_any (clash y) ys)) (are_apart clash ys) apart in
     by (test y) refl among (not-true (list_any (clash y) ys) p.0) (λ more. found_apart test clash ys x p.1 both more passes)
   where
-    by : (b : Bool) → test y ≡ b → (x ≡ y) ⊎ IsAmong x ys → list_any (clash y) ys ≡ false → (IsAmong x ys → find test ys ≡ Some x) → cond b (Some y) (find test ys) ≡ Some x
+    by : (b : Bool) → test y ≡ b → (x ≡ y) ⊎ IsAmong x ys → list_any (clash y) ys ≡ false
+        → (IsAmong x ys → find test ys ≡ Some x) → cond b (Some y) (find test ys) ≡ Some x
     by true t (inl same) none next = ap Some (sym same)
     by true t (inr more) none next = let clashes : true ≡ false = sym (both y x t passes) ∙ none_at (clash y) ys x more none in absurd cc
     by false t (inl same) none next = let clashes : true ≡ false = sym passes ∙ ap test same ∙ t in absurd cc

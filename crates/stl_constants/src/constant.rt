@@ -2,25 +2,25 @@
 ghost use Rattle.std.specs.Prelude.{◌≡◌, ◌≤◌, ◌<◌, ◌^◌, ◌-◌, IfSome, map, option_map};
 ghost use Rattle.std.specs.List.{find};
 ghost use Rattle.memory_areas.specs.Access.{bits_wide};
-ghost use Rattle.stl_statements.specs.Constants.{addend_at, addend_prefixes, begins_glued, begins_real, behind_prefix, binary, binary_behind, binary_of, constant, constant_at, ends_real, four_behind, four_bytes, half, has_prefix, hex_behind, hex_of, is_exponent, is_fraction, is_real, is_signed_exponent, left_out_prefixes, long_behind, marked_at, name_behind, negative, negative_behind, number_at, pair_of, plain, plain_at, prefixed_at, prefixes, real_at, room_for, signed_at, text_at, text_in, text_of, two_behind, two_bytes, up_to, zero_behind};
-ghost use Rattle.stl_statements.specs.Readers.{fitting, number_in, or_else, read_as};
-ghost use Rattle.stl_statements.specs.declared.mnemonic.Prefix.TheVariants as prefix;
+ghost use Rattle.stl_statement_grammar.specs.Constants.{addend_at, addend_prefixes, begins_glued, begins_real, behind_prefix, binary, binary_behind, binary_of, constant, constant_at, ends_real, four_behind, four_bytes, half, has_prefix, hex_behind, hex_of, is_exponent, is_fraction, is_real, is_signed_exponent, left_out_prefixes, long_behind, marked_at, name_behind, negative, negative_behind, number_at, pair_of, plain, plain_at, prefixed_at, prefixes, real_at, room_for, signed_at, text_at, text_in, text_of, two_behind, two_bytes, up_to, zero_behind};
+ghost use Rattle.stl_statement_grammar.specs.Readers.{fitting, number_in, or_else, read_as};
+ghost use Rattle.stl_statement_grammar.specs.declared.mnemonic.Prefix.TheVariants as prefix;
 ghost use Rattle.s7_base.specs.declared.word.Width.TheVariants as width;
-ghost use Rattle.stl_constants.specs.inner.Rows.{shown};
+ghost use Rattle.stl_constants.specs.inner.Rows.{prefixed_of};
 
 use crate::number::{bits_of, hex_number};
 use crate::words::{is_joined, is_joined_word, is_sign, is_text, is_word, is_word_kind};
 use digit_texts::{are_digits, digits_size, number_up_to};
 use s7_base::{Kind, Token, Width, rest_after};
-use stl_statements::{Bits, Prefix, Read};
+use stl_statement_grammar::{Bits, Prefix, Read};
 use stl_tree::Constant;
 
-/// A word before a `#`, and what stands behind it.
+/// A word before a `#`, and what follows the `#`.
 #[derive(Clone, Copy)]
 pub struct Prefixed(&'static str, Prefix);
 
 /// The prefixes: first those of numbers of all kinds, then that of a double word, then those of constants
-/// that are left out.
+/// that are not supported.
 static PREFIXES: [Prefixed; 15] = [
     Prefixed("B", Prefix::Bytes),
     Prefixed("W", Prefix::Hex(Width::Word)),
@@ -39,7 +39,7 @@ static PREFIXES: [Prefixed; 15] = [
     Prefixed("DT", Prefix::LeftOut(Kind::DateTime)),
 ];
 
-/// What was read takes so many tokens.
+/// What was read, with the number of its tokens.
 pub fn fitting<T>(size: usize, found: Option<T>) -> Read<T>
     ensures { result ≡ fitting size found }
 {
@@ -60,7 +60,7 @@ fn constant(width: Width, value: u32) -> Constant
     }
 }
 
-/// A plain number, by its pattern.
+/// A plain number as a constant, by its pattern.
 fn plain(value: u32) -> Constant
     ensures { result ≡ plain value }
 {
@@ -72,7 +72,7 @@ fn plain(value: u32) -> Constant
     }
 }
 
-/// A word that is a number of at most so much.
+/// A word that is a number of at most `most`.
 fn number_in(most: u32, token: &Token) -> Option<u32>
     ensures value { result ≡ number_in most token.now }
     ensures within { IfSome result (λ number. number ≤ most) }
@@ -84,7 +84,7 @@ fn number_in(most: u32, token: &Token) -> Option<u32>
     }
 }
 
-/// Half of the patterns of a width.
+/// Half of the number of patterns of a width.
 fn half(width: Width) -> u32
     ensures { result ≡ half width }
 {
@@ -128,7 +128,7 @@ fn negative_behind(width: Width, tokens: &[Token]) -> Option<u32>
     }
 }
 
-/// The pattern of a number with its sign, behind so many tokens.
+/// The pattern of a number with its sign, after this many tokens.
 fn signed_at(before: usize, width: Width, tokens: &[Token]) -> Read<u32>
     requires { before ≤ 2 }
     ensures { result ≡ signed_at before width tokens.now }
@@ -236,7 +236,7 @@ fn four_behind(tokens: &[Token]) -> Read<Constant>
     }
 }
 
-/// The least width that has room for so many digits.
+/// The least width that has room for this many digits.
 fn room_for(count: u32) -> Width
     ensures { result ≡ room_for count }
 {
@@ -308,7 +308,7 @@ fn long_behind(tokens: &[Token]) -> Read<Constant>
     }
 }
 
-/// Behind `P#`: another `#` before a name.
+/// The tokens after `P#`: with another `#` they are a pointer to a name, which is not supported.
 fn name_behind(tokens: &[Token]) -> Read<Constant>
     ensures { result ≡ name_behind tokens.now }
 {
@@ -349,9 +349,9 @@ fn behind_prefix(what: Prefix, tokens: &[Token]) -> Read<Constant>
     }
 }
 
-/// The prefix stands at the front, with no blank before its `#`.
+/// Whether the tokens begin with the prefix, with no blank before its `#`.
 fn has_prefix(row: &Prefixed, tokens: &[Token]) -> bool
-    ensures { result ≡ has_prefix tokens.now (shown row.now) }
+    ensures { result ≡ has_prefix tokens.now (prefixed_of row.now) }
 {
     match tokens {
         [first, hash, ..] => is_word(first, row.0) && is_joined(hash, "#"),
@@ -360,21 +360,21 @@ fn has_prefix(row: &Prefixed, tokens: &[Token]) -> bool
 }
 
 fn prefix_found(tokens: &[Token], table: &[Prefixed]) -> Option<Prefixed>
-    ensures { result ≡ find (λ row. has_prefix tokens.now (shown row)) table.now }
+    ensures { result ≡ find (λ row. has_prefix tokens.now (prefixed_of row)) table.now }
 {
     table.iter().copied().find(|row| has_prefix(row, tokens))
 }
 
-/// The first prefix of a table that stands at the front.
+/// The first prefix of a table with which the tokens begin.
 fn first_prefix(tokens: &[Token], table: &[Prefixed]) -> Option<Prefixed>
-    ensures { option_map shown result ≡ find (has_prefix tokens.now) (map shown table.now) }
+    ensures { option_map prefixed_of result ≡ find (has_prefix tokens.now) (map prefixed_of table.now) }
 {
     prefix_found(tokens, table)
 }
 
 /// A constant with a prefix of a table.
 fn prefixed_at(table: &[Prefixed], tokens: &[Token]) -> Read<Constant>
-    ensures { result ≡ prefixed_at (map shown table.now) tokens.now }
+    ensures { result ≡ prefixed_at (map prefixed_of table.now) tokens.now }
 {
     match first_prefix(tokens, table) {
         Some(row) => behind_prefix(row.1, rest_after(tokens, 2)),
@@ -383,20 +383,20 @@ fn prefixed_at(table: &[Prefixed], tokens: &[Token]) -> Read<Constant>
 }
 
 fn prefixes() -> &'static [Prefixed]
-    ensures { map shown result.now ≡ prefixes }
+    ensures { map prefixed_of result.now ≡ prefixes }
 {
     &PREFIXES
 }
 
 fn addend_prefixes() -> &'static [Prefixed]
-    ensures { map shown result.now ≡ addend_prefixes }
+    ensures { map prefixed_of result.now ≡ addend_prefixes }
 {
     rest_after(&PREFIXES, 4)
 }
 
-/// The prefixes of constants that are left out.
+/// The prefixes of constants that are not supported.
 fn left_out_prefixes() -> &'static [Prefixed]
-    ensures { map shown result.now ≡ left_out_prefixes }
+    ensures { map prefixed_of result.now ≡ left_out_prefixes }
 {
     rest_after(&PREFIXES, 5)
 }
@@ -423,7 +423,7 @@ fn is_signed_exponent(rest: &[Token]) -> bool
     }
 }
 
-/// What may stand behind the digits after the point: nothing, or an exponent.
+/// Whether a real constant may end after these digits after its point: nothing follows, or an exponent.
 fn ends_real(text: &[u8], rest: &[Token]) -> bool
     ensures { result ≡ ends_real text.now rest.now }
 {
@@ -440,7 +440,7 @@ fn is_fraction(text: &[u8], rest: &[Token]) -> bool
     size > 0 && ends_real(rest_after(text, size), rest)
 }
 
-/// Digits, a point and digits, with no blank inside.
+/// Whether the tokens are digits, a point and digits, with no blank inside.
 fn is_real(tokens: &[Token]) -> bool
     ensures { result ≡ is_real tokens.now }
 {
@@ -456,7 +456,7 @@ fn is_real(tokens: &[Token]) -> bool
     }
 }
 
-/// No blank stands before the first token.
+/// Whether no blank comes before the first token.
 pub fn begins_glued(tokens: &[Token]) -> bool
     ensures { result ≡ begins_glued tokens.now }
 {
@@ -466,7 +466,7 @@ pub fn begins_glued(tokens: &[Token]) -> bool
     }
 }
 
-/// A real constant stands at the front; a minus may stand before it.
+/// Whether the tokens begin with a real constant; a minus may come before it.
 fn begins_real(tokens: &[Token]) -> bool
     ensures { result ≡ begins_real tokens.now }
 {
@@ -533,7 +533,7 @@ fn plain_at(tokens: &[Token]) -> Read<Constant>
 
 /// A constant with a prefix of a table, or a real one.
 fn marked_at(table: &[Prefixed], tokens: &[Token]) -> Read<Constant>
-    ensures { result ≡ marked_at (map shown table.now) tokens.now }
+    ensures { result ≡ marked_at (map prefixed_of table.now) tokens.now }
 {
     match prefixed_at(table, tokens) {
         Read::No => real_at(tokens),
@@ -541,14 +541,14 @@ fn marked_at(table: &[Prefixed], tokens: &[Token]) -> Read<Constant>
     }
 }
 
-/// What is left out wherever a constant may stand: a form by its prefix, or a real constant.
+/// A constant that is not supported: a form by its prefix, or a real constant.
 pub fn left_out_constant_at(tokens: &[Token]) -> Read<Constant>
     ensures { result ≡ marked_at left_out_prefixes tokens.now }
 {
     marked_at(left_out_prefixes(), tokens)
 }
 
-/// What stands where a number may stand that is added.
+/// The constant at a place where `+` takes a number.
 pub fn addend_at(tokens: &[Token]) -> Read<Constant>
     ensures { result ≡ addend_at tokens.now }
 {
@@ -567,7 +567,7 @@ fn number_or_marked(tokens: &[Token]) -> Read<Constant>
     }
 }
 
-/// What stands where any constant may stand.
+/// The constant at a place where any constant may be written.
 pub fn constant_at(tokens: &[Token]) -> Read<Constant>
     ensures { result ≡ constant_at tokens.now }
 {
@@ -577,7 +577,7 @@ pub fn constant_at(tokens: &[Token]) -> Read<Constant>
     }
 }
 
-/// Behind a minus: 0, with no blank before it.
+/// The number 0 after a minus, with no blank between them.
 fn zero_behind(tokens: &[Token]) -> Option<u32>
     ensures { result ≡ zero_behind tokens.now }
 {
@@ -587,7 +587,7 @@ fn zero_behind(tokens: &[Token]) -> Option<u32>
     }
 }
 
-/// A number from 0 to so much; `-0` is one.
+/// A number from 0 to `most`; `-0` is 0.
 fn up_to(most: u8, tokens: &[Token]) -> Read<u32>
     ensures { result ≡ up_to most tokens.now }
 {
@@ -598,7 +598,7 @@ fn up_to(most: u8, tokens: &[Token]) -> Read<u32>
     }
 }
 
-/// What stands where a number from 0 to so much may stand.
+/// The constant at a place where a number from 0 to `most` may be written.
 pub fn number_at(most: u8, tokens: &[Token]) -> Read<Constant>
     ensures { result ≡ number_at most tokens.now }
 {

@@ -1,9 +1,9 @@
 //! Tests words and signs, and reads numbers and constants: the least parts of a statement.
 //!
-//! Stands on `stl_statements`, which has them as definitions, and on `digit_texts` for digits and decimal numbers.
-//! Each call gives what its definition gives for the same tokens, also where that is that nothing fits or that a
-//! form is left out. `proofs/` has for the crates above that a constant is read exactly where one of its forms
-//! stands.
+//! Uses `stl_statement_grammar`, which has them as definitions, and `digit_texts` for digits and decimal numbers.
+//! Each call gives what its definition gives for the same tokens, also where nothing fits or a form is not
+//! supported. `proofs/` has for other crates that a constant is read exactly where one of its forms is
+//! written.
 #![tactic(auto)]
 
 pub use constant::{

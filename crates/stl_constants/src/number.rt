@@ -1,15 +1,15 @@
 //! Numbers, digit by digit.
 ghost use Rattle.std.specs.Prelude.{◌≡◌, ◌≤◌, IfSome};
-ghost use Rattle.stl_statements.specs.Numbers.{bits_of, has_bits_at_ends, hex_number, is_bit, with_hex_digit, with_next};
-ghost use Rattle.stl_statements.specs.Statements.{is_numbered};
+ghost use Rattle.stl_statement_grammar.specs.Numbers.{bits_of, has_bits_at_ends, hex_number, is_bit, with_hex_digit, with_next};
+ghost use Rattle.stl_statement_grammar.specs.Statements.{is_numbered};
 ghost use Rattle.stl_constants.specs.inner.Bits.{AreBits};
 
 use crate::words::is_word_kind;
 use digit_texts::{are_digits, hex_value};
 use s7_base::{Token, front_of, is_same_word, rest_after};
-use stl_statements::Bits;
+use stl_statement_grammar::Bits;
 
-/// The token is this word and a number, without a blank.
+/// Whether the token is this word and a number, without a blank.
 pub fn is_numbered(token: &Token, word: &str) -> bool
     ensures { result ≡ is_numbered word.now token.now }
 {
@@ -53,7 +53,7 @@ fn is_bit(b: u8) -> bool
     matches!(b, b'0' | b'1')
 }
 
-/// A digit stands at both ends of a text.
+/// Whether a text begins and ends with a binary digit.
 fn has_bits_at_ends(text: &[u8]) -> bool
     ensures { result ≡ has_bits_at_ends text.now }
 {
@@ -81,7 +81,7 @@ fn with_next(bits: Bits, b: u8) -> Option<Bits>
     }
 }
 
-/// At most 32 binary digits; one or more `_` may stand between two of them.
+/// At most 32 binary digits; one or more `_` may be between two of them.
 pub fn bits_of(text: &[u8]) -> Option<Bits>
     ensures { result ≡ bits_of text.now }
 {

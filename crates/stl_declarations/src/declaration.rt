@@ -2,7 +2,7 @@
 ghost use Rattle.std.specs.Prelude.{◌≡◌, ◌+◌, ◌++◌, length, IfOk, OnOk};
 ghost use Rattle.stl_grammar.specs.Declarations.{alone, array_at, array_with, before_of, begins_with_number, bounds_at, closed_behind, closed_by, declaration_at, depth_of, dims_at, ends_level, has_number, in_array, is_user_type, left_of, left_out_type, levels_behind, one_word, one_word_at, opening_type, pointer_types, small_or_other, small_type, time_types, type_at, type_kind, upper_at, wide_or_left_out, wide_type, with_array, with_initial};
 ghost use Rattle.stl_grammar.specs.Initials.{ending_at};
-ghost use Rattle.stl_statements.specs.Readers.{further, read_as};
+ghost use Rattle.stl_statement_grammar.specs.Readers.{further, read_as};
 
 use crate::elements::{Next, begins_with_word, further, next_of, one_more};
 use crate::initial::ending_at;
@@ -15,7 +15,7 @@ use std::collections::LinkedList;
 use stl_constants::{is_numbered, is_sign, is_word, is_word_kind};
 use stl_grammar::{Innermost, Level, Section, Written};
 use stl_places::whole_at;
-use stl_statements::Read;
+use stl_statement_grammar::Read;
 use stl_tree::{ElemType, InitialItem};
 
 fn with_lower(low: i64, high: Read<i64>) -> Read<(i64, i64)>
@@ -28,7 +28,7 @@ fn with_lower(low: i64, high: Read<i64>) -> Read<(i64, i64)>
     }
 }
 
-/// The upper bound behind the lower one, which takes so many tokens.
+/// The bounds of a dimension, given the lower one and the number of its tokens.
 fn upper_at(low: i64, size: usize, tokens: &[Token]) -> Result<Read<(i64, i64)>, NoMemory>
     ensures { IfOk result (λ found. found ≡ upper_at low size tokens.now) }
 {
@@ -89,7 +89,7 @@ fn array_at(alloc: Global, tokens: &[Token]) -> Result<Read<List<(i64, i64)>>, N
     }
 }
 
-/// `OF` stands behind the dimensions.
+/// The dimensions of an array, if `OF` follows them.
 fn before_of(
     tokens: &[Token],
     read: Read<List<(i64, i64)>>,
@@ -123,7 +123,7 @@ fn small_type(word: &Token) -> Option<ElemType>
     }
 }
 
-/// A wider one.
+/// An elementary type of a word or a double word.
 fn wide_type(word: &Token) -> Option<ElemType>
     ensures { result ≡ wide_type word.now }
 {
@@ -149,21 +149,21 @@ fn begins_with_number(tokens: &[Token]) -> bool
     }
 }
 
-/// A word with a number, `UDT 5` or `UDT5`.
+/// Whether the tokens are a word with a number, `UDT 5` or `UDT5`.
 pub fn has_number(word: &str, first: &Token, rest: &[Token]) -> bool
     ensures { result ≡ has_number word.now first.now rest.now }
 {
     (is_word(first, word) && begins_with_number(rest)) || is_numbered(first, word)
 }
 
-/// A type of the user's own, by its number.
+/// Whether the tokens are a user-defined type, by its number.
 pub fn is_user_type(first: &Token, rest: &[Token]) -> bool
     ensures { result ≡ is_user_type first.now rest.now }
 {
     has_number("UDT", first, rest)
 }
 
-/// The kind of a type that is left out.
+/// The kind of a type that is not supported.
 fn type_kind(first: &Token, rest: &[Token]) -> Option<Kind>
     ensures { result ≡ type_kind first.now rest.now }
 {
@@ -203,7 +203,7 @@ fn wide_or_left_out(alloc: Global, wide: Option<ElemType>, left_out: Option<Kind
     }
 }
 
-/// What stands where a type of one word may stand, by its first token.
+/// The type of one word at a place, by its first token.
 fn one_word(alloc: Global, first: &Token, rest: &[Token]) -> Read<Written>
     ensures { result ≡ one_word first.now rest.now }
 {
@@ -240,7 +240,8 @@ fn with_array(dims: List<(i64, i64)>, read: Read<Written>) -> Result<Read<Writte
     }
 }
 
-/// The same, with its dimensions of so many tokens and the word before them.
+/// An array by its dimensions, the number of their tokens and its element type, with the word `ARRAY` before
+/// them.
 fn array_with(
     dims: List<(i64, i64)>,
     size: usize,
@@ -252,7 +253,7 @@ fn array_with(
     further(before, with_array(dims, element)?)
 }
 
-/// What stands where a type may stand that opens so many levels at most.
+/// The type at a place where at most `left` levels may be opened.
 fn type_at(alloc: Global, left: usize, tokens: &[Token]) -> Result<Read<Written>, NoMemory>
     ensures { IfOk result (λ found. found ≡ type_at left tokens.now) }
 {
@@ -290,8 +291,8 @@ fn with_initial(written: Written, read: Read<List<InitialItem>>) -> Read<Written
     }
 }
 
-/// A declaration by its type, and what ends it.
-fn ended(
+/// A declaration by its type, and what follows the type.
+fn with_ending(
     alloc: Global,
     section: Section,
     written: Written,
@@ -305,7 +306,7 @@ fn ended(
     further(size, with_initial(written, items))
 }
 
-/// A declaration by its type: one of a STRUCT ends behind its members.
+/// A declaration by its type; one of a STRUCT has its members and its end after this.
 fn closed_by(
     alloc: Global,
     section: Section,
@@ -319,7 +320,7 @@ fn closed_by(
         Innermost::Struct => Ok(Read::Fits(written, size)),
         Innermost::DateAndTime if !takes_dates(section) => Ok(Read::LeftOut(Kind::DateTime)),
         Innermost::Elementary(_) | Innermost::DateAndTime => {
-            ended(alloc, section, written, size, behind)
+            with_ending(alloc, section, written, size, behind)
         }
     }
 }
@@ -341,7 +342,7 @@ fn closed_behind(
     }
 }
 
-/// What stands where a declaration of a section may stand that opens so many levels at most, behind its name.
+/// The declaration of a section, after its name, at a place where a number of levels may be opened.
 pub fn declaration_at(
     alloc: Global,
     section: Section,
@@ -370,14 +371,14 @@ fn depth_of(levels: &LinkedList<Level>) -> usize
     }
 }
 
-/// How many more may be opened, of eight.
+/// How many more levels may be opened, of eight.
 pub fn left_of(levels: &LinkedList<Level>) -> usize
     ensures { result ≡ left_of levels.now }
 {
     8usize.saturating_sub(depth_of(levels))
 }
 
-/// The levels that are open behind a declaration on a line.
+/// The levels that are open after a declaration on a line.
 pub fn open_level(
     levels: &mut LinkedList<Level>,
     line: Line,
@@ -402,7 +403,7 @@ pub fn open_level(
     }
 }
 
-/// The word that ends the innermost STRUCT, or the section.
+/// Whether a token is the word that ends the innermost STRUCT, or the section.
 pub fn ends_level(section: Section, levels: &LinkedList<Level>, first: &Token) -> bool
     ensures { result ≡ ends_level section levels.now first.now }
 {

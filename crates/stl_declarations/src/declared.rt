@@ -1,6 +1,6 @@
-//! What declarations make of the program.
+//! The effect of declarations on the raw program.
 ghost use Rattle.std.specs.Prelude.{◌≡◌, [], ◌∷◌, Some, option_map, IfOk, OnOk};
-ghost use Rattle.stl_grammar.specs.RawPrograms.{array_of, closed, declaration, with_declared, with_last, with_own, with_part, with_type};
+ghost use Rattle.stl_grammar.specs.RawPrograms.{array_of, after_struct_end, declaration, with_declared, with_last, with_own, with_part, with_type};
 
 use s7_base::{Boxed, Line, List, NoMemory};
 use std::alloc::Global;
@@ -8,7 +8,7 @@ use std::collections::LinkedList;
 use stl_grammar::{Innermost, OpenStruct, Reading, Section, Written};
 use stl_tree::{DeclType, Declaration, InitialItem, RawBlock, RawData, RawDataKind};
 
-/// A type with arrays round it, the outermost first; there are eight at most.
+/// A type with arrays around it, the outermost first; there are eight at most.
 fn array_of(
     alloc: Global,
     arrays: LinkedList<List<(i64, i64)>>,
@@ -26,7 +26,7 @@ fn array_of(
     }
 }
 
-/// A declaration by its arrays, what they hold, and its initial values.
+/// A declaration by its arrays, their elements, and its initial values.
 fn declaration(
     alloc: Global,
     name: List<u8>,
@@ -46,7 +46,7 @@ fn declaration(
     })
 }
 
-/// One more declaration of a data block.
+/// Adds a declaration to a data block.
 fn put_own(db: &mut RawData, one: Declaration) -> Result<(), NoMemory>
     ensures { OnOk result (db.new ≡ with_own one db.old) }
 {
@@ -56,7 +56,7 @@ fn put_own(db: &mut RawData, one: Declaration) -> Result<(), NoMemory>
     }
 }
 
-/// One more declaration in a section of a block.
+/// Adds a declaration to a section of a block.
 fn put_part(block: &mut RawBlock, section: Section, one: Declaration) -> Result<(), NoMemory>
     ensures { OnOk result (block.new ≡ with_part section one block.old) }
 {
@@ -70,7 +70,7 @@ fn put_part(block: &mut RawBlock, section: Section, one: Declaration) -> Result<
     }
 }
 
-/// One more declaration of the last data block.
+/// Adds a declaration to the last data block.
 fn put_last_own(last_db: &mut Option<RawData>, one: Declaration) -> Result<(), NoMemory>
     ensures { OnOk result (last_db.new ≡ option_map (with_own one) last_db.old) }
 {
@@ -80,7 +80,7 @@ fn put_last_own(last_db: &mut Option<RawData>, one: Declaration) -> Result<(), N
     }
 }
 
-/// One more declaration in a section of the last block.
+/// Adds a declaration to a section of the last block.
 fn put_last_part(
     last: &mut Option<RawBlock>,
     section: Section,
@@ -94,7 +94,7 @@ fn put_last_part(
     }
 }
 
-/// One more declaration in the section that opened last.
+/// Adds a declaration to the section that opened last.
 fn put_last(reading: &mut Reading, one: Declaration) -> Result<(), NoMemory>
     requires { reading.now.structs ≡ [] }
     ensures { OnOk result (reading.new ≡ with_last one reading.old.section reading.old) }
@@ -108,7 +108,7 @@ fn put_last(reading: &mut Reading, one: Declaration) -> Result<(), NoMemory>
     }
 }
 
-/// One more declaration of the innermost STRUCT that is open, or in the section that opened last.
+/// Adds a declaration to the innermost STRUCT that is open, or to the section that opened last.
 fn put_declared(reading: &mut Reading, one: Declaration) -> Result<(), NoMemory>
     ensures { OnOk result (reading.new ≡ with_declared one reading.old.structs reading.old) }
 {
@@ -122,7 +122,7 @@ fn put_declared(reading: &mut Reading, one: Declaration) -> Result<(), NoMemory>
     }
 }
 
-/// One more declaration, or one more STRUCT that is open.
+/// Adds a declaration, or opens a STRUCT.
 pub fn put_type(
     alloc: Global,
     reading: &mut Reading,
@@ -155,13 +155,13 @@ pub fn put_type(
     put_declared(reading, one)
 }
 
-/// The innermost STRUCT is at its end, with its initial values.
+/// Ends the innermost STRUCT, with its initial values.
 pub fn put_closed(
     alloc: Global,
     reading: &mut Reading,
     items: List<InitialItem>,
 ) -> Result<(), NoMemory>
-    ensures { OnOk result (reading.new ≡ closed items reading.old.structs reading.old) }
+    ensures { OnOk result (reading.new ≡ after_struct_end items reading.old.structs reading.old) }
 {
     match reading.structs.pop_front() {
         Some(inner) => {

@@ -1,12 +1,12 @@
 //! Lists with commas between their elements, and words and signs at the front of tokens.
 ghost use Rattle.std.specs.Prelude.{◌≡◌, ◌+◌, IfOk};
-ghost use Rattle.stl_statements.specs.Lists.{begins_with_sign, begins_with_word};
-ghost use Rattle.stl_statements.specs.Readers.{further};
+ghost use Rattle.stl_statement_grammar.specs.Lists.{begins_with_sign, begins_with_word};
+ghost use Rattle.stl_statement_grammar.specs.Readers.{further};
 ghost use Rattle.stl_declarations.specs.inner.Lists.{next_of};
 
 use s7_base::{NoMemory, Token};
 use stl_constants::{is_sign, is_word};
-use stl_statements::Read;
+use stl_statement_grammar::Read;
 
 pub fn begins_with_word(word: &str, tokens: &[Token]) -> bool
     ensures { result ≡ begins_with_word word.now tokens.now }
@@ -26,7 +26,7 @@ pub fn begins_with_sign(sign: &str, tokens: &[Token]) -> bool
     }
 }
 
-/// One more than so many behind so many.
+/// The sum of two numbers of tokens, plus one.
 pub fn one_more(before: usize, size: usize) -> Result<usize, NoMemory>
     ensures { IfOk result (λ sum. sum ≡ before + (size + 1)) }
 {
@@ -34,7 +34,7 @@ pub fn one_more(before: usize, size: usize) -> Result<usize, NoMemory>
     before.checked_add(more).ok_or(NoMemory)
 }
 
-/// What was read behind so many tokens, with these.
+/// What was read after this many tokens, with these included.
 pub fn further<T: Drop>(before: usize, read: Read<T>) -> Result<Read<T>, NoMemory>
     ensures { IfOk result (λ found. found ≡ further before read) }
 {
@@ -48,13 +48,13 @@ pub fn further<T: Drop>(before: usize, read: Read<T>) -> Result<Read<T>, NoMemor
     }
 }
 
-/// What stands behind an element of a list.
+/// What follows an element of a list.
 #[derive(Clone, Copy)]
 pub enum Next {
     /// The end of the list.
     End,
 
-    /// A comma, and another element.
+    /// A comma and another element.
     More,
 
     Other,

@@ -2,9 +2,9 @@
 ghost use Rattle.std.specs.Prelude.{◌≡◌, ◌++◌, IfOk};
 ghost use Rattle.stl_grammar.specs.Initials.{alone, closed_value, count_of, ending_at, group_behind, initial, initial_at, initial_behind, item_of_list, last_value, list_at, once, path_value_at, pointer_of, pointer_value, times, value_at, values_at};
 ghost use Rattle.s7_base.specs.declared.word.Width.TheVariants as width;
-ghost use Rattle.stl_statements.specs.Constants.{constant, constant_at, truth, truth_at};
-ghost use Rattle.stl_statements.specs.Pointers.{pointer_at};
-ghost use Rattle.stl_statements.specs.Readers.{further, or_else, read_as};
+ghost use Rattle.stl_statement_grammar.specs.Constants.{constant, constant_at, truth, truth_at};
+ghost use Rattle.stl_statement_grammar.specs.Pointers.{pointer_at};
+ghost use Rattle.stl_statement_grammar.specs.Readers.{further, or_else, read_as};
 
 use crate::elements::{Next, begins_with_sign, further, next_of, one_more};
 use crate::section::takes_values;
@@ -14,7 +14,7 @@ use std::alloc::Global;
 use stl_constants::{constant_at, fitting, is_sign, is_word, is_word_kind};
 use stl_grammar::Section;
 use stl_places::{path_at, pointer_at, pointer_value};
-use stl_statements::Read;
+use stl_statement_grammar::Read;
 use stl_tree::{Constant, InitialItem, PathStep, RawInitial, RawPointer};
 
 fn bit(value: u32) -> Constant
@@ -40,7 +40,7 @@ fn truth(word: &Token) -> Option<Constant>
     }
 }
 
-/// `TRUE` or `FALSE`.
+/// The constant `TRUE` or `FALSE`.
 fn truth_at(tokens: &[Token]) -> Read<Constant>
     ensures { result ≡ truth_at tokens.now }
 {
@@ -80,7 +80,7 @@ fn constant_or_pointer_at(tokens: &[Token]) -> Read<Constant>
     }
 }
 
-/// What stands where an initial value may stand.
+/// The initial value at a place.
 fn value_at(tokens: &[Token]) -> Read<Constant>
     ensures { result ≡ value_at tokens.now }
 {
@@ -90,7 +90,7 @@ fn value_at(tokens: &[Token]) -> Read<Constant>
     }
 }
 
-/// Values and the bracket behind them.
+/// Values and the bracket after them.
 fn values_at(alloc: Global, tokens: &[Token]) -> Result<Read<List<Constant>>, NoMemory>
     ensures { IfOk result (λ read. read ≡ values_at tokens.now) }
 {
@@ -115,7 +115,7 @@ fn values_at(alloc: Global, tokens: &[Token]) -> Result<Read<List<Constant>>, No
     Ok(Read::No)
 }
 
-/// How many times the values in brackets stand.
+/// The count of values in brackets.
 fn count_of(word: &Token) -> Option<u32>
     ensures { result ≡ count_of word.now }
 {
@@ -128,7 +128,7 @@ fn count_of(word: &Token) -> Option<u32>
     }
 }
 
-fn repeated(count: u32, read: Read<List<Constant>>) -> Read<InitialItem>
+fn repetition(count: u32, read: Read<List<Constant>>) -> Read<InitialItem>
     ensures { result ≡ read_as (times count) read }
 {
     match read {
@@ -138,7 +138,7 @@ fn repeated(count: u32, read: Read<List<Constant>>) -> Read<InitialItem>
     }
 }
 
-/// Values behind their number and their bracket.
+/// Values after their count and their bracket.
 fn group_behind(
     alloc: Global,
     count: Option<u32>,
@@ -147,12 +147,12 @@ fn group_behind(
     ensures { IfOk result (λ read. read ≡ group_behind count tokens.now) }
 {
     match count {
-        Some(count) => Ok(repeated(count, values_at(alloc, tokens)?)),
+        Some(count) => Ok(repetition(count, values_at(alloc, tokens)?)),
         None => Ok(Read::No),
     }
 }
 
-/// A value alone.
+/// A value without a count.
 fn once(alloc: Global, value: Constant) -> Result<InitialItem, NoMemory>
     ensures { IfOk result (λ item. item ≡ once value) }
 {
@@ -249,7 +249,7 @@ fn alone_at(alloc: Global, tokens: &[Token]) -> Result<Read<List<InitialItem>>, 
     }
 }
 
-/// The initial value of a declaration and `;`: a list where it has an array round it.
+/// The initial value of a declaration and `;`: a list where its type is an array.
 fn initial_at(
     alloc: Global,
     in_array: bool,
@@ -292,7 +292,7 @@ fn at_path(line: Line, path: List<PathStep>, read: Read<Constant>) -> Read<RawIn
     }
 }
 
-/// What stands behind a path.
+/// What follows a path in the body of a data block: `:=` and an initial value.
 fn initial_behind(
     line: Line,
     path: List<PathStep>,

@@ -1,4 +1,4 @@
-//! Sections of declarations: which one a word opens, what may stand in it, and the word that ends it.
+//! Sections of declarations: which one a word opens, what may be in it, and the word that ends it.
 ghost use Rattle.std.specs.Prelude.{◌≡◌};
 ghost use Rattle.stl_grammar.specs.Sections.{end_of_section, formal_section, has_section, inner_section, is_later, may_open, rank_of, section_at, section_named, takes_dates, takes_values};
 
@@ -22,7 +22,7 @@ fn formal_section(word: &Token) -> Option<Section>
     }
 }
 
-/// Another one.
+/// A section that is not one of formals, by its word.
 fn inner_section(word: &Token) -> Option<Section>
     ensures { result ≡ inner_section word.now }
 {
@@ -47,7 +47,7 @@ fn section_named(word: &Token) -> Option<Section>
     }
 }
 
-/// A block of this kind has such a section.
+/// Whether a block of this kind may have this section.
 fn has_section(kind: BlockKind, section: Section) -> bool
     ensures { result ≡ has_section kind section }
 {
@@ -57,7 +57,7 @@ fn has_section(kind: BlockKind, section: Section) -> bool
     }
 }
 
-/// Where a section stands in the order of sections.
+/// The rank of a section in the order of sections.
 fn rank_of(section: Section) -> u8
     ensures { result ≡ rank_of section }
 {
@@ -71,7 +71,7 @@ fn rank_of(section: Section) -> u8
     }
 }
 
-/// It may stand behind another one, or behind none.
+/// Whether a section may come after another one, or after none.
 fn is_later(before: Option<Section>, section: Section) -> bool
     ensures { result ≡ is_later before section }
 {
@@ -81,14 +81,14 @@ fn is_later(before: Option<Section>, section: Section) -> bool
     }
 }
 
-/// It may open in a block of this kind, behind another one or behind none.
+/// Whether a section may open in a block of this kind, after another one or after none.
 fn may_open(kind: BlockKind, before: Option<Section>, section: Section) -> bool
     ensures { result ≡ may_open kind before section }
 {
     has_section(kind, section) && is_later(before, section)
 }
 
-/// The section that a word opens there.
+/// The section that a word opens in a block of this kind, after another section or after none.
 pub fn section_at(kind: BlockKind, before: Option<Section>, word: &Token) -> Option<Section>
     ensures { result ≡ section_at kind before word.now }
 {
@@ -98,7 +98,7 @@ pub fn section_at(kind: BlockKind, before: Option<Section>, word: &Token) -> Opt
     }
 }
 
-/// Its declarations may have initial values.
+/// Whether the declarations of a section may have initial values.
 pub fn takes_values(section: Section) -> bool
     ensures { result ≡ takes_values section }
 {
@@ -108,7 +108,7 @@ pub fn takes_values(section: Section) -> bool
     }
 }
 
-/// One of them may be of DATE_AND_TIME.
+/// Whether a declaration of a section may be of DATE_AND_TIME.
 pub fn takes_dates(section: Section) -> bool
     ensures { result ≡ takes_dates section }
 {
@@ -118,7 +118,7 @@ pub fn takes_dates(section: Section) -> bool
     }
 }
 
-/// The word that ends it.
+/// The word that ends a section.
 pub fn end_of_section(section: Section) -> &'static str
     ensures { result.now ≡ end_of_section section }
 {

@@ -1,9 +1,9 @@
-//! Tables of words, and the words of types that are left out.
+//! Tables of words, and the words of types that are not supported.
 ghost use Rattle.std.specs.Prelude.{◌≡◌};
 ghost use Rattle.std.specs.List.{list_any};
 ghost use Rattle.std.specs.Str.{str_eq_ignore_ascii_case};
 ghost use Rattle.stl_grammar.specs.Declarations.{pointer_types, time_types};
-ghost use Rattle.stl_statements.specs.Words.{is_word_among};
+ghost use Rattle.stl_statement_grammar.specs.Words.{is_word_among};
 
 use s7_base::{Token, is_same_word};
 use stl_constants::is_word_kind;
@@ -20,10 +20,10 @@ const POINTER_TYPES: [&str; 8] = [
     "COUNTER",
 ];
 
-/// Those of times and dates.
+/// The types of times and dates.
 const TIME_TYPES: [&str; 4] = ["TIME", "S5TIME", "DATE", "TIME_OF_DAY"];
 
-/// The word is one of a table's, letters in any case.
+/// Whether the word is one of a table, in any case.
 pub fn is_listed(word: &[u8], table: &[&str]) -> bool
     ensures { result ≡ list_any (λ entry. str_eq_ignore_ascii_case word.now entry.now) table.now }
 {

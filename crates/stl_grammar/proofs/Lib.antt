@@ -1,2 +1,2 @@
-pub mod ItemRows
+pub mod ItemCases
 pub mod Skipping

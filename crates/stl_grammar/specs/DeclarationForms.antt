@@ -5,14 +5,14 @@ use Rattle.s7_base.specs.declared.reason.Kind.TheVariants as kind
 use Rattle.s7_base.specs.declared.token.Token.{Token}
 use Rattle.stl_grammar.specs.Declarations.{alone, in_array, is_user_type, pointer_types, time_types, with_array, with_initial}
 use Rattle.stl_grammar.specs.InitialForms.{IsEnding, LeavesOutEnding}
-use Rattle.stl_statements.specs.ListForms.{AreElements}
+use Rattle.stl_statement_grammar.specs.ListForms.{AreElements}
 use Rattle.stl_grammar.specs.declared.declaration.Innermost.{Innermost}
 use Rattle.stl_grammar.specs.declared.declaration.Innermost.TheVariants as inner
 use Rattle.stl_grammar.specs.Sections.{takes_dates}
 use Rattle.stl_grammar.specs.declared.declaration.Section.{Section}
 use Rattle.stl_grammar.specs.declared.declaration.Written.{Written}
-use Rattle.stl_statements.specs.PathForms.{IsWhole}
-use Rattle.stl_statements.specs.Words.{is_sign, is_word, is_word_among, is_word_kind}
+use Rattle.stl_statement_grammar.specs.PathForms.{IsWhole}
+use Rattle.stl_statement_grammar.specs.Words.{is_sign, is_word, is_word_among, is_word_kind}
 use Rattle.stl_tree.specs.declared.raw.ElemType.{ElemType}
 use Rattle.stl_tree.specs.declared.raw.ElemType.TheVariants as elem
 use Rattle.stl_tree.specs.declared.raw.InitialItem.{InitialItem}
@@ -21,8 +21,9 @@ use Rattle.stl_tree.specs.declared.raw.InitialItem.{InitialItem}
 
 -- the bounds of a dimension: `1 .. 5`
 pub data IsBounds : List Token → ℤ × ℤ → Type 0 where
-  bounds : (front : List Token) (dots : Token) (rest : List Token) (low high : ℤ) →
-      IsWhole front low → is_sign (codes "..") dots ≡ true → IsWhole rest high → IsBounds (front ++ (dots ∷ rest)) (low, high)
+  bounds : (front : List Token) (dots : Token) (rest : List Token) (low high : ℤ)
+      → IsWhole front low → is_sign (codes "..") dots ≡ true
+      → IsWhole rest high → IsBounds (front ++ (dots ∷ rest)) (low, high)
 
 -- the dimensions of an array: `[1 .. 5, 0 .. 3] OF`
 pub data AreDims : List Token → List (ℤ × ℤ) → Type 0 where
@@ -40,47 +41,50 @@ elem_word elem.Int = codes "INT"
 elem_word elem.Dword = codes "DWORD"
 elem_word elem.Dint = codes "DINT"
 
--- a type that opens so many levels at most; each ARRAY and each STRUCT is one
+-- the tokens are a type that opens this many levels at most; each ARRAY and each STRUCT is one
 pub data IsType : ℕ → List Token → Written → Type 0 where
   elementary : (left : ℕ) (word : Token) (type : ElemType) →
       is_word (elem_word type) word ≡ true → IsType left (word ∷ []) (alone (inner.Elementary type))
   date_and_time : (left : ℕ) (word : Token) →
       is_word (codes "DATE_AND_TIME") word ≡ true → IsType left (word ∷ []) (alone inner.DateAndTime)
-  struct : (left : ℕ) (word : Token) → is_word (codes "STRUCT") word ≡ true → IsType (suc left) (word ∷ []) (alone inner.Struct)
+  struct : (left : ℕ) (word : Token) → is_word (codes "STRUCT") word ≡ true
+      → IsType (suc left) (word ∷ []) (alone inner.Struct)
   array : (left : ℕ) (word : Token) (front rest : List Token) (dims : List (ℤ × ℤ)) (type : Written) →
       is_word (codes "ARRAY") word ≡ true → AreDims front dims → IsType left rest type
       → IsType (suc left) (word ∷ (front ++ rest)) (with_array dims type)
 
--- tokens begin with a type of a kind that is left out, or with an array of one
+-- tokens begin with a type of a kind that is not supported, or with an array of one
 pub data LeavesOutType : ℕ → List Token → Kind → Type 0 where
-  real : (left : ℕ) (word : Token) (rest : List Token) → is_word (codes "REAL") word ≡ true → LeavesOutType left (word ∷ rest) kind.Real
+  real : (left : ℕ) (word : Token) (rest : List Token)
+      → is_word (codes "REAL") word ≡ true → LeavesOutType left (word ∷ rest) kind.Real
   pointer : (left : ℕ) (word : Token) (rest : List Token) →
       is_word_among pointer_types word ≡ true → LeavesOutType left (word ∷ rest) kind.PointerType
   string : (left : ℕ) (word : Token) (rest : List Token) →
       is_word (codes "STRING") word ≡ true → LeavesOutType left (word ∷ rest) kind.StringType
   time : (left : ℕ) (word : Token) (rest : List Token) →
       is_word_among time_types word ≡ true → LeavesOutType left (word ∷ rest) kind.DateTime
-  user : (left : ℕ) (word : Token) (rest : List Token) → is_user_type word rest ≡ true → LeavesOutType left (word ∷ rest) kind.UserType
+  user : (left : ℕ) (word : Token) (rest : List Token) → is_user_type word rest ≡ true
+      → LeavesOutType left (word ∷ rest) kind.UserType
   array_of : (left : ℕ) (word : Token) (front rest : List Token) (dims : List (ℤ × ℤ)) (k : Kind) →
       is_word (codes "ARRAY") word ≡ true → AreDims front dims → LeavesOutType left rest k
       → LeavesOutType (suc left) (word ∷ (front ++ rest)) k
 
 -- Declarations
 
--- what a declaration may hold that has its own end: no STRUCT, whose members follow, and DATE_AND_TIME only where
--- the section takes it
+-- a declaration of a type with an end of its own: no STRUCT, whose members follow, and DATE_AND_TIME only where the
+-- section takes it
 abbrev pub HasEnd : Section → Innermost → Type 0
 HasEnd section (inner.Elementary type) = Unit {0}
 HasEnd section inner.DateAndTime = takes_dates section ≡ true
 HasEnd section inner.Struct = ⊥
 
--- a name and a colon stand at the front of a declaration
+-- a declaration begins with a name and a colon
 pub record BeginsDeclaration (name colon : Token) : Type 0 where
   pub name_is : is_word_kind name.kind ≡ true
   pub colon_is : is_sign (codes ":") colon ≡ true
 
--- a declaration of a section that opens so many levels at most, behind its name: a type and what ends it, or the
--- type alone where the members of a STRUCT follow
+-- the tokens after a name are a declaration of a section that opens this many levels at most: a type and what ends
+-- it, or the type alone where the members of a STRUCT follow
 pub data IsDeclaration (section : Section) (left : ℕ) (name : Token) : List Token → Written → Type 0 where
   variable : (colon : Token) (front rest : List Token) (type : Written) (items : List InitialItem) →
       BeginsDeclaration name colon → IsType left front type → HasEnd section type.innermost
@@ -90,13 +94,14 @@ pub data IsDeclaration (section : Section) (left : ℕ) (name : Token) : List To
       BeginsDeclaration name colon → IsType left front type → type.innermost ≡ inner.Struct
       → IsDeclaration section left name (colon ∷ front) type
 
--- such a declaration has a type or a value of a kind that is left out; DATE_AND_TIME is where the section does not
--- take it
+-- the tokens after a name begin a declaration with a type or a value of a kind that is not supported; DATE_AND_TIME
+-- is one where the section does not take it
 pub data LeavesOutDeclaration (section : Section) (left : ℕ) (name : Token) : List Token → Kind → Type 0 where
   in_type : (colon : Token) (rest : List Token) (k : Kind) →
       BeginsDeclaration name colon → LeavesOutType left rest k → LeavesOutDeclaration section left name (colon ∷ rest) k
-  with_date : (colon : Token) (front rest : List Token) (type : Written) →
-      BeginsDeclaration name colon → IsType left front type → type.innermost ≡ inner.DateAndTime → takes_dates section ≡ false
+  with_date : (colon : Token) (front rest : List Token) (type : Written)
+      → BeginsDeclaration name colon → IsType left front type
+      → type.innermost ≡ inner.DateAndTime → takes_dates section ≡ false
       → LeavesOutDeclaration section left name (colon ∷ (front ++ rest)) kind.DateTime
   in_ending : (colon : Token) (front rest : List Token) (type : Written) (k : Kind) →
       BeginsDeclaration name colon → IsType left front type → HasEnd section type.innermost

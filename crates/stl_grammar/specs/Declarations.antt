@@ -1,10 +1,12 @@
--- Declarations: a name, a type, and what ends them.
+-- Declarations as they are written. A declaration is a name, a type with its arrays and STRUCTs, initial values, and
+-- what ends them.
+-- Held against: this project's own source form.
 use Rattle.std.specs.Prelude.{ℕ, zero, suc, ◌+◌, ◌-◌, ℤ, Bool, false, ◌&&◌, ◌||◌, nat_lt, if◌then◌else◌, List, [], ◌∷◌, length, drop, codes, Option, Some, None}
 use Rattle.s7_base.specs.declared.reason.Kind.{Kind}
 use Rattle.s7_base.specs.declared.reason.Kind.TheVariants as kind
 use Rattle.s7_base.specs.declared.reason.Line.{Line}
 use Rattle.s7_base.specs.declared.token.Token.{Token}
-use Rattle.stl_statements.specs.Lists.{begins_with_word, elements_from}
+use Rattle.stl_statement_grammar.specs.Lists.{begins_with_word, elements_from}
 use Rattle.stl_grammar.specs.Initials.{ending_at}
 use Rattle.stl_grammar.specs.declared.declaration.Innermost.{Innermost}
 use Rattle.stl_grammar.specs.declared.declaration.Innermost.TheVariants as inner
@@ -13,25 +15,25 @@ use Rattle.stl_grammar.specs.Sections.{end_of_section, takes_dates}
 use Rattle.stl_grammar.specs.declared.declaration.Section.{Section}
 use Rattle.stl_grammar.specs.declared.declaration.Written.{Written}
 use Rattle.digit_texts.specs.Digits.{are_digits}
-use Rattle.stl_statements.specs.Paths.{whole_at}
-use Rattle.stl_statements.specs.Readers.{further, read_as}
-use Rattle.stl_statements.specs.Statements.{is_numbered}
-use Rattle.stl_statements.specs.Words.{is_word, is_sign, is_word_kind, is_word_among}
-use Rattle.stl_statements.specs.declared.mnemonic.Read.{Read}
-use Rattle.stl_statements.specs.declared.mnemonic.Read.TheVariants.{Fits, LeftOut, No}
+use Rattle.stl_statement_grammar.specs.Paths.{whole_at}
+use Rattle.stl_statement_grammar.specs.Readers.{further, read_as}
+use Rattle.stl_statement_grammar.specs.Statements.{is_numbered}
+use Rattle.stl_statement_grammar.specs.Words.{is_word, is_sign, is_word_kind, is_word_among}
+use Rattle.stl_statement_grammar.specs.declared.mnemonic.Read.{Read}
+use Rattle.stl_statement_grammar.specs.declared.mnemonic.Read.TheVariants.{Fits, LeftOut, No}
 use Rattle.stl_tree.specs.declared.raw.ElemType.{ElemType}
 use Rattle.stl_tree.specs.declared.raw.ElemType.TheVariants as elem
 use Rattle.stl_tree.specs.declared.raw.InitialItem.{InitialItem}
 
 -- Bounds
 
--- the upper bound behind the lower one, which takes so many tokens
+-- the bounds of a dimension, given the lower one and the number of its tokens
 abbrev pub upper_at : ℤ → ℕ → List Token → Read (ℤ × ℤ)
 upper_at low size [] = No
 upper_at low size (dots ∷ rest) =
     if is_sign (codes "..") dots then further (size + 1) (read_as (λ high. (low, high)) (whole_at rest)) else No
 
--- the upper bound behind what was read as the lower one
+-- the bounds of a dimension, by what was read as the lower one
 abbrev pub upper_behind : List Token → Read ℤ → Read (ℤ × ℤ)
 upper_behind tokens (Fits low size) = upper_at low size (drop size tokens)
 upper_behind tokens other = No
@@ -44,9 +46,10 @@ bounds_at tokens = upper_behind tokens (whole_at tokens)
 abbrev pub dims_at : List Token → Read (List (ℤ × ℤ))
 dims_at tokens = elements_from bounds_at (codes "]") 0 tokens
 
--- `OF` stands behind the dimensions
+-- the dimensions of an array, if `OF` follows them
 abbrev pub before_of : List Token → Read (List (ℤ × ℤ)) → Read (List (ℤ × ℤ))
-before_of tokens (Fits dims size) = if begins_with_word (codes "OF") (drop size tokens) then Fits dims (size + 1) else No
+before_of tokens (Fits dims size) =
+    if begins_with_word (codes "OF") (drop size tokens) then Fits dims (size + 1) else No
 before_of tokens other = No
 
 -- the dimensions of an array and `OF`
@@ -65,7 +68,7 @@ small_type word =
     else if is_word (codes "CHAR") word then Some elem.Char
     else None
 
--- a wider one
+-- an elementary type of a word or a double word
 abbrev pub wide_type : Token → Option ElemType
 wide_type word =
     if is_word (codes "WORD") word then Some elem.Word
@@ -74,30 +77,30 @@ wide_type word =
     else if is_word (codes "DINT") word then Some elem.Dint
     else None
 
--- the types of pointers, which are left out
+-- the types of pointers, which are not supported
 abbrev pub pointer_types : List (List ℕ)
 pointer_types =
     codes "ANY" ∷ codes "POINTER" ∷ codes "BLOCK_FB" ∷ codes "BLOCK_FC" ∷ codes "BLOCK_DB" ∷ codes "BLOCK_SDB"
     ∷ codes "TIMER" ∷ codes "COUNTER" ∷ []
 
--- and those of times and dates
+-- the types of times and dates, which are not supported
 abbrev pub time_types : List (List ℕ)
 time_types = codes "TIME" ∷ codes "S5TIME" ∷ codes "DATE" ∷ codes "TIME_OF_DAY" ∷ []
 
--- a number stands at the front
+-- the tokens begin with a number
 abbrev pub begins_with_number : List Token → Bool
 begins_with_number [] = false
 begins_with_number (first ∷ rest) = is_word_kind first.kind && are_digits first.text
 
--- a word with a number, `UDT 5` or `UDT5`
+-- the tokens are a word with a number, `UDT 5` or `UDT5`
 abbrev pub has_number : List ℕ → Token → List Token → Bool
 has_number word first rest = (is_word word first && begins_with_number rest) || is_numbered word first
 
--- a type of the user's own, by its number
+-- the tokens are a user-defined type, by its number
 abbrev pub is_user_type : Token → List Token → Bool
 is_user_type first rest = has_number (codes "UDT") first rest
 
--- the kind of a type that is left out
+-- the kind of a type that is not supported
 abbrev pub type_kind : Token → List Token → Option Kind
 type_kind first rest =
     if is_word (codes "REAL") first then Some kind.Real
@@ -123,7 +126,7 @@ abbrev pub small_or_other : Option ElemType → Read Written → Read Written
 small_or_other (Some type) other = Fits (alone (inner.Elementary type)) 1
 small_or_other None other = other
 
--- what stands where a type of one word may stand, by its first token
+-- the type of one word at a place, by its first token
 abbrev pub one_word : Token → List Token → Read Written
 one_word first rest =
     if is_word (codes "DATE_AND_TIME") first then Fits (alone inner.DateAndTime) 1
@@ -137,19 +140,19 @@ one_word_at (first ∷ rest) = one_word first rest
 abbrev pub with_array : List (ℤ × ℤ) → Written → Written
 with_array dims type = record type { arrays = dims ∷ type.arrays }
 
--- an array by its dimensions and the type behind them
+-- an array by its dimensions and the type after them
 abbrev pub array_with : List Token → Read (List (ℤ × ℤ)) → (List Token → Read Written) → Read Written
 array_with tokens (Fits dims size) more = further (size + 1) (read_as (with_array dims) (more (drop size tokens)))
 array_with tokens other more = No
 
--- what stands where a type may stand that opens a level, given what stands where one may stand inside it
+-- the type at a place where a level may be opened, given how the type inside it is read
 abbrev pub opening_type : (List Token → Read Written) → List Token → Read Written
 opening_type more tokens =
     if begins_with_word (codes "STRUCT") tokens then Fits (alone inner.Struct) 1
     else if begins_with_word (codes "ARRAY") tokens then array_with (drop 1 tokens) (array_at (drop 1 tokens)) more
     else one_word_at tokens
 
--- what stands where a type may stand that opens so many levels at most
+-- the type at a place where at most this many levels may be opened
 abbrev pub type_at : ℕ → List Token → Read Written
 type_at zero tokens = one_word_at tokens
 type_at (suc left) tokens = opening_type (λ behind. type_at left behind) tokens
@@ -160,16 +163,18 @@ type_at (suc left) tokens = opening_type (λ behind. type_at left behind) tokens
 abbrev pub with_initial : Written → List InitialItem → Written
 with_initial type items = record type { initial = items }
 
--- so many arrays are some
+-- the number of arrays is not 0
 abbrev pub in_array : ℕ → Bool
 in_array arrays = nat_lt 0 arrays
 
--- a declaration of a section by its type: one of a STRUCT ends behind its members, and DATE_AND_TIME is left out
--- where the section does not take it
+-- a declaration of a section by its type; one of a STRUCT has its members and its end after this, and DATE_AND_TIME
+-- is not supported where the section does not take it
 abbrev pub closed_by : Section → Innermost → Written → ℕ → List Token → Read Written
 closed_by section inner.Struct type size behind = Fits type size
 closed_by section inner.DateAndTime type size behind =
-    if takes_dates section then further size (read_as (with_initial type) (ending_at section (in_array (length type.arrays)) behind)) else LeftOut kind.DateTime
+    if takes_dates section
+    then further size (read_as (with_initial type) (ending_at section (in_array (length type.arrays)) behind))
+    else LeftOut kind.DateTime
 closed_by section (inner.Elementary its) type size behind =
     further size (read_as (with_initial type) (ending_at section (in_array (length type.arrays)) behind))
 
@@ -178,7 +183,7 @@ closed_behind section tokens No = No
 closed_behind section tokens (LeftOut kind) = LeftOut kind
 closed_behind section tokens (Fits type size) = closed_by section type.innermost type size (drop size tokens)
 
--- what stands where a declaration of a section may stand that opens so many levels at most, behind its name
+-- the declaration of a section, after its name, at a place where at most this many levels may be opened
 abbrev pub declaration_at : Section → ℕ → Token → List Token → Read Written
 declaration_at section left name [] = No
 declaration_at section left name (colon ∷ rest) =
@@ -193,17 +198,17 @@ abbrev pub depth_of : List Level → ℕ
 depth_of [] = 0
 depth_of (level ∷ levels) = level.depth
 
--- how many more may be opened, of eight
+-- how many more levels may be opened, of eight
 abbrev pub left_of : List Level → ℕ
 left_of levels = 8 - depth_of levels
 
--- the levels that are open behind a declaration on a line with so many arrays
+-- the levels that are open after a declaration on a line with this many arrays
 abbrev pub levels_behind : List Level → Line → Innermost → ℕ → List Level
 levels_behind levels line inner.Struct arrays =
     record { line = line; depth = depth_of levels + arrays + 1; in_array = in_array arrays } ∷ levels
 levels_behind levels line other arrays = levels
 
--- the word that ends the innermost STRUCT, or the section
+-- a token is the word that ends the innermost STRUCT, or the section
 abbrev pub ends_level : Section → List Level → Token → Bool
 ends_level section [] first = is_word (end_of_section section) first
 ends_level section (level ∷ levels) first = is_word (codes "END_STRUCT") first

@@ -20,12 +20,12 @@ use Rattle.stl_grammar.specs.declared.declaration.Section.TheVariants as part
 use Rattle.stl_grammar.specs.declared.declaration.Written.{Written}
 use Rattle.stl_grammar.specs.Headings.{heading_kind, is_behind, is_heading_cut_off, is_skipped, kind_word, size_on}
 use Rattle.digit_texts.specs.Digits.{kept_number}
-use Rattle.stl_statements.specs.Paths.{number_word}
-use Rattle.stl_grammar.specs.Symbols.{ends_table, is_next, symbol_with, trimmed}
-use Rattle.stl_statements.specs.Statements.{begins_with_label, instruction_of, is_numbered}
-use Rattle.stl_statements.specs.Words.{is_word, is_quoted_kind}
-use Rattle.stl_grammar.specs.declared.item.Found.{Found}
-use Rattle.stl_grammar.specs.declared.item.Found.TheVariants.{Fits, Misfit, Ended}
+use Rattle.stl_statement_grammar.specs.Paths.{number_word}
+use Rattle.stl_grammar.specs.Symbols.{ends_table, is_next, symbol_with, trimmed_field}
+use Rattle.stl_statement_grammar.specs.Statements.{begins_with_label, instruction_of, is_numbered}
+use Rattle.stl_statement_grammar.specs.Words.{is_word, is_quoted_kind}
+use Rattle.stl_grammar.specs.declared.item.NextItem.{NextItem}
+use Rattle.stl_grammar.specs.declared.item.NextItem.TheVariants.{Fits, Misfit, Ended}
 use Rattle.stl_grammar.specs.declared.item.Item.{Item}
 use Rattle.stl_grammar.specs.declared.item.Item.TheVariants.{Opens, Mark, Starts, Symbol, Declares, Closes, Instr, Initial, Ends}
 use Rattle.stl_grammar.specs.declared.item.Where.{Where}
@@ -62,20 +62,22 @@ pub data IsName : List ℕ → List Token → RawName → Type 0 where
       is_quoted_kind word.kind ≡ false → is_word kind word ≡ false → is_numbered kind word ≡ true
       → kept_number (drop (length kind) word.text) ≡ Some n → IsName kind (word ∷ []) (Number n)
 
--- the tokens from a place on begin with an item, which takes so many tokens behind its first; where the
--- next item stands
+-- the tokens from a place on begin with an item, which takes this many tokens after its first; and the place of the
+-- next item
 pub data IsForm : Where → List Token → Item → ℕ → Where → Type 0 where
-  heading : (place : Where) (kind : BlockKind) (first : Token) {names : List Token} (rest : List Token) {name : RawName} →
-      MayOpen place → heading_kind first ≡ Some kind → IsName (kind_word kind) names name
+  heading : (place : Where) (kind : BlockKind) (first : Token) {names : List Token} (rest : List Token) {name : RawName}
+      → MayOpen place → heading_kind first ≡ Some kind → IsName (kind_word kind) names name
       → IsForm place (first ∷ (names ++ rest)) (Opens first.line kind name None) (length names)
       (Heading kind (last_line first.line names))
-  table : (first : Token) (rest : List Token) →
-      heading_kind first ≡ None → is_word (codes "SYMBOL_TABLE") first ≡ true → IsForm Start (first ∷ rest) Mark 0 (Table first.line)
+  table : (first : Token) (rest : List Token)
+      → heading_kind first ≡ None → is_word (codes "SYMBOL_TABLE") first ≡ true
+      → IsForm Start (first ∷ rest) Mark 0 (Table first.line)
   symbol : (line : Line) (name a its b type c comment : Token) (rest : List Token) (address : SymbolAddress) →
       ends_table line name (a ∷ its ∷ b ∷ type ∷ c ∷ comment ∷ rest) ≡ false → is_behind line name ≡ true
       → is_quoted_kind name.kind ≡ true → is_next name.line a its ≡ true → is_next name.line b type ≡ true
-      → is_next name.line c comment ≡ true → IsAddress (trimmed its.text) address
-      → IsForm (Table line) (name ∷ a ∷ its ∷ b ∷ type ∷ c ∷ comment ∷ rest) (Symbol (symbol_with name address)) 6 (Table name.line)
+      → is_next name.line c comment ≡ true → IsAddress (trimmed_field its.text) address
+      → IsForm (Table line) (name ∷ a ∷ its ∷ b ∷ type ∷ c ∷ comment ∷ rest)
+      (Symbol (symbol_with name address)) 6 (Table name.line)
   table_end : (line : Line) (first : Token) (rest : List Token) →
       ends_table line first rest ≡ true → IsForm (Table line) (first ∷ rest) Mark 0 Between
   skipped_line : (kind : BlockKind) (line : Line) (first : Token) (rest : List Token) →
@@ -94,12 +96,15 @@ pub data IsForm : Where → List Token → Item → ℕ → Where → Type 0 whe
   data_end : (kind : BlockKind) (first sign : Token) (rest : List Token) →
       is_word (codes "END_STRUCT") first ≡ true → is_semicolon sign ≡ true
       → IsForm (Inside kind part.Own []) (first ∷ sign ∷ rest) Mark 1 (Behind kind part.Own)
-  struct_end : (kind : BlockKind) (its : Section) (level : Level) (levels : List Level) (first : Token) (front rest : List Token)
+  struct_end : (kind : BlockKind) (its : Section) (level : Level)
+      (levels : List Level) (first : Token) (front rest : List Token)
       (items : List InitialItem) →
       is_word (codes "END_STRUCT") first ≡ true → IsEnding its level.in_array front items
-      → IsForm (Inside kind its (level ∷ levels)) (first ∷ (front ++ rest)) (Closes items) (length front) (Inside kind its levels)
-  declaration : (kind : BlockKind) (its : Section) (levels : List Level) (name : Token) (front rest : List Token) (type : Written) →
-      ends_level its levels name ≡ false → IsDeclaration its (left_of levels) name front type
+      → IsForm (Inside kind its (level ∷ levels)) (first ∷ (front ++ rest))
+      (Closes items) (length front) (Inside kind its levels)
+  declaration : (kind : BlockKind) (its : Section) (levels : List Level)
+      (name : Token) (front rest : List Token) (type : Written)
+      → ends_level its levels name ≡ false → IsDeclaration its (left_of levels) name front type
       → IsForm (Inside kind its levels) (name ∷ (front ++ rest)) (Declares name.text name.line type) (length front)
       (Inside kind its (levels_behind levels name.line type.innermost (length type.arrays)))
   begin_behind : (kind : BlockKind) (before : Section) (first : Token) (rest : List Token) →
@@ -114,18 +119,21 @@ pub data IsForm : Where → List Token → Item → ℕ → Where → Type 0 whe
       is_end block.Db first ≡ true → IsForm Values (first ∷ rest) (Ends first.line) 0 Between
   skipped_word : (kind : BlockKind) (first : Token) (rest : List Token) →
       is_skipped_alone first ≡ true → IsForm (Body kind) (first ∷ rest) Mark 0 (Body kind)
-  end_word : (kind : BlockKind) (first : Token) (rest : List Token) →
-      is_skipped_alone first ≡ false → is_end kind first ≡ true → IsForm (Body kind) (first ∷ rest) (Ends first.line) 0 Between
-  statement : (kind : BlockKind) (first : Token) (more : List Token) (sign : Token) (rest : List Token) (instr : RawInstr) →
-      is_skipped_alone first ≡ false → is_end kind first ≡ false → statement_size (first ∷ more) ≡ length (first ∷ more)
+  end_word : (kind : BlockKind) (first : Token) (rest : List Token)
+      → is_skipped_alone first ≡ false → is_end kind first ≡ true
+      → IsForm (Body kind) (first ∷ rest) (Ends first.line) 0 Between
+  statement : (kind : BlockKind) (first : Token) (more : List Token)
+      (sign : Token) (rest : List Token) (instr : RawInstr)
+      → is_skipped_alone first ≡ false → is_end kind first ≡ false
+      → statement_size (first ∷ more) ≡ length (first ∷ more)
       → instruction_of (first ∷ more) ≡ Ok instr → is_semicolon sign ≡ true
       → IsForm (Body kind) (first ∷ (more ++ (sign ∷ rest))) (Instr instr) (length (first ∷ more)) (Body kind)
 
 -- What is refused
 
--- an item has a form of a kind that is left out: a type of the user's own where a block may open, a data block by
--- such a type or by a block of the system, or a complete declaration, end of a STRUCT or initial value with
--- something left out in it
+-- an item has a form of a kind that is not supported: a user-defined type where a block may open, a data block by
+-- such a type or by a block of the system, or a complete declaration, end of a STRUCT or initial value with something
+-- unsupported in it
 pub data LeavesOutForm : Where → List Token → Kind → Type 0 where
   user_type : (place : Where) (first : Token) (rest : List Token) →
       MayOpen place → is_word (codes "TYPE") first ≡ true → LeavesOutForm place (first ∷ rest) UserType
@@ -133,55 +141,59 @@ pub data LeavesOutForm : Where → List Token → Kind → Type 0 where
       is_user_type first rest ≡ true → LeavesOutForm (Heading block.Db line) (first ∷ rest) UserType
   data_of_the_system : (line : Line) (first : Token) (rest : List Token) →
       has_number (codes "SFB") first rest ≡ true → LeavesOutForm (Heading block.Db line) (first ∷ rest) SystemCall
-  in_a_declaration : (kind : BlockKind) (its : Section) (levels : List Level) (name : Token) (rest : List Token) (k : Kind) →
-      ends_level its levels name ≡ false → LeavesOutDeclaration its (left_of levels) name rest k
+  in_a_declaration : (kind : BlockKind) (its : Section)
+      (levels : List Level) (name : Token) (rest : List Token) (k : Kind)
+      → ends_level its levels name ≡ false → LeavesOutDeclaration its (left_of levels) name rest k
       → is_complete (name ∷ rest) ≡ true → LeavesOutForm (Inside kind its levels) (name ∷ rest) k
-  at_a_struct_end : (kind : BlockKind) (its : Section) (level : Level) (levels : List Level) (first : Token) (rest : List Token) (k : Kind) →
-      is_word (codes "END_STRUCT") first ≡ true → LeavesOutEnding its level.in_array rest k
+  at_a_struct_end : (kind : BlockKind) (its : Section) (level : Level)
+      (levels : List Level) (first : Token) (rest : List Token) (k : Kind)
+      → is_word (codes "END_STRUCT") first ≡ true → LeavesOutEnding its level.in_array rest k
       → is_complete (first ∷ rest) ≡ true → LeavesOutForm (Inside kind its (level ∷ levels)) (first ∷ rest) k
   in_a_value : (first : Token) (rest : List Token) (k : Kind) →
       LeavesOutInitial (first ∷ rest) k → is_complete (first ∷ rest) ≡ true → LeavesOutForm Values (first ∷ rest) k
 
--- where the STRUCT of a data block may stand: a function block, whose instance it would be
+-- the tokens begin with a function block, of which a data block would be an instance
 abbrev pub begins_with_instance : List Token → Bool
 begins_with_instance [] = false
 begins_with_instance (first ∷ rest) = is_instance first rest
 
--- among declarations: the word that ends them, or a name and a colon
+-- the tokens begin with the word that ends declarations, or with a name and a colon
 abbrev pub begins_inside : Section → List Level → List Token → Bool
 begins_inside section levels [] = false
 begins_inside section levels (first ∷ rest) = ends_level section levels first || begins_with_name (first ∷ rest)
 
--- the item has a form that is not built yet, where it has no other. A data block has all of its forms.
+-- the item has a form that is not built yet, where it has no other. All forms of a data block are built.
 abbrev pub is_unbuilt : Where → List Token → Bool
 is_unbuilt Start tokens = is_not_built false (is_heading_cut_off tokens) tokens
 is_unbuilt (Table line) tokens = is_not_built false false tokens
 is_unbuilt Between tokens = is_not_built false (is_heading_cut_off tokens) tokens
-is_unbuilt (Heading kind line) tokens = if is_data kind then begins_with_instance tokens else is_not_built false false tokens
-is_unbuilt (Inside kind section levels) tokens = if begins_inside section levels tokens then false else is_not_built false false tokens
+is_unbuilt (Heading kind line) tokens =
+    if is_data kind then begins_with_instance tokens else is_not_built false false tokens
+is_unbuilt (Inside kind section levels) tokens =
+    if begins_inside section levels tokens then false else is_not_built false false tokens
 is_unbuilt (Behind kind section) tokens = if is_data kind then false else is_not_built false false tokens
 is_unbuilt (Body kind) tokens = is_not_built (begins_with_label tokens) false tokens
 is_unbuilt Values tokens = false
 
--- why an item is refused that has no form, nor one that is left out
+-- why an item is refused that has no form, nor one of a kind that is not supported
 abbrev pub plain_reason : Where → List Token → Reason
 plain_reason place tokens = if is_unbuilt place tokens then Unsupported NotBuilt else BadStatement
 
--- a complete statement stands in a body
+-- a complete statement is at a place in a body
 abbrev pub has_statement : Where → List Token → Bool
 has_statement (Body kind) tokens = is_complete tokens
 has_statement elsewhere tokens = false
 
--- What stands at a place
+-- What is found at a place
 
--- no item stands at the front
+-- the tokens begin with no item
 abbrev pub HasNoForm : Where → List Token → Type 0
 HasNoForm place tokens = (item : Item) (size : ℕ) (next : Where) → IsForm place tokens item size next → ⊥
 
--- what stands at a place of a text that ends on a line: an item that has a form; one that has a form of a kind
--- that is left out; a complete statement that is no instruction; nothing, where there is none of these; or the end
--- of the text, where each block must be complete
-pub data IsItem : Line → Where → List Token → Found → Type 0 where
+-- what is found at a place of a text that ends on a line: an item that has a form; one that has a form of a kind that
+-- is not supported; a complete statement that is no instruction; nothing, where there is none of these; or the end of
+-- the text, where each block must be complete
+pub data IsItem : Line → Where → List Token → NextItem → Type 0 where
   form : {end : Line} {place next : Where} {tokens : List Token} {item : Item} {size : ℕ} →
       IsForm place tokens item size next → IsItem end place tokens (Fits item size next)
   left_out : {end : Line} {place : Where} (first : Token) (rest : List Token) (kind : Kind) →
@@ -198,18 +210,21 @@ pub data IsItem : Line → Where → List Token → Found → Type 0 where
   at_start : {end : Line} → IsItem end Start [] Ended
   in_a_table : {end : Line} (line : Line) → IsItem end (Table line) [] (Misfit end BadStatement)
   behind_a_block : {end : Line} → IsItem end Between [] Ended
-  behind_a_heading : {end : Line} (kind : BlockKind) (line : Line) → IsItem end (Heading kind line) [] (Misfit end BadStatement)
-  in_a_section : {end : Line} (kind : BlockKind) (its : Section) → IsItem end (Inside kind its []) [] (Misfit end BadStatement)
+  behind_a_heading : {end : Line} (kind : BlockKind) (line : Line)
+      → IsItem end (Heading kind line) [] (Misfit end BadStatement)
+  in_a_section : {end : Line} (kind : BlockKind) (its : Section)
+      → IsItem end (Inside kind its []) [] (Misfit end BadStatement)
   in_a_struct : {end : Line} (kind : BlockKind) (its : Section) (level : Level) (levels : List Level) →
       IsItem end (Inside kind its (level ∷ levels)) [] (Misfit level.line BadStatement)
-  behind_a_section : {end : Line} (kind : BlockKind) (its : Section) → IsItem end (Behind kind its) [] (Misfit end BadStatement)
+  behind_a_section : {end : Line} (kind : BlockKind) (its : Section)
+      → IsItem end (Behind kind its) [] (Misfit end BadStatement)
   in_a_body : {end : Line} (kind : BlockKind) → IsItem end (Body kind) [] (Misfit end BadStatement)
   among_values : {end : Line} → IsItem end Values [] (Misfit end BadStatement)
 
--- what stands at a place is what the relation says
+-- what is found at a place is what the relation says
 pub record ItemsHaveForms : Type 0 where
   pub sound : (end : Line) (place : Where) (tokens : List Token) → IsItem end place tokens (item_at end place tokens)
-  pub complete : (end : Line) (place : Where) (tokens : List Token) (found : Found) → IsItem end place tokens found
+  pub complete : (end : Line) (place : Where) (tokens : List Token) (found : NextItem) → IsItem end place tokens found
       → item_at end place tokens ≡ found
 
 -- Texts
@@ -217,6 +232,7 @@ pub record ItemsHaveForms : Type 0 where
 -- the tokens from a place on are these items, up to the end of the text
 pub data AreItems : Line → Where → List Token → List Item → Type 0 where
   none_more : {end : Line} {place : Where} → IsItem end place [] Ended → AreItems end place [] []
-  one_more : {end : Line} {place next : Where} (first : Token) (rest : List Token) {item : Item} {size : ℕ} {items : List Item} →
-      IsItem end place (first ∷ rest) (Fits item size next) → AreItems end next (drop size rest) items
+  one_more : {end : Line} {place next : Where} (first : Token)
+      (rest : List Token) {item : Item} {size : ℕ} {items : List Item}
+      → IsItem end place (first ∷ rest) (Fits item size next) → AreItems end next (drop size rest) items
       → AreItems end place (first ∷ rest) (item ∷ items)

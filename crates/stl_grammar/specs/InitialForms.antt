@@ -6,17 +6,17 @@ use Rattle.s7_base.specs.declared.reason.Line.{Line}
 use Rattle.s7_base.specs.declared.token.Token.{Token}
 use Rattle.s7_base.specs.declared.word.Width.TheVariants as width
 use Rattle.stl_grammar.specs.Initials.{count_of, initial, once, times}
-use Rattle.stl_statements.specs.ListForms.{AreElements, LeavesOutElement}
+use Rattle.stl_statement_grammar.specs.ListForms.{AreElements, LeavesOutElement}
 use Rattle.stl_grammar.specs.Sections.{takes_values}
 use Rattle.stl_grammar.specs.declared.declaration.Section.{Section}
-use Rattle.stl_statements.specs.ConstantForms.{IsAmong, IsConstant}
-use Rattle.stl_statements.specs.Constants.{Prefixed, begins_real, constant, prefixes}
-use Rattle.stl_statements.specs.PathForms.{IsPath}
-use Rattle.stl_statements.specs.PointerForms.{IsPointerConstant}
-use Rattle.stl_statements.specs.Pointers.{is_in_reach, value_of}
-use Rattle.stl_statements.specs.Words.{is_joined, is_sign, is_word}
-use Rattle.stl_statements.specs.declared.mnemonic.Prefix.{Prefix}
-use Rattle.stl_statements.specs.declared.mnemonic.Prefix.TheVariants as prefix
+use Rattle.stl_statement_grammar.specs.ConstantForms.{IsAmong, IsConstant}
+use Rattle.stl_statement_grammar.specs.Constants.{Prefixed, begins_real, constant, prefixes}
+use Rattle.stl_statement_grammar.specs.PathForms.{IsPath}
+use Rattle.stl_statement_grammar.specs.PointerForms.{IsPointerConstant}
+use Rattle.stl_statement_grammar.specs.Pointers.{is_in_reach, value_of}
+use Rattle.stl_statement_grammar.specs.Words.{is_joined, is_sign, is_word}
+use Rattle.stl_statement_grammar.specs.declared.mnemonic.Prefix.{Prefix}
+use Rattle.stl_statement_grammar.specs.declared.mnemonic.Prefix.TheVariants as prefix
 use Rattle.stl_tree.specs.declared.raw.Constant.{Constant}
 use Rattle.stl_tree.specs.declared.raw.InitialItem.{InitialItem}
 use Rattle.stl_tree.specs.declared.raw.PathStep.{PathStep}
@@ -31,7 +31,7 @@ pub data IsValue : List Token → Constant → Type 0 where
   pointer : (tokens : List Token) (p : RawPointer) →
       IsPointerConstant tokens p → is_in_reach p ≡ true → IsValue tokens (constant width.Dword (value_of p))
 
--- an item of a list: a value, or so many times the values in brackets, `2 (7, 8)`
+-- an item of a list: a value, or the values in brackets and their count, `2 (7, 8)`
 pub data IsListItem : List Token → InitialItem → Type 0 where
   value : (tokens : List Token) (c : Constant) → IsValue tokens c → IsListItem tokens (once c)
   group : (number before : Token) (rest : List Token) (n : ℕ) (values : List Constant) →
@@ -43,10 +43,11 @@ pub data IsLast : List Token → Constant → Type 0 where
   last : (front : List Token) (sign : Token) (c : Constant) →
       IsValue front c → is_sign (codes ";") sign ≡ true → IsLast (front ++ (sign ∷ [])) c
 
--- what ends a declaration of a section, given whether it has an array round it: `;`, or `:=` with a value or a list
+-- what ends a declaration of a section, given whether it has an array around it: `;`, or `:=` with a value or a list
 -- before it, where the section takes initial values
 pub data IsEnding (section : Section) : Bool → List Token → List InitialItem → Type 0 where
-  nothing : (in_array : Bool) (sign : Token) → is_sign (codes ";") sign ≡ true → IsEnding section in_array (sign ∷ []) []
+  nothing : (in_array : Bool) (sign : Token) → is_sign (codes ";") sign ≡ true
+      → IsEnding section in_array (sign ∷ []) []
   with_value : (assign : Token) (rest : List Token) (c : Constant) →
       takes_values section ≡ true → is_sign (codes ":=") assign ≡ true → IsLast rest c
       → IsEnding section false (assign ∷ rest) (once c ∷ [])
@@ -60,37 +61,41 @@ pub data IsInitial (line : Line) : List Token → RawInitial → Type 0 where
       IsPath front path → is_sign (codes ":=") assign ≡ true → IsLast rest c
       → IsInitial line (front ++ (assign ∷ rest)) (initial line path c)
 
--- What is left out
+-- What is not supported
 
--- what stands behind a prefix shows a kind that is left out: anything, or behind `P#` another `#`
+-- the tokens after a prefix begin a constant of a kind that is not supported: any do, or after `P#` another `#`
 pub data LeavesOutBehind : Prefix → List Token → Kind → Type 0 where
   always : (k : Kind) (rest : List Token) → LeavesOutBehind (prefix.LeftOut k) rest k
-  name : (hash : Token) (rest : List Token) → is_joined (codes "#") hash ≡ true → LeavesOutBehind prefix.Pointer (hash ∷ rest) kind.NamePointer
+  name : (hash : Token) (rest : List Token) → is_joined (codes "#") hash ≡ true
+      → LeavesOutBehind prefix.Pointer (hash ∷ rest) kind.NamePointer
 
--- tokens begin with a value of a kind that is left out: one with a prefix, or a real one
+-- tokens begin with a value of a kind that is not supported: one with a prefix, or a real one
 pub data LeavesOutValue : List Token → Kind → Type 0 where
-  with_prefix : (row : Prefixed) (first hash : Token) (rest : List Token) (k : Kind) →
-      IsAmong row prefixes → is_word row.word first ≡ true → is_joined (codes "#") hash ≡ true → LeavesOutBehind row.what rest k
+  with_prefix : (row : Prefixed) (first hash : Token) (rest : List Token) (k : Kind)
+      → IsAmong row prefixes → is_word row.word first ≡ true
+      → is_joined (codes "#") hash ≡ true → LeavesOutBehind row.what rest k
       → LeavesOutValue (first ∷ hash ∷ rest) k
   real : (tokens : List Token) → begins_real tokens ≡ true → LeavesOutValue tokens kind.Real
 
--- they begin with such an item of a list
+-- tokens begin with an item of a list with a value of a kind that is not supported
 pub data LeavesOutItem : List Token → Kind → Type 0 where
   alone : (tokens : List Token) (k : Kind) → LeavesOutValue tokens k → LeavesOutItem tokens k
   in_group : (number before : Token) (rest : List Token) (n : ℕ) (k : Kind) →
       count_of number ≡ Some n → is_sign (codes "(") before ≡ true → LeavesOutElement IsValue LeavesOutValue rest k
       → LeavesOutItem (number ∷ before ∷ rest) k
 
--- a declaration ends with such a value
+-- a declaration ends with an initial value of a kind that is not supported
 pub data LeavesOutEnding (section : Section) : Bool → List Token → Kind → Type 0 where
   in_value : (assign : Token) (rest : List Token) (k : Kind) →
       takes_values section ≡ true → is_sign (codes ":=") assign ≡ true → LeavesOutValue rest k
       → LeavesOutEnding section false (assign ∷ rest) k
-  in_list : (assign : Token) (rest : List Token) (k : Kind) →
-      takes_values section ≡ true → is_sign (codes ":=") assign ≡ true → LeavesOutElement IsListItem LeavesOutItem rest k
+  in_list : (assign : Token) (rest : List Token) (k : Kind)
+      → takes_values section ≡ true → is_sign (codes ":=") assign ≡ true
+      → LeavesOutElement IsListItem LeavesOutItem rest k
       → LeavesOutEnding section true (assign ∷ rest) k
 
--- such a value stands behind a path
+-- a value of a kind that is not supported follows a path
 pub data LeavesOutInitial : List Token → Kind → Type 0 where
-  behind_path : (front : List Token) (assign : Token) (rest : List Token) (path : List PathStep) (k : Kind) →
-      IsPath front path → is_sign (codes ":=") assign ≡ true → LeavesOutValue rest k → LeavesOutInitial (front ++ (assign ∷ rest)) k
+  behind_path : (front : List Token) (assign : Token) (rest : List Token) (path : List PathStep) (k : Kind)
+      → IsPath front path → is_sign (codes ":=") assign ≡ true
+      → LeavesOutValue rest k → LeavesOutInitial (front ++ (assign ∷ rest)) k

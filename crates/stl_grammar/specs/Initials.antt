@@ -1,18 +1,20 @@
--- Initial values: constants, lists of them, what ends a declaration, and the values of the body of a data block.
+-- Initial values as they are written. They are constants or lists of them; also what ends a declaration, and the
+-- values in the body of a data block.
+-- Held against: this project's own source form.
 use Rattle.std.specs.Prelude.{ℕ, Bool, ◌&&◌, nat_lt, if◌then◌else◌, List, [], ◌∷◌, drop, codes, Option, Some, None, option_and_then}
 use Rattle.s7_base.specs.declared.reason.Line.{Line}
 use Rattle.s7_base.specs.declared.token.Token.{Token}
 use Rattle.s7_base.specs.declared.word.Width.TheVariants as width
-use Rattle.stl_statements.specs.Lists.{begins_with_sign, elements_from}
+use Rattle.stl_statement_grammar.specs.Lists.{begins_with_sign, elements_from}
 use Rattle.stl_grammar.specs.Sections.{takes_values}
 use Rattle.stl_grammar.specs.declared.declaration.Section.{Section}
-use Rattle.stl_statements.specs.Constants.{constant, constant_at, truth_at}
-use Rattle.stl_statements.specs.Paths.{path_at}
-use Rattle.stl_statements.specs.Pointers.{is_in_reach, pointer_at, value_of}
-use Rattle.stl_statements.specs.Readers.{and_then, fitting, further, number_in, or_else, read_as}
-use Rattle.stl_statements.specs.Words.{is_sign}
-use Rattle.stl_statements.specs.declared.mnemonic.Read.{Read}
-use Rattle.stl_statements.specs.declared.mnemonic.Read.TheVariants.{Fits, No}
+use Rattle.stl_statement_grammar.specs.Constants.{constant, constant_at, truth_at}
+use Rattle.stl_statement_grammar.specs.Paths.{path_at}
+use Rattle.stl_statement_grammar.specs.Pointers.{is_in_reach, pointer_at, value_of}
+use Rattle.stl_statement_grammar.specs.Readers.{and_then, fitting, further, number_in, or_else, read_as}
+use Rattle.stl_statement_grammar.specs.Words.{is_sign}
+use Rattle.stl_statement_grammar.specs.declared.mnemonic.Read.{Read}
+use Rattle.stl_statement_grammar.specs.declared.mnemonic.Read.TheVariants.{Fits, No}
 use Rattle.stl_tree.specs.declared.raw.Constant.{Constant}
 use Rattle.stl_tree.specs.declared.raw.InitialItem.{InitialItem}
 use Rattle.stl_tree.specs.declared.raw.PathStep.{PathStep}
@@ -29,29 +31,29 @@ abbrev pub pointer_of : Read RawPointer → Read Constant
 pointer_of (Fits p size) = fitting size (pointer_value p)
 pointer_of other = No
 
--- what stands where an initial value may stand
+-- the initial value at a place
 abbrev pub value_at : List Token → Read Constant
 value_at tokens = or_else (truth_at tokens) (or_else (constant_at tokens) (pointer_of (pointer_at tokens)))
 
 -- Lists
 
--- values, so many times
+-- values and their count
 abbrev pub times : ℕ → List Constant → InitialItem
 times count values = record { count = count; values = values }
 
--- a value alone
+-- a value without a count
 abbrev pub once : Constant → InitialItem
 once value = times 1 (value ∷ [])
 
--- how many times the values in brackets stand: from 1 to 65,535
+-- the count of values in brackets: from 1 to 65,535
 abbrev pub count_of : Token → Option ℕ
 count_of word = option_and_then (λ n. if nat_lt 0 n then Some n else None) (number_in 65535 word)
 
--- values and the bracket behind them
+-- values and the bracket after them
 abbrev pub values_at : List Token → Read (List Constant)
 values_at tokens = elements_from value_at (codes ")") 0 tokens
 
--- values behind their number and their bracket
+-- values after their count and their bracket
 abbrev pub group_behind : Option ℕ → List Token → Read InitialItem
 group_behind None tokens = No
 group_behind (Some count) tokens = read_as (times count) (values_at tokens)
@@ -70,7 +72,7 @@ list_at tokens = elements_from item_of_list (codes ";") 0 tokens
 
 -- Ends of declarations
 
--- the sign behind a value ends it
+-- a value, if `;` follows it
 abbrev pub closed_value : Constant → List Token → Read Constant
 closed_value value tokens = if begins_with_sign (codes ";") tokens then Fits value 1 else No
 
@@ -78,16 +80,16 @@ closed_value value tokens = if begins_with_sign (codes ";") tokens then Fits val
 abbrev pub last_value : List Token → Read Constant
 last_value tokens = and_then tokens (value_at tokens) closed_value
 
--- one item
+-- a list of one value
 abbrev pub alone : Constant → List InitialItem
 alone value = once value ∷ []
 
--- the initial value of a declaration and `;`: a list where it has an array round it
+-- the initial value of a declaration and `;`: a list where it has an array around it
 abbrev pub initial_at : Bool → List Token → Read (List InitialItem)
 initial_at in_array tokens =
     if in_array then list_at tokens else read_as alone (last_value tokens)
 
--- what ends a declaration of a section: `;`, and where it may have an initial value, `:=` and that before it
+-- what ends a declaration of a section: `;`, and where it may have an initial value, `:=` and the value before it
 abbrev pub ending_at : Section → Bool → List Token → Read (List InitialItem)
 ending_at section in_array [] = No
 ending_at section in_array (sign ∷ rest) =
@@ -101,12 +103,12 @@ ending_at section in_array (sign ∷ rest) =
 abbrev pub initial : Line → List PathStep → Constant → RawInitial
 initial line path value = record { path = path; line = line; value = value }
 
--- what stands behind a path
+-- what follows a path in the body of a data block: `:=` and an initial value
 abbrev pub initial_behind : Line → List PathStep → List Token → Read RawInitial
 initial_behind line path [] = No
 initial_behind line path (sign ∷ rest) =
     if is_sign (codes ":=") sign then further 1 (read_as (initial line path) (last_value rest)) else No
 
--- `path := value ;`
+-- an initial value of a data block by its path: `path := value ;`
 abbrev pub path_value_at : Line → List Token → Read RawInitial
 path_value_at line tokens = and_then tokens (path_at tokens) (initial_behind line)

@@ -1,4 +1,6 @@
--- The raw program that the items of a text make.
+-- The raw program of a source. It is what the items of the text make: blocks, data blocks and symbols, before names
+-- are looked up.
+-- Held against: this project's own source form.
 use Rattle.std.specs.Prelude.{List, [], ◌∷◌, ◌++◌, Option, Some, None, option_map, ℕ, ℤ, Result, Ok, Err}
 use Rattle.std.specs.Option.{option_to_list}
 use Rattle.s7_base.specs.Tokens.{tokens_of, line_at_end}
@@ -31,9 +33,9 @@ use Rattle.stl_tree.specs.declared.raw.RawInstr.{RawInstr}
 use Rattle.stl_tree.specs.declared.raw.RawName.{RawName}
 use Rattle.stl_tree.specs.declared.raw.RawProgram.{RawProgram}
 
--- a block of which the heading alone is known
-abbrev pub headed : Line → BlockKind → RawName → Option ElemType → RawBlock
-headed line kind name result =
+-- a block of which only the heading is known
+abbrev pub block_from_heading : Line → BlockKind → RawName → Option ElemType → RawBlock
+block_from_heading line kind name result =
     record {
       kind = kind;
       name = name;
@@ -48,7 +50,7 @@ headed line kind name result =
       end_line = line;
     }
 
--- a data block of which the heading alone is known
+-- a data block of which only the heading is known
 abbrev pub data_headed : Line → RawName → RawData
 data_headed line name = record { name = name; line = line; kind = Own []; initial = [] }
 
@@ -56,7 +58,7 @@ data_headed line name = record { name = name; line = line; kind = Own []; initia
 abbrev pub blocks_in : Reading → List RawBlock
 blocks_in reading = reading.done ++ option_to_list reading.last
 
--- its data blocks
+-- the data blocks of a text as far as it is read
 abbrev pub dbs_in : Reading → List RawData
 dbs_in reading = reading.dbs ++ option_to_list reading.last_db
 
@@ -72,16 +74,17 @@ with_end line block = record block { end_line = line }
 abbrev pub with_value : RawInitial → RawData → RawData
 with_value value db = record db { initial = db.initial ++ (value ∷ []) }
 
--- nothing is read yet
+-- the state before the first item
 abbrev pub nothing_read : Reading
-nothing_read = record { symbols = []; dbs = []; last_db = None; done = []; last = None; section = part.Temp; structs = [] }
+nothing_read =
+    record { symbols = []; dbs = []; last_db = None; done = []; last = None; section = part.Temp; structs = [] }
 
--- a type with arrays round it, the outermost first
+-- a type with arrays around it, the outermost first
 abbrev pub array_of : List (List (ℤ × ℤ)) → DeclType → DeclType
 array_of [] type = type
 array_of (bounds ∷ arrays) type = of.Array bounds (array_of arrays type)
 
--- a declaration by its arrays, what they hold, and its initial values
+-- a declaration by its arrays, the type inside them, and its initial values
 abbrev pub declaration : List ℕ → Line → List (List (ℤ × ℤ)) → DeclType → List InitialItem → Declaration
 declaration name line arrays type items =
     record { name = name; line = line; ty = array_of arrays type; initial = items }
@@ -114,7 +117,7 @@ with_declared one [] reading = with_last one reading.section reading
 with_declared one (struct ∷ outer) reading =
     record reading { structs = record struct { members = struct.members ++ (one ∷ []) } ∷ outer }
 
--- the text so far, and a declaration by what it holds
+-- the text so far, with one more declaration, or one more STRUCT that is open
 abbrev pub with_type : List ℕ → Line → Written → Innermost → Reading → Reading
 with_type name line type (inner.Elementary its) reading =
     with_declared (declaration name line type.arrays (of.Elementary its) type.initial) reading.structs reading
@@ -125,42 +128,43 @@ with_type name line type inner.Struct reading =
       structs = record { name = name; line = line; arrays = type.arrays; members = [] } ∷ reading.structs;
     }
 
--- the text so far, with its innermost STRUCT at its end
-abbrev pub closed : List InitialItem → List OpenStruct → Reading → Reading
-closed items [] reading = reading
-closed items (struct ∷ outer) reading =
+-- the text so far, whose innermost STRUCT has ended
+abbrev pub after_struct_end : List InitialItem → List OpenStruct → Reading → Reading
+after_struct_end items [] reading = reading
+after_struct_end items (struct ∷ outer) reading =
     with_declared (declaration struct.name struct.line struct.arrays (of.Struct struct.members) items) outer reading
 
--- the text so far, and the heading of a block: it is the last one of its kind, and no block of the other is open
-abbrev pub opened : Line → BlockKind → RawName → Option ElemType → Reading → Reading
-opened line block.Db name result reading =
+-- the text so far, with the heading of one more block: it is the last one of its kind, and no block of the other is
+-- open
+abbrev pub with_heading : Line → BlockKind → RawName → Option ElemType → Reading → Reading
+with_heading line block.Db name result reading =
     record reading {
       dbs = dbs_in reading;
       last_db = Some (data_headed line name);
       done = blocks_in reading;
       last = None;
     }
-opened line kind name result reading =
+with_heading line kind name result reading =
     record reading {
       dbs = dbs_in reading;
       last_db = None;
       done = blocks_in reading;
-      last = Some (headed line kind name result);
+      last = Some (block_from_heading line kind name result);
     }
 
--- the text so far, and one item more
+-- the text so far, with one more item
 abbrev pub with_item : Reading → Item → Reading
-with_item reading (Opens line kind name result) = opened line kind name result reading
+with_item reading (Opens line kind name result) = with_heading line kind name result reading
 with_item reading (Starts section) = record reading { section = section }
 with_item reading (Symbol line) = record reading { symbols = reading.symbols ++ (line ∷ []) }
 with_item reading Mark = reading
 with_item reading (Declares name line type) = with_type name line type type.innermost reading
-with_item reading (Closes items) = closed items reading.structs reading
+with_item reading (Closes items) = after_struct_end items reading.structs reading
 with_item reading (Instr instr) = record reading { last = option_map (with_instr instr) reading.last }
 with_item reading (Initial value) = record reading { last_db = option_map (with_value value) reading.last_db }
 with_item reading (Ends line) = record reading { last = option_map (with_end line) reading.last }
 
--- the text so far, and some items more
+-- the text so far, with some more items
 abbrev pub with_items : Reading → List Item → Reading
 with_items reading [] = reading
 with_items reading (item ∷ items) = with_items (with_item reading item) items
@@ -169,7 +173,7 @@ with_items reading (item ∷ items) = with_items (with_item reading item) items
 abbrev pub raw_read : Reading → RawProgram
 raw_read reading = record { symbols = reading.symbols; dbs = dbs_in reading; blocks = blocks_in reading }
 
--- the raw program of the text so far, and of the items behind it
+-- the raw program of the text so far, and of the items after it
 abbrev pub raw_behind : Reading → List Item → RawProgram
 raw_behind reading items = raw_read (with_items reading items)
 
@@ -186,7 +190,7 @@ raw_by (Err refused) = Err refused
 unfoldable pub raw_program : Line → List Token → Result RawProgram Rejection
 raw_program end tokens = raw_by (items_of end tokens)
 
--- the raw program of a text whose tokens are cut; a bad token is the first broken rule, wherever it stands
+-- the raw program of a text whose tokens are cut; a bad token is the first broken rule, wherever it is
 abbrev pub raw_by_tokens : Line → Result (List Token) Rejection → Result RawProgram Rejection
 raw_by_tokens end (Ok tokens) = raw_program end tokens
 raw_by_tokens end (Err refused) = Err refused

@@ -1,10 +1,11 @@
--- Sections of declarations: with which words they begin and end, which blocks have them, in which order, and what
--- may stand in them.
+-- Sections of declarations. With which words they begin and end, which blocks have them, in which order, and what may
+-- be in them.
+-- Held against: this project's own source form.
 use Rattle.std.specs.Prelude.{ℕ, Bool, true, false, ◌&&◌, nat_lt, if◌then◌else◌, List, codes, Option, Some, None}
 use Rattle.s7_base.specs.declared.token.Token.{Token}
 use Rattle.stl_grammar.specs.declared.declaration.Section.{Section}
 use Rattle.stl_grammar.specs.declared.declaration.Section.TheVariants as part
-use Rattle.stl_statements.specs.Words.{is_word}
+use Rattle.stl_statement_grammar.specs.Words.{is_word}
 use Rattle.stl_tree.specs.declared.raw.BlockKind.{BlockKind}
 use Rattle.stl_tree.specs.declared.raw.BlockKind.TheVariants as block
 
@@ -19,12 +20,12 @@ section_word part.Static = codes "VAR"
 section_word part.Temp = codes "VAR_TEMP"
 section_word part.Own = codes "STRUCT"
 
--- the word with which it ends
+-- the word with which a section ends
 abbrev pub end_of_section : Section → List ℕ
 end_of_section part.Own = codes "END_STRUCT"
 end_of_section other = codes "END_VAR"
 
--- it is the STRUCT of a data block
+-- a section is the STRUCT of a data block
 abbrev pub is_own : Section → Bool
 is_own part.Own = true
 is_own other = false
@@ -37,7 +38,7 @@ formal_section word =
     else if is_word (codes "VAR_IN_OUT") word then Some part.InOut
     else None
 
--- another one
+-- a section that is not one of formals, by its word
 abbrev pub inner_section : Token → Option Section
 inner_section word =
     if is_word (codes "VAR") word then Some part.Static
@@ -55,14 +56,14 @@ section_named word = formal_or_inner (formal_section word) (inner_section word)
 
 -- Which may open
 
--- a block of this kind has such a section
+-- a block of this kind may have this section
 abbrev pub has_section : BlockKind → Section → Bool
 has_section block.Db part.Own = true
 has_section block.Db other = false
 has_section kind part.Temp = true
 has_section kind other = false
 
--- where it stands in the order of sections
+-- the rank of a section in the order of sections
 abbrev pub rank_of : Section → ℕ
 rank_of part.Input = 0
 rank_of part.Output = 1
@@ -71,12 +72,12 @@ rank_of part.Static = 3
 rank_of part.Temp = 4
 rank_of part.Own = 5
 
--- it may stand behind another one, or behind none
+-- a section may come after another one, or after none
 abbrev pub is_later : Option Section → Section → Bool
 is_later None section = true
 is_later (Some before) section = nat_lt (rank_of before) (rank_of section)
 
--- it may open in a block of this kind, behind another one or behind none
+-- a section may open in a block of this kind, after another one or after none
 abbrev pub may_open : BlockKind → Option Section → Section → Bool
 may_open kind before section = has_section kind section && is_later before section
 
@@ -84,18 +85,18 @@ abbrev pub if_open : BlockKind → Option Section → Option Section → Option 
 if_open kind before None = None
 if_open kind before (Some section) = if may_open kind before section then Some section else None
 
--- the section that a word opens there
+-- the section that a word opens in a block of this kind, after another section or after none
 abbrev pub section_at : BlockKind → Option Section → Token → Option Section
 section_at kind before word = if_open kind before (section_named word)
 
--- What may stand there
+-- What may be in a section
 
--- its declarations may have initial values
+-- the declarations of a section may have initial values
 abbrev pub takes_values : Section → Bool
 takes_values part.Temp = false
 takes_values other = true
 
--- one may be of DATE_AND_TIME
+-- a declaration of a section may be of DATE_AND_TIME
 abbrev pub takes_dates : Section → Bool
 takes_dates part.Temp = true
 takes_dates other = false

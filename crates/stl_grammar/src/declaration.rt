@@ -4,18 +4,18 @@ use s7_base::{Line, List};
 use std::collections::LinkedList;
 use stl_tree::{Declaration, ElemType, InitialItem};
 
-/// What a declaration holds inside all its arrays.
+/// The type of a declaration inside all its arrays.
 #[derive(Clone, Copy)]
 pub enum Innermost {
     Elementary(ElemType),
     DateAndTime,
 
-    /// Its members follow.
+    /// A STRUCT, whose members follow.
     Struct,
 }
 
-/// What a declaration is behind its name: the bounds of its arrays, the outermost first, what they hold, and its
-/// initial values; those of a STRUCT stand behind its members.
+/// A declaration after its name: the bounds of its arrays, the outermost first, the type inside them, and its
+/// initial values; those of a STRUCT come after its members.
 #[derive(Drop)]
 pub struct Written {
     pub arrays: LinkedList<List<(i64, i64)>>,
@@ -23,7 +23,7 @@ pub struct Written {
     pub initial: List<InitialItem>,
 }
 
-/// A section of declarations, in the order in which they stand; `Own` is the STRUCT of a data block with
+/// A section of declarations, in the order in which they come; `Own` is the STRUCT of a data block with
 /// declarations of its own.
 #[derive(Clone, Copy)]
 pub enum Section {
@@ -36,7 +36,7 @@ pub enum Section {
 }
 
 /// A STRUCT that is open: the line of its declaration, how many levels are open with it, each STRUCT and each
-/// ARRAY being one, and whether its declaration has an array round it.
+/// ARRAY being one, and whether its declaration has an array around it.
 #[derive(Clone, Copy)]
 pub struct Level {
     pub line: Line,

@@ -1,4 +1,4 @@
-//! Items of a source text, and where they stand.
+//! Items of a source text, and their places.
 
 use crate::declaration::{Level, OpenStruct, Section, Written};
 use s7_base::{Line, List, Reason};
@@ -7,25 +7,25 @@ use stl_tree::{
     BlockKind, ElemType, InitialItem, RawBlock, RawData, RawInitial, RawInstr, RawName, SymbolLine,
 };
 
-/// Where an item stands.
+/// The place of an item.
 #[derive(Drop)]
 pub enum Where {
     /// Before the first block of the text.
     Start,
 
-    /// In the symbol table, and the line of the last token before.
+    /// In the symbol table; with the line of the last token before.
     Table(Line),
 
-    /// Behind a block.
+    /// After a block.
     Between,
 
-    /// Behind the heading of a block, and the line of the last token before.
+    /// After the heading of a block; with the line of the last token before.
     Heading(BlockKind, Line),
 
-    /// Among the declarations of a section, and the STRUCTs that are open, the innermost first.
+    /// Among the declarations of a section; with the STRUCTs that are open, the innermost first.
     Inside(BlockKind, Section, LinkedList<Level>),
 
-    /// Behind a section.
+    /// After a section.
     Behind(BlockKind, Section),
 
     /// In the body of a block.
@@ -41,8 +41,8 @@ pub enum Item {
     /// The heading of a block, with its line, its name and the type of its result.
     Opens(Line, BlockKind, RawName, Option<ElemType>),
 
-    /// What only parts the text: `BEGIN`, `;` alone, a word or a line that is skipped, the words around the
-    /// symbol table and the end of a section.
+    /// An item that only separates others: `BEGIN`, `;` alone, a word or a line that is skipped, the words
+    /// around the symbol table and the end of a section.
     Mark,
 
     /// The word that opens a section.
@@ -66,13 +66,13 @@ pub enum Item {
     Ends(Line),
 }
 
-/// What stands at a place.
+/// What is found at a place.
 #[derive(Drop)]
-pub enum Found {
-    /// An item, how many tokens behind its first it takes, and where the next one stands.
+pub enum NextItem {
+    /// An item, how many tokens after its first it takes, and the place of the next one.
     Fits(Item, usize, Where),
 
-    /// No item, and why this is so.
+    /// No item; with the line and the reason of the refusal.
     Misfit(Line, Reason),
 
     /// The end of the text, which may end here.

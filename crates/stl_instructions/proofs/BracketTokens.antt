@@ -9,18 +9,18 @@ use Rattle.s7_base.specs.Tokens.{is_between, is_same_word}
 use Rattle.s7_base.specs.declared.token.Token.{Token}
 use Rattle.s7_base.specs.declared.word.Width.{Width}
 use Rattle.s7_base.specs.declared.word.Width.TheVariants as width
-use Rattle.stl_statements.specs.ConstantForms.{IsAmong}
-use Rattle.stl_statements.specs.Constants.{constant_at, marked_at, plain_at, prefixes, text_at}
+use Rattle.stl_statement_grammar.specs.ConstantForms.{IsAmong}
+use Rattle.stl_statement_grammar.specs.Constants.{constant_at, marked_at, plain_at, prefixes, text_at}
 use Rattle.digit_texts.specs.Digits.{are_digits}
-use Rattle.stl_statements.specs.Paths.{named_at}
-use Rattle.stl_statements.specs.Places.{PlaceWord, digits_of, is_no_digit, letters_of, number_behind, numbered_at, place_at, place_words}
-use Rattle.stl_statements.specs.PointerForms.{IsCrossing, IsIndirect, IsRegister}
-use Rattle.stl_statements.specs.PointerForms as form
-use Rattle.stl_statements.specs.Pointers.{has_word, indirect_at, indirect_by, width_named}
-use Rattle.stl_statements.specs.Readers.{fitting, further}
-use Rattle.stl_statements.specs.Statements.{NamedForm, has_form, left_out_at, left_out_by, left_out_forms, place_operand}
-use Rattle.stl_statements.specs.Words.{is_quoted_kind, is_sign, is_word, is_word_kind}
-use Rattle.stl_statements.specs.declared.mnemonic.Read.TheVariants.{No}
+use Rattle.stl_statement_grammar.specs.Paths.{named_at}
+use Rattle.stl_statement_grammar.specs.Places.{PlaceWord, digits_of, is_no_digit, letters_of, number_behind, numbered_at, place_at, place_words}
+use Rattle.stl_statement_grammar.specs.PointerForms.{IsCrossing, IsIndirect, IsRegister}
+use Rattle.stl_statement_grammar.specs.PointerForms as form
+use Rattle.stl_statement_grammar.specs.Pointers.{has_word, indirect_at, indirect_by, width_named}
+use Rattle.stl_statement_grammar.specs.Readers.{fitting, further}
+use Rattle.stl_statement_grammar.specs.Statements.{NamedForm, has_form, left_out_at, left_out_by, left_out_forms, place_operand}
+use Rattle.stl_statement_grammar.specs.Words.{is_quoted_kind, is_sign, is_word, is_word_kind}
+use Rattle.stl_statement_grammar.specs.declared.mnemonic.Read.TheVariants.{No}
 use Rattle.stl_tree.specs.declared.raw.RawOperand.{RawOperand}
 use Rattle.stl_tree.specs.declared.raw.RawOperand.TheVariants.{Crossing}
 use Rattle.stl_constants.proofs.ConstantLaws.{AreUnmarked, no_mark, plain_none, starts_late, unmarked_no_text, word_is}
@@ -55,7 +55,8 @@ pub data IsBracketed : List Token → Type 0 where
 
 -- Operands begin so
 
-before_by : (word : Token) (name : List ℕ) → is_word name word ≡ true → is_opening (str_to_ascii_lowercase name) ≡ true → are_letters (str_to_ascii_lowercase name) ≡ true → IsBefore word
+before_by : (word : Token) (name : List ℕ) → is_word name word ≡ true → is_opening (str_to_ascii_lowercase name) ≡ true
+    → are_letters (str_to_ascii_lowercase name) ≡ true → IsBefore word
 before_by word name is known letters =
     let p = and_parts (is_word_kind word.kind) (is_same_word word.text name) is in
     let same = same_letters word.text name p.1 in
@@ -65,7 +66,8 @@ row_before : (word : Token) (row : PlaceWord) → IsAmong row place_words → ha
 row_before word row among is =
     before_by word row.word is
     (or_left _ _
-    (any_at (λ (other : PlaceWord). bytes_eq (str_to_ascii_lowercase row.word) (str_to_ascii_lowercase other.word)) place_words row among (itself (str_to_ascii_lowercase row.word))))
+    (any_at (λ (other : PlaceWord). bytes_eq (str_to_ascii_lowercase row.word) (str_to_ascii_lowercase other.word)) place_words row among
+    (itself (str_to_ascii_lowercase row.word))))
     (not-false _ (none_at (λ (other : PlaceWord). not (are_letters (str_to_ascii_lowercase other.word))) place_words row among refl))
 
 -- the words of widths
@@ -87,19 +89,23 @@ width_before : (word : Token) → IsWidthWord word → IsBefore word
 width_before word (named name is known letters other) = before_by word name is known letters
 
 pub indirect_bracketed : (tokens : List Token) (operand : RawOperand) → IsIndirect tokens operand → IsBracketed tokens
-indirect_bracketed tokens operand (form.by_memory first before rest row o among is sign held) = word_before first before rest (row_before first row among is) sign
-indirect_bracketed tokens operand (form.by_register first before rest row o among is sign offset) = word_before first before rest (row_before first row among is) sign
+indirect_bracketed tokens operand (form.by_memory first before rest row o among is sign held) =
+    word_before first before rest (row_before first row among is) sign
+indirect_bracketed tokens operand (form.by_register first before rest row o among is sign offset) =
+    word_before first before rest (row_before first row among is) sign
 
 pub crossing_bracketed : (tokens : List Token) (operand : RawOperand) → IsCrossing tokens operand → IsBracketed tokens
 crossing_bracketed tokens operand (form.bit before rest o sign is) = bracket before rest sign
-crossing_bracketed tokens operand (form.wide first before rest w o is_width sign is) = word_before first before rest (width_before first (width_word first w is_width)) sign
+crossing_bracketed tokens operand (form.wide first before rest w o is_width sign is) =
+    word_before first before rest (width_before first (width_word first w is_width)) sign
 
 -- an operand that has its area from the pointer names none
 pub crossing_no_indirect : (tokens : List Token) (operand : RawOperand) → IsCrossing tokens operand → indirect_at tokens ≡ No
 crossing_no_indirect tokens operand (form.bit before rest o sign is) = by rest o is
   where
     by : (rest : List Token) (o : RawOperand) → IsRegister (Crossing width.Bit) rest o → indirect_at (before ∷ rest) ≡ No
-    by rest o (form.register word comma front close r p is_named comma_is offset closes) = if_false (is_sign (codes "[") word) _ No (no_sign (codes "[") word (register_word word r is_named).0)
+    by rest o (form.register word comma front close r p is_named comma_is offset closes) =
+        if_false (is_sign (codes "[") word) _ No (no_sign (codes "[") word (register_word word r is_named).0)
 crossing_no_indirect tokens operand (form.wide first before rest w o is_width sign is) =
     if_true (is_sign (codes "[") before) _ No sign
     ∙ ap (λ (found : Option PlaceWord). further 2 (indirect_by found rest)) (none_among (has_word first) place_words (no_row (width_word first w is_width)))
@@ -111,25 +117,29 @@ crossing_no_indirect tokens operand (form.wide first before rest w o is_width si
         by true e =
             let p = and_parts (is_word_kind first.kind) (is_same_word first.text row.word) e in
             let q = and_parts (is_word_kind first.kind) (is_same_word first.text name) is in
-            let clash : true ≡ false = sym (alike first.text name row.word q.1 p.1) ∙ none_at (λ (other_row : PlaceWord). is_same_word other_row.word name) place_words row among other in
+            let clash : true ≡ false =
+            sym (alike first.text name row.word q.1 p.1) ∙ none_at (λ (other_row : PlaceWord). is_same_word other_row.word name) place_words row among other in
             absurd cc
         by false e = refl
 
 -- No other operand begins so
 
-other_text : (text word : List ℕ) → is_opening (str_to_ascii_lowercase text) ≡ true → is_opening (str_to_ascii_lowercase word) ≡ false → is_same_word text word ≡ false
+other_text : (text word : List ℕ) → is_opening (str_to_ascii_lowercase text) ≡ true
+    → is_opening (str_to_ascii_lowercase word) ≡ false → is_same_word text word ≡ false
 other_text text word known other = by (is_same_word text word) refl
   where
     by : (b : Bool) → is_same_word text word ≡ b → b ≡ false
     by true s = let clash : true ≡ false = sym known ∙ ap is_opening (same_letters text word s) ∙ other in absurd cc
     by false s = refl
 
-pub bracketed_no_text : (tokens : List Token) (word : List ℕ) → IsBracketed tokens → is_opening (str_to_ascii_lowercase word) ≡ false → text_is word tokens ≡ false
+pub bracketed_no_text : (tokens : List Token) (word : List ℕ) → IsBracketed tokens
+    → is_opening (str_to_ascii_lowercase word) ≡ false → text_is word tokens ≡ false
 bracketed_no_text tokens other (bracket first rest sign) none =
     other_text first.text other (ap is_opening (same_letters first.text (codes "[") (and_parts _ (is_same_word first.text (codes "[")) sign).1)) none
 bracketed_no_text tokens other (word_before first before rest is sign) none = other_text first.text other is.known none
 
-pub bracketed_no_word : (tokens : List Token) (word : List ℕ) → IsBracketed tokens → is_opening (str_to_ascii_lowercase word) ≡ false → word_is word tokens ≡ false
+pub bracketed_no_word : (tokens : List Token) (word : List ℕ) → IsBracketed tokens
+    → is_opening (str_to_ascii_lowercase word) ≡ false → word_is word tokens ≡ false
 bracketed_no_word tokens word is none = by tokens (bracketed_no_text tokens word is none)
   where
     by : (tokens : List Token) → text_is word tokens ≡ false → word_is word tokens ≡ false
@@ -141,16 +151,19 @@ bracketed_unmarked tokens (bracket first rest sign) = are.bracket first rest sig
 bracketed_unmarked tokens (word_before first before rest is sign) = are.before_bracket first before rest is.kind sign
 
 pub bracketed_no_constant : (tokens : List Token) → IsBracketed tokens → constant_at tokens ≡ No
-bracketed_no_constant tokens is = or_no (text_at tokens) _ (unmarked_no_text tokens unmarked) ∙ or_no (marked_at prefixes tokens) _ (no_mark prefixes tokens unmarked) ∙ no_plain tokens is
+bracketed_no_constant tokens is =
+    or_no (text_at tokens) _ (unmarked_no_text tokens unmarked) ∙ or_no (marked_at prefixes tokens) _ (no_mark prefixes tokens unmarked) ∙ no_plain tokens is
   where
     unmarked : AreUnmarked tokens
     unmarked = bracketed_unmarked tokens is
 
     no_plain : (tokens : List Token) → IsBracketed tokens → plain_at tokens ≡ No
     no_plain tokens (bracket first rest sign) =
-        plain_none first rest (other_sign (codes "[") (codes "-") first sign refl) (λ kind. let clash : true ≡ false = sym kind ∙ no_word (codes "[") first sign in absurd cc)
+        plain_none first rest (other_sign (codes "[") (codes "-") first sign refl) (λ kind. let clash : true ≡ false =
+        sym kind ∙ no_word (codes "[") first sign in absurd cc)
     no_plain tokens (word_before first before rest is sign) =
-        plain_none first (before ∷ rest) (no_sign (codes "-") first is.kind) (λ kind. (and_parts (starts_late (str_to_ascii_lowercase first.text)) _ is.letters).0)
+        plain_none first (before ∷ rest) (no_sign (codes "-") first is.kind)
+        (λ kind. (and_parts (starts_late (str_to_ascii_lowercase first.text)) _ is.letters).0)
 
 pub bracketed_no_named : (tokens : List Token) → IsBracketed tokens → named_at tokens ≡ No
 bracketed_no_named tokens (bracket first rest sign) =
@@ -160,17 +173,20 @@ bracketed_no_named tokens (word_before first before rest is sign) =
     if_false (is_quoted_kind first.kind) _ _ (word_no_quoted first is.kind) ∙ if_false (is_sign (codes "#") first) _ No (no_sign (codes "#") first is.kind)
 
 -- behind letters a bracket is no number
-pub no_number_before : (first before : Token) (rest : List Token) → is_word_kind first.kind ≡ true → digits_of first.text ≡ [] → is_word_kind before.kind ≡ false →
-    numbered_at (first ∷ before ∷ rest) ≡ No
+pub no_number_before : (first before : Token) (rest : List Token) → is_word_kind first.kind ≡ true
+    → digits_of first.text ≡ [] → is_word_kind before.kind ≡ false
+    → numbered_at (first ∷ before ∷ rest) ≡ No
 no_number_before first before rest kind digits none =
     if_true (is_word_kind first.kind) _ No kind
     ∙ ap (λ (ds : List ℕ). number_behind (letters_of first.text) ds (before ∷ rest)) digits
     ∙ ap (fitting 2) (if_false (is_word_kind before.kind) _ None none)
 
 -- none of the forms that are left out, which are named by other words
-no_form : (first before : Token) (rest : List Token) → IsBefore first → (form : NamedForm) → IsAmong form left_out_forms → has_form (first ∷ before ∷ rest) form ≡ false
+no_form : (first before : Token) (rest : List Token) → IsBefore first → (form : NamedForm)
+    → IsAmong form left_out_forms → has_form (first ∷ before ∷ rest) form ≡ false
 no_form first before rest is form among =
-    or_from _ _ (and_left _ _ (and_right _ _ (other_text first.text form.word is.known (none_at (λ (f : NamedForm). is_opening (str_to_ascii_lowercase f.word)) left_out_forms form among refl))))
+    or_from _ _ (and_left _ _ (and_right _ _
+    (other_text first.text form.word is.known (none_at (λ (f : NamedForm). is_opening (str_to_ascii_lowercase f.word)) left_out_forms form among refl))))
     (and_right _ _ (no_rest (length form.word) first.text (and_parts (starts_late (str_to_ascii_lowercase first.text)) _ is.letters).1))
   where
     no_rest : (n : ℕ) (text : List ℕ) → list_all is_no_digit (str_to_ascii_lowercase text) ≡ true → are_digits (drop n text) ≡ false
@@ -185,7 +201,8 @@ bracketed_no_place tokens (bracket first rest sign) = no_place first rest (no_wo
 bracketed_no_place tokens (word_before first before rest is sign) =
     or_no (place_at (first ∷ before ∷ rest)) (left_out_at left_out_forms (first ∷ before ∷ rest))
     (no_place_at (first ∷ before ∷ rest)
-    (no_number_before first before rest is.kind (no_digits first.text (and_parts (starts_late (str_to_ascii_lowercase first.text)) _ is.letters).1) (no_word (codes "[") before sign)))
+    (no_number_before first before rest is.kind
+    (no_digits first.text (and_parts (starts_late (str_to_ascii_lowercase first.text)) _ is.letters).1) (no_word (codes "[") before sign)))
     ∙ ap left_out_by (none_among (has_form (first ∷ before ∷ rest)) left_out_forms (no_form first before rest is))
 
 pub bracketed_there : (tokens : List Token) → IsBracketed tokens → tokens ≡ [] → ⊥

@@ -13,22 +13,22 @@ use Rattle.s7_base.specs.declared.reason.Reason.TheVariants.{Unsupported}
 use Rattle.s7_base.specs.declared.token.Token.{Token}
 use Rattle.status_word.specs.declared.test.Test.{Test}
 use Rattle.status_word.specs.declared.test.Test.TheVariants as test
-use Rattle.stl_statements.specs.ConstantForms.{IsAddend, IsConstant, IsUpTo}
-use Rattle.stl_statements.specs.Constants.{Prefixed, addend_at, begins_glued, constant_at, left_out_prefixes, marked_at, number_at, plain}
-use Rattle.stl_statements.specs.InstructionForms.{IsLocated, IsOpened, IsPlaced, IsStatusOperand, flag, compared, IsOperand, IsInstruction, instruction, InstructionsHaveForms}
-use Rattle.stl_statements.specs.InstructionForms as form
-use Rattle.stl_statements.specs.Mnemonics.{Row, goes_on, mnemonic_at}
-use Rattle.stl_statements.specs.PathForms.{IsNamed}
-use Rattle.stl_statements.specs.PlaceForms.{IsPlace}
-use Rattle.stl_statements.specs.PointerForms.{IsOffsetConstant, IsPointerConstant}
-use Rattle.stl_statements.specs.Pointers.{behind_hash, offset_at, pointer_at, pointer_behind}
-use Rattle.stl_statements.specs.Readers.{read_as}
-use Rattle.stl_statements.specs.Statements.{any_constant_at, asked_by, begins_with_label, block_number_at, checked_at, first_of, instr_with, instruction_of, is_asked, left_out_at, length_at, loaded_at, located_at, name_of, nothing_at, on_line, opened_at, operand_by, operand_of, or_nothing, other_at, placed_at, pointer_alone_at, pointer_loaded_at, pointer_stored_at, second_of, shape_of, size_with, statement, status_at, stored_at, stw_at, tests, timers_and_counters, with_mnemonic, with_operand}
-use Rattle.stl_statements.specs.Words.{is_joined, is_sign, is_sign_kind, is_spelled, is_word, is_word_kind}
-use Rattle.stl_statements.specs.declared.mnemonic.Read.{Read}
-use Rattle.stl_statements.specs.declared.mnemonic.Read.TheVariants.{Fits, LeftOut, No}
-use Rattle.stl_statements.specs.declared.mnemonic.Shape.{Shape}
-use Rattle.stl_statements.specs.declared.mnemonic.Shape.TheVariants as shape
+use Rattle.stl_statement_grammar.specs.ConstantForms.{IsAddend, IsConstant, IsUpTo}
+use Rattle.stl_statement_grammar.specs.Constants.{Prefixed, addend_at, begins_glued, constant_at, left_out_prefixes, marked_at, number_at, plain}
+use Rattle.stl_statement_grammar.specs.InstructionForms.{IsLocated, IsOpened, IsPlaced, IsStatusOperand, flag, compared, IsOperand, IsInstruction, instruction, InstructionsHaveForms}
+use Rattle.stl_statement_grammar.specs.InstructionForms as form
+use Rattle.stl_statement_grammar.specs.Mnemonics.{Row, goes_on, mnemonic_at}
+use Rattle.stl_statement_grammar.specs.PathForms.{IsNamed}
+use Rattle.stl_statement_grammar.specs.PlaceForms.{IsPlace}
+use Rattle.stl_statement_grammar.specs.PointerForms.{IsOffsetConstant, IsPointerConstant}
+use Rattle.stl_statement_grammar.specs.Pointers.{behind_hash, offset_at, pointer_at, pointer_behind}
+use Rattle.stl_statement_grammar.specs.Readers.{read_as}
+use Rattle.stl_statement_grammar.specs.Statements.{any_constant_at, asked_by, begins_with_label, block_number_at, checked_at, first_of, instr_with, instruction_of, is_asked, left_out_at, length_at, loaded_at, located_at, name_of, nothing_at, on_line, opened_at, operand_by, operand_of, or_nothing, other_at, placed_at, pointer_alone_at, pointer_loaded_at, pointer_stored_at, second_of, operand_form_of, size_with, statement, status_at, stored_at, stw_at, tests, timers_and_counters, with_mnemonic, with_operand}
+use Rattle.stl_statement_grammar.specs.Words.{is_joined, is_sign, is_sign_kind, is_spelled, is_word, is_word_kind}
+use Rattle.stl_statement_grammar.specs.declared.mnemonic.Read.{Read}
+use Rattle.stl_statement_grammar.specs.declared.mnemonic.Read.TheVariants.{Fits, LeftOut, No}
+use Rattle.stl_statement_grammar.specs.declared.mnemonic.OperandForm.{OperandForm}
+use Rattle.stl_statement_grammar.specs.declared.mnemonic.OperandForm.TheVariants as shape
 use Rattle.stl_tree.specs.declared.program.Ar.{Ar}
 use Rattle.stl_tree.specs.declared.program.Ar.TheVariants as ar
 use Rattle.stl_tree.specs.declared.raw.Constant.{Constant as Literal}
@@ -96,7 +96,8 @@ asked_is (first ∷ rest) test h size =
     let p = and_parts (is_spelled (first_of test) first) (goes_on (second_of test) rest) h in
     by rest p.0 p.1 size (seconds test)
   where
-    by : (rest : List Token) → is_spelled (first_of test) first ≡ true → goes_on (second_of test) rest ≡ true → size_with (second_of test) ≡ length (first ∷ rest)
+    by : (rest : List Token) → is_spelled (first_of test) first ≡ true
+        → goes_on (second_of test) rest ≡ true → size_with (second_of test) ≡ length (first ∷ rest)
         → (second_of test ≡ []) ⊎ (second_of test ≡ codes "0") → IsStatusOperand (first ∷ rest) test
     by [] s g size (inl none) = flag first test none s
     by (zero ∷ rest) s g size (inl none) = let one : 1 ≡ length (first ∷ zero ∷ rest) = sym (ap size_with none) ∙ size in absurd (omega arith)
@@ -114,19 +115,22 @@ found_asked tokens (x ∷ xs) test e = by (is_asked tokens x) refl e (λ h. foun
     some_is : (a b : Test) → Some a ≡ Some b → a ≡ b
     some_is a b e = cc
 
-    by : (b : Bool) → is_asked tokens x ≡ b → cond b (Some x) (find (is_asked tokens) xs) ≡ Some test → (find (is_asked tokens) xs ≡ Some test → is_asked tokens test ≡ true)
+    by : (b : Bool) → is_asked tokens x ≡ b → cond b (Some x) (find (is_asked tokens) xs) ≡ Some test
+        → (find (is_asked tokens) xs ≡ Some test → is_asked tokens test ≡ true)
         → is_asked tokens test ≡ true
     by true t e next = ap (is_asked tokens) (sym (some_is x test e)) ∙ t
     by false t e next = next e
 
-status_all : (tokens : List Token) (P : RawOperand → Type 0) → ((test : Test) → IsStatusOperand tokens test → P (Flag test)) → AllOf (length tokens) P (status_at tokens)
+status_all : (tokens : List Token) (P : RawOperand → Type 0)
+    → ((test : Test) → IsStatusOperand tokens test → P (Flag test)) → AllOf (length tokens) P (status_at tokens)
 status_all tokens P make = by (find (is_asked tokens) tests) refl
   where
     by : (o : Option Test) → find (is_asked tokens) tests ≡ o → AllOf (length tokens) P (asked_by o)
     by None e = tt
     by (Some test) e = λ size. make test (asked_is tokens test (found_asked tokens tests test e) size)
 
-stw_all : (tokens : List Token) (P : List Token → RawOperand → Type 0) → ((word : Token) → is_word (codes "STW") word ≡ true → P (word ∷ []) Stw) → AllOf (length tokens) (P tokens) (stw_at tokens)
+stw_all : (tokens : List Token) (P : List Token → RawOperand → Type 0)
+    → ((word : Token) → is_word (codes "STW") word ≡ true → P (word ∷ []) Stw) → AllOf (length tokens) (P tokens) (stw_at tokens)
 stw_all [] P make = tt
 stw_all (first ∷ rest) P make = by (is_word (codes "STW") first) refl
   where
@@ -146,7 +150,8 @@ length_all n P (first ∷ rest) = by (is_word (codes "DBLG") first || is_word (c
     by true = tt
     by false = tt
 
-located_as : (tokens : List Token) (P : RawOperand → Type 0) → ((operand : RawOperand) → IsLocated tokens operand → P operand) → AllOf (length tokens) P (located_at tokens)
+located_as : (tokens : List Token) (P : RawOperand → Type 0)
+    → ((operand : RawOperand) → IsLocated tokens operand → P operand) → AllOf (length tokens) P (located_at tokens)
 located_as tokens P make = weaker (length tokens) (IsLocated tokens) P make (located_at tokens) (located_all tokens)
 
 checked_all : (tokens : List Token) → AllOf (length tokens) (IsOperand shape.Checked tokens) (checked_at tokens)
@@ -167,8 +172,9 @@ block_number_all (first ∷ rest) = by rest (is_word (codes "DBNO") first) (is_w
     by (next ∷ rest) false true db_is di_is = λ size. absurd (omega (arith, size))
     by rest false false db_is di_is = tt
 
-constant_as : (tokens : List Token) (P : RawOperand → Type 0) (Q : Literal → Type 0) → ((c : Literal) → Q c → P (Constant c)) → (r : Read Literal) → AllOf (length tokens) Q r →
-    AllOf (length tokens) P (read_as Constant r)
+constant_as : (tokens : List Token) (P : RawOperand → Type 0) (Q : Literal → Type 0)
+    → ((c : Literal) → Q c → P (Constant c)) → (r : Read Literal) → AllOf (length tokens) Q r
+    → AllOf (length tokens) P (read_as Constant r)
 constant_as tokens P Q make r h = as_all (length tokens) Constant Q P make r h
 
 -- a constant, or a pointer
@@ -180,8 +186,9 @@ any_constant_all tokens P made pointed =
     (as_all (length tokens) Pointer (IsPointerConstant tokens) P pointed (pointer_at tokens) (pointer_all tokens))
 
 -- a pointer where no other constant may stand
-pointer_alone_all : (tokens : List Token) (P : RawOperand → Type 0) (Is : RawPointer → Type 0) (read : List Token → Read RawPointer) → ((p : RawPointer) → Is p → P (Pointer p)) →
-    AllOf (length tokens) Is (read tokens) → AllOf (length tokens) P (pointer_alone_at read tokens)
+pointer_alone_all : (tokens : List Token) (P : RawOperand → Type 0) (Is : RawPointer → Type 0) (read : List Token → Read RawPointer)
+    → ((p : RawPointer) → Is p → P (Pointer p))
+    → AllOf (length tokens) Is (read tokens) → AllOf (length tokens) P (pointer_alone_at read tokens)
 pointer_alone_all tokens P Is read made h =
     or_all (length tokens) P (read_as Constant (marked_at left_out_prefixes tokens)) (read_as Pointer (read tokens))
     (constant_as tokens P (λ c. P (Constant c)) (λ c is. is) (marked_at left_out_prefixes tokens) (left_out_marked_all tokens (λ c. P (Constant c))))
@@ -192,7 +199,8 @@ other_all : (r : Ar) (tokens : List Token) (P : Ar → List Token → RawOperand
 other_all ar.One [] P made = tt
 other_all ar.One (first ∷ rest) P made = by (is_word (codes "AR2") first) refl rest
   where
-    by : (b : Bool) → is_word (codes "AR2") first ≡ b → (rest : List Token) → AllOf (length (first ∷ rest)) (P ar.One (first ∷ rest)) (if b then Fits OtherAr 1 else No)
+    by : (b : Bool) → is_word (codes "AR2") first ≡ b → (rest : List Token)
+        → AllOf (length (first ∷ rest)) (P ar.One (first ∷ rest)) (if b then Fits OtherAr 1 else No)
     by true word [] = λ size. made first word
     by true word (next ∷ more) = λ size. absurd (omega (arith, size))
     by false word rest = tt
@@ -220,28 +228,32 @@ loaded_all tokens =
     (or_all (length tokens) (IsOperand shape.Loaded tokens) (any_constant_at tokens) _
     (any_constant_all tokens (IsOperand shape.Loaded tokens) (λ c is. form.loaded_constant tokens c is) (λ p is. form.loaded_pointer tokens p is))
     (or_all (length tokens) (IsOperand shape.Loaded tokens) (located_at tokens) (length_at tokens)
-    (located_as tokens (IsOperand shape.Loaded tokens) (λ operand is. form.loaded_located tokens operand is)) (length_all (length tokens) (IsOperand shape.Loaded tokens) tokens))))
+    (located_as tokens (IsOperand shape.Loaded tokens) (λ operand is. form.loaded_located tokens operand is))
+    (length_all (length tokens) (IsOperand shape.Loaded tokens) tokens))))
 
 stored_all : (tokens : List Token) → AllOf (length tokens) (IsOperand shape.Stored tokens) (stored_at tokens)
 stored_all tokens =
     or_all (length tokens) (IsOperand shape.Stored tokens) (stw_at tokens) _ (stw_all tokens (IsOperand shape.Stored) (λ word is. form.stored_status word is))
     (located_as tokens (IsOperand shape.Stored tokens) (λ operand is. form.stored_located tokens operand is))
 
-number_as : (most : ℕ) (tokens : List Token) (P : RawOperand → Type 0) → ((n : ℕ) → IsUpTo most tokens n → P (Constant (plain n))) → AllOf (length tokens) P (read_as Constant (number_at most tokens))
+number_as : (most : ℕ) (tokens : List Token) (P : RawOperand → Type 0) → ((n : ℕ) → IsUpTo most tokens n → P (Constant (plain n)))
+    → AllOf (length tokens) P (read_as Constant (number_at most tokens))
 number_as most tokens P make =
     constant_as tokens P (λ c. P (Constant c)) (λ c is. is) (number_at most tokens) (number_all most tokens (λ c. P (Constant c)) make)
 
 -- what was read of all tokens is an operand of the shape
-operand_is : (shape : Shape) (tokens : List Token) → AllOf (length tokens) (IsOperand shape tokens) (operand_by shape tokens)
+operand_is : (shape : OperandForm) (tokens : List Token) → AllOf (length tokens) (IsOperand shape tokens) (operand_by shape tokens)
 operand_is shape.Nothing tokens = nothing_all tokens (IsOperand shape.Nothing) form.nothing
 operand_is shape.Bit tokens = located_as tokens (IsOperand shape.Bit tokens) (λ operand is. form.bit tokens operand is)
 operand_is shape.Checked tokens = checked_all tokens
 operand_is shape.CheckedOrNothing tokens =
     or_nothing_all tokens (IsOperand shape.CheckedOrNothing) (checked_at tokens) form.alone
-    (weaker (length tokens) (IsOperand shape.Checked tokens) (IsOperand shape.CheckedOrNothing tokens) (λ operand is. form.checked tokens operand is) (checked_at tokens) (checked_all tokens))
+    (weaker (length tokens) (IsOperand shape.Checked tokens) (IsOperand shape.CheckedOrNothing tokens)
+    (λ operand is. form.checked tokens operand is) (checked_at tokens) (checked_all tokens))
 operand_is (shape.Number most) tokens = number_as most tokens (IsOperand (shape.Number most) tokens) (λ n is. form.number most tokens n is)
 operand_is (shape.NumberOrNothing most) tokens =
-    or_nothing_all tokens (IsOperand (shape.NumberOrNothing most)) _ (form.no_count most) (number_as most tokens (IsOperand (shape.NumberOrNothing most) tokens) (λ n is. form.count most tokens n is))
+    or_nothing_all tokens (IsOperand (shape.NumberOrNothing most)) _ (form.no_count most)
+    (number_as most tokens (IsOperand (shape.NumberOrNothing most) tokens) (λ n is. form.count most tokens n is))
 operand_is shape.Addend tokens =
     constant_as tokens (IsOperand shape.Addend tokens) (IsAddend tokens) (λ c is. form.addend tokens c is) (addend_at tokens) (addend_all tokens)
 operand_is shape.Loaded tokens = loaded_all tokens
@@ -255,9 +267,11 @@ operand_is (shape.PointerStored r) tokens =
     or_nothing_all tokens (IsOperand (shape.PointerStored r)) (pointer_stored_at r tokens) (form.pointer_stored_alone r) (pointer_stored_all r tokens)
 operand_is shape.OffsetOrNothing tokens =
     or_nothing_all tokens (IsOperand shape.OffsetOrNothing) (pointer_alone_at offset_at tokens) form.no_offset
-    (pointer_alone_all tokens (IsOperand shape.OffsetOrNothing tokens) (IsOffsetConstant tokens) offset_at (λ p is. form.offset tokens p is) (offset_all tokens))
+    (pointer_alone_all tokens (IsOperand shape.OffsetOrNothing tokens)
+    (IsOffsetConstant tokens) offset_at (λ p is. form.offset tokens p is) (offset_all tokens))
 operand_is shape.Opened tokens =
-    weaker (length tokens) (IsOpened tokens) (IsOperand shape.Opened tokens) (λ operand is. form.opened tokens operand is) (opened_at tokens) (opened_all tokens)
+    weaker (length tokens) (IsOpened tokens) (IsOperand shape.Opened tokens)
+    (λ operand is. form.opened tokens operand is) (opened_at tokens) (opened_all tokens)
 operand_is shape.TimerOrCounter tokens =
     as_all (length tokens) At (λ place. ⊥) (IsOperand shape.TimerOrCounter tokens) (λ place is. absurd is) (left_out_at timers_and_counters tokens)
     (left_out_all (length tokens) (λ place. ⊥) timers_and_counters tokens)
@@ -266,16 +280,17 @@ operand_is (shape.LeftOut kind) tokens = tt
 
 -- what is said with a mnemonic
 record Said (row : Row) (tokens : List Token) (op : RawOp) : Type 0 where
-  operand : IsOperand (shape_of row.what) tokens op.operand
+  operand : IsOperand (operand_form_of row.what) tokens op.operand
   named : name_of row ≡ op.mnemonic
 
-said_is : (row : Row) (tokens : List Token) (r : Read RawOperand) (op : RawOp) → AllOf (length tokens) (IsOperand (shape_of row.what) tokens) r →
+said_is : (row : Row) (tokens : List Token) (r : Read RawOperand) (op : RawOp) → AllOf (length tokens) (IsOperand (operand_form_of row.what) tokens) r →
     with_operand (name_of row) (length tokens) r ≡ Ok op → Said row tokens op
 said_is row tokens No op h e = absurd cc
 said_is row tokens (LeftOut kind) op h e = absurd cc
 said_is row tokens (Fits operand size) op h e = by (size == length tokens) refl e
   where
-    by : (b : Bool) → (size == length tokens) ≡ b → (if b then Ok (record { mnemonic = name_of row; operand = operand }) else Err (Unsupported kind.NotBuilt)) ≡ Ok op → Said row tokens op
+    by : (b : Bool) → (size == length tokens) ≡ b
+        → (if b then Ok (record { mnemonic = name_of row; operand = operand }) else Err (Unsupported kind.NotBuilt)) ≡ Ok op → Said row tokens op
     by true t e =
         let same : record { mnemonic = name_of row; operand = operand } ≡ op = cc in
         let P : RawOp → Type 0 = λ o. Said row tokens o in
@@ -306,7 +321,7 @@ found_by : (tokens : List Token) (o : Option Row) (op : RawOp) → mnemonic_at t
 found_by tokens None op at e = absurd cc
 found_by tokens (Some row) op at e =
     let behind = drop (size_with row.second) tokens in
-    record { row = row; at = at; said = said_is row behind (operand_of row.what behind) op (operand_is (shape_of row.what) behind) e }
+    record { row = row; at = at; said = said_is row behind (operand_of row.what behind) op (operand_is (operand_form_of row.what) behind) e }
 
 sound : (tokens : List Token) (instr : RawInstr) → instruction_of tokens ≡ Ok instr → IsInstruction tokens instr
 unfolding instruction_of
@@ -346,12 +361,14 @@ found_is test.Ov zero h = refl
 found_is test.Os zero h = refl
 found_is test.Br zero h = refl
 
-as_found : (first : Token) (rest : List Token) →
-    find (is_asked (first ∷ rest)) tests ≡ found_in (is_word_kind first.kind || is_sign_kind first.kind) (str_to_ascii_lowercase first.text) (goes_on (codes "0") rest)
+as_found : (first : Token) (rest : List Token)
+    → find (is_asked (first ∷ rest)) tests
+    ≡ found_in (is_word_kind first.kind || is_sign_kind first.kind) (str_to_ascii_lowercase first.text) (goes_on (codes "0") rest)
 as_found first rest = refl
 
-asked_found : (first : Token) (rest : List Token) (test : Test) → is_spelled (first_of test) first ≡ true → behind (goes_on (codes "0") rest) (second_of test) ≡ true →
-    find (is_asked (first ∷ rest)) tests ≡ Some test
+asked_found : (first : Token) (rest : List Token) (test : Test) → is_spelled (first_of test) first ≡ true
+    → behind (goes_on (codes "0") rest) (second_of test) ≡ true
+    → find (is_asked (first ∷ rest)) tests ≡ Some test
 asked_found first rest test s h =
     let p = spelled (first_of test) first s in
     let zero = goes_on (codes "0") rest in
@@ -365,7 +382,8 @@ status_is tokens test (flag word t none s) =
     ap asked_by (asked_found word [] t s (ap (behind (goes_on (codes "0") [])) none)) ∙ ap (λ (second : List ℕ). Fits (Flag t) (size_with second)) none
 status_is tokens test (compared sign zero t zeros s z g) =
     let follows : goes_on (codes "0") (zero ∷ []) ≡ true = and_from _ _ z (or_left zero.glued _ g) in
-    ap asked_by (asked_found sign (zero ∷ []) t s (ap (behind (goes_on (codes "0") (zero ∷ []))) zeros ∙ follows)) ∙ ap (λ (second : List ℕ). Fits (Flag t) (size_with second)) zeros
+    ap asked_by (asked_found sign (zero ∷ []) t s (ap (behind (goes_on (codes "0") (zero ∷ []))) zeros ∙ follows))
+    ∙ ap (λ (second : List ℕ). Fits (Flag t) (size_with second)) zeros
 
 -- a place is no question to the status word
 
@@ -433,7 +451,8 @@ located_there tokens (by_name o is) e = named_there tokens o is e
 located_there tokens (in_bracket is) e = bracketed_there tokens is e
 
 checked_read : (tokens : List Token) (operand : RawOperand) → IsOperand shape.Checked tokens operand → checked_at tokens ≡ Fits operand (length tokens)
-checked_read tokens operand (form.checked_located ts o is) = or_no (status_at ts) (located_at ts) (located_not_asked ts (somewhere ts o is)) ∙ located_read ts o is
+checked_read tokens operand (form.checked_located ts o is) =
+    or_no (status_at ts) (located_at ts) (located_not_asked ts (somewhere ts o is)) ∙ located_read ts o is
 checked_read tokens operand (form.status ts test is) = or_this (status_at ts) _ (Flag test) (length ts) (status_is ts test is)
 
 -- where something is read, something stands
@@ -485,7 +504,8 @@ located_no_word tokens word (by_name o is) none = named_no_word tokens o word is
 located_no_word tokens word (in_bracket is) none = bracketed_no_word tokens word is none.unopened
 
 located_no_stw : (tokens : List Token) → IsSomewhere tokens → stw_at tokens ≡ No
-located_no_stw tokens is = no_stw tokens (located_no_word tokens (codes "STW") is (record { no_place = record { other = refl; digits = refl }; unopened = refl }))
+located_no_stw tokens is =
+    no_stw tokens (located_no_word tokens (codes "STW") is (record { no_place = record { other = refl; digits = refl }; unopened = refl }))
 
 located_no_number : (tokens : List Token) → IsSomewhere tokens → block_number_at tokens ≡ No
 located_no_number tokens is =
@@ -506,7 +526,8 @@ located_no_mark table tokens (in_bracket is) = no_mark table tokens (bracketed_u
 no_hash : (read : List Token → Read RawPointer) (tokens : List Token) → word_is (codes "P") tokens ≡ false → behind_hash read tokens ≡ No
 no_hash read [] h = refl
 no_hash read (word ∷ []) h = refl
-no_hash read (word ∷ hash ∷ rest) h = if_false (is_word (codes "P") word && is_joined (codes "#") hash && begins_glued rest) _ No (and_left _ _ (and_left _ _ h))
+no_hash read (word ∷ hash ∷ rest) h =
+    if_false (is_word (codes "P") word && is_joined (codes "#") hash && begins_glued rest) _ No (and_left _ _ (and_left _ _ h))
 
 located_no_pointer : (tokens : List Token) → IsSomewhere tokens → pointer_at tokens ≡ No
 located_no_pointer tokens is =
@@ -514,7 +535,8 @@ located_no_pointer tokens is =
 
 located_no_any_constant : (tokens : List Token) → IsSomewhere tokens → any_constant_at tokens ≡ No
 located_no_any_constant tokens is =
-    or_no (read_as Constant (constant_at tokens)) _ (ap (read_as Constant) (located_no_constant tokens is)) ∙ ap (read_as Pointer) (located_no_pointer tokens is)
+    or_no (read_as Constant (constant_at tokens)) _ (ap (read_as Constant) (located_no_constant tokens is))
+    ∙ ap (read_as Pointer) (located_no_pointer tokens is)
 
 -- Pointers
 
@@ -525,17 +547,20 @@ hashed_no_constant : (tokens : List Token) → Hashed tokens → constant_at tok
 hashed_no_constant tokens h = subst (λ (ts : List Token). constant_at ts ≡ No) h.all (pointer_no_constant h.word h.hash h.rest h.word_is h.hash_is h.no_name)
 
 hashed_no_left_out : (tokens : List Token) → Hashed tokens → marked_at left_out_prefixes tokens ≡ No
-hashed_no_left_out tokens h = subst (λ (ts : List Token). marked_at left_out_prefixes ts ≡ No) h.all (pointer_no_left_out h.word h.hash h.rest h.word_is h.hash_is h.no_name)
+hashed_no_left_out tokens h =
+    subst (λ (ts : List Token). marked_at left_out_prefixes ts ≡ No) h.all (pointer_no_left_out h.word h.hash h.rest h.word_is h.hash_is h.no_name)
 
 hashed_there : (tokens : List Token) → Hashed tokens → tokens ≡ [] → ⊥
 hashed_there tokens h e = let clash : h.word ∷ h.hash ∷ h.rest ≡ [] = h.all ∙ e in absurd cc
 
 pointer_any_constant : (tokens : List Token) (p : RawPointer) → IsPointerConstant tokens p → any_constant_at tokens ≡ Fits (Pointer p) (length tokens)
 pointer_any_constant tokens p is =
-    or_no (read_as Constant (constant_at tokens)) _ (ap (read_as Constant) (hashed_no_constant tokens (pointer_hashed tokens p is))) ∙ ap (read_as Pointer) (pointer_at_read tokens p is)
+    or_no (read_as Constant (constant_at tokens)) _ (ap (read_as Constant) (hashed_no_constant tokens (pointer_hashed tokens p is)))
+    ∙ ap (read_as Pointer) (pointer_at_read tokens p is)
 
 constant_any_constant : (tokens : List Token) (c : Literal) → IsConstant tokens c → any_constant_at tokens ≡ Fits (Constant c) (length tokens)
-constant_any_constant tokens c is = or_this (read_as Constant (constant_at tokens)) _ (Constant c) (length tokens) (ap (read_as Constant) (constant_read tokens c is))
+constant_any_constant tokens c is =
+    or_this (read_as Constant (constant_at tokens)) _ (Constant c) (length tokens) (ap (read_as Constant) (constant_read tokens c is))
 
 pointer_alone_read : (read : List Token → Read RawPointer) (tokens : List Token) (p : RawPointer) → Hashed tokens → read tokens ≡ Fits p (length tokens) →
     pointer_alone_at read tokens ≡ Fits (Pointer p) (length tokens)
@@ -559,13 +584,15 @@ located_no_other r tokens is = no_other r tokens (by is)
 other_read : (word : Token) → is_word (codes "AR2") word ≡ true → other_at ar.One (word ∷ []) ≡ Fits OtherAr 1
 other_read word is = if_true (is_word (codes "AR2") word) _ No is
 
-pointer_loaded_read : (r : Ar) (tokens : List Token) (p : RawPointer) → IsPointerConstant tokens p → pointer_loaded_at r tokens ≡ Fits (Pointer p) (length tokens)
+pointer_loaded_read : (r : Ar) (tokens : List Token) (p : RawPointer)
+    → IsPointerConstant tokens p → pointer_loaded_at r tokens ≡ Fits (Pointer p) (length tokens)
 pointer_loaded_read r tokens p is =
     let h = pointer_hashed tokens p is in
     or_no (other_at r tokens) _ (no_other r tokens (hashed_no_word tokens (codes "AR2") h refl))
     ∙ or_this (pointer_alone_at pointer_at tokens) _ (Pointer p) (length tokens) (pointer_alone_read pointer_at tokens p h (pointer_at_read tokens p is))
 
-pointer_loaded_placed : (r : Ar) (tokens : List Token) (operand : RawOperand) → IsPlaced tokens operand → pointer_loaded_at r tokens ≡ Fits operand (length tokens)
+pointer_loaded_placed : (r : Ar) (tokens : List Token) (operand : RawOperand)
+    → IsPlaced tokens operand → pointer_loaded_at r tokens ≡ Fits operand (length tokens)
 pointer_loaded_placed r tokens operand is =
     let s = placed_somewhere tokens operand is in
     or_no (other_at r tokens) _ (located_no_other r tokens s)
@@ -574,7 +601,8 @@ pointer_loaded_placed r tokens operand is =
     ∙ ap (read_as Pointer) (located_no_pointer tokens s))
     ∙ placed_read tokens operand is
 
-pointer_stored_placed : (r : Ar) (tokens : List Token) (operand : RawOperand) → IsPlaced tokens operand → pointer_stored_at r tokens ≡ Fits operand (length tokens)
+pointer_stored_placed : (r : Ar) (tokens : List Token) (operand : RawOperand)
+    → IsPlaced tokens operand → pointer_stored_at r tokens ≡ Fits operand (length tokens)
 pointer_stored_placed r tokens operand is =
     or_no (other_at r tokens) (placed_at tokens) (located_no_other r tokens (placed_somewhere tokens operand is)) ∙ placed_read tokens operand is
 
@@ -611,9 +639,11 @@ loaded_located tokens operand is =
     ∙ or_this (located_at tokens) (length_at tokens) operand (length tokens) (located_read tokens operand is)
 
 stored_located : (tokens : List Token) (operand : RawOperand) → IsLocated tokens operand → stored_at tokens ≡ Fits operand (length tokens)
-stored_located tokens operand is = or_no (stw_at tokens) (located_at tokens) (located_no_stw tokens (somewhere tokens operand is)) ∙ located_read tokens operand is
+stored_located tokens operand is =
+    or_no (stw_at tokens) (located_at tokens) (located_no_stw tokens (somewhere tokens operand is)) ∙ located_read tokens operand is
 
-operand_read : (shape : Shape) (tokens : List Token) (operand : RawOperand) → IsOperand shape tokens operand → operand_by shape tokens ≡ Fits operand (length tokens)
+operand_read : (shape : OperandForm) (tokens : List Token) (operand : RawOperand)
+    → IsOperand shape tokens operand → operand_by shape tokens ≡ Fits operand (length tokens)
 operand_read shape tokens operand form.nothing = refl
 operand_read shape tokens operand (form.bit ts o is) = located_read ts o is
 operand_read shape tokens operand (form.checked_located ts o is) = checked_read ts o (form.checked_located ts o is)
@@ -633,7 +663,8 @@ operand_read shape tokens operand (form.loaded_pointer ts p is) = loaded_pointer
 operand_read shape tokens operand (form.loaded_located ts o is) = loaded_located ts o is
 operand_read shape tokens operand (form.stored_status word is) = or_this (stw_at (word ∷ [])) _ Stw 1 (stw_read word is)
 operand_read shape tokens operand (form.stored_located ts o is) = stored_located ts o is
-operand_read shape tokens operand (form.combined ts c is) = or_nothing_read ts (any_constant_at ts) (Constant c) (constant_there ts c is) (constant_any_constant ts c is)
+operand_read shape tokens operand (form.combined ts c is) =
+    or_nothing_read ts (any_constant_at ts) (Constant c) (constant_there ts c is) (constant_any_constant ts c is)
 operand_read shape tokens operand (form.combined_pointer ts p is) =
     or_nothing_read ts (any_constant_at ts) (Pointer p) (hashed_there ts (pointer_hashed ts p is)) (pointer_any_constant ts p is)
 operand_read shape tokens operand form.no_constant = refl
@@ -661,7 +692,7 @@ complete tokens instr (instruction first rest row operand label at is) =
     let said : statement (first ∷ rest) ≡ Ok op =
     if_false (begins_with_label (first ∷ rest)) _ _ label
     ∙ ap (λ (o : Option Row). with_mnemonic (first ∷ rest) o) at
-    ∙ ap (λ (r : Read RawOperand). with_operand (name_of row) (length behind) r) (operand_read (shape_of row.what) behind operand is)
+    ∙ ap (λ (r : Read RawOperand). with_operand (name_of row) (length behind) r) (operand_read (operand_form_of row.what) behind operand is)
     ∙ if_true (length behind == length behind) _ _ (same_size (length behind)) in
     ap (λ (s : Result RawOp Reason). on_line first.line s) said
 

@@ -8,11 +8,11 @@ use Rattle.stl_constants.proofs.Tables.{none_found}
 use Rattle.stl_places.proofs.Fronts.{front_all}
 use Rattle.stl_places.proofs.NoPlaces.{no_numbered}
 use Rattle.stl_places.proofs.PlaceLaws.{no_place_at, place_alone_read, place_front}
-use Rattle.stl_statements.specs.PlaceForms.{IsPlace}
-use Rattle.stl_statements.specs.Places.{place_at}
-use Rattle.stl_statements.specs.Statements.{NamedForm, has_form, left_out_at, left_out_by, left_out_forms, place_operand}
-use Rattle.stl_statements.specs.Words.{is_word_kind}
-use Rattle.stl_statements.specs.declared.mnemonic.Read.TheVariants.{Fits, No}
+use Rattle.stl_statement_grammar.specs.PlaceForms.{IsPlace}
+use Rattle.stl_statement_grammar.specs.Places.{place_at}
+use Rattle.stl_statement_grammar.specs.Statements.{NamedForm, has_form, left_out_at, left_out_by, left_out_forms, place_operand}
+use Rattle.stl_statement_grammar.specs.Words.{is_word_kind}
+use Rattle.stl_statement_grammar.specs.declared.mnemonic.Read.TheVariants.{Fits, No}
 use Rattle.stl_tree.specs.declared.raw.RawPlace.{RawPlace}
 
 -- From what is read to its form
@@ -27,7 +27,8 @@ left_out_all n P table tokens = by (find (has_form tokens) table)
 
 pub place_all : (tokens : List Token) → AllOf (length tokens) (IsPlace tokens) (place_operand tokens)
 place_all tokens =
-    or_all (length tokens) (IsPlace tokens) (place_at tokens) (left_out_at left_out_forms tokens) (front_all tokens IsPlace (place_at tokens) (place_front tokens))
+    or_all (length tokens) (IsPlace tokens) (place_at tokens) (left_out_at left_out_forms tokens)
+    (front_all tokens IsPlace (place_at tokens) (place_front tokens))
     (left_out_all (length tokens) (IsPlace tokens) left_out_forms tokens)
 
 -- From a form to what is read of it

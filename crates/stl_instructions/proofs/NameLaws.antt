@@ -14,20 +14,20 @@ use Rattle.s7_base.specs.declared.word.Width.TheVariants as width
 use Rattle.s7_base.specs.declared.token.TokenKind.TheVariants.{Word, Quoted, Text, Sign}
 use Rattle.status_word.specs.declared.test.Test.{Test}
 use Rattle.status_word.specs.declared.test.Test.TheVariants as test
-use Rattle.stl_statements.specs.Constants.{Prefixed, begins_glued, constant_at, has_prefix, is_real, marked_at, prefixed_at, prefixed_by, prefixes, real_at, text_at, begins_real}
-use Rattle.stl_statements.specs.InstructionForms.{IsLocated, IsOpened, IsPlaced, by_memory, by_name, by_number, by_word}
-use Rattle.stl_statements.specs.InstructionForms as form
-use Rattle.stl_statements.specs.PathForms.{IsNamed, IsPath}
-use Rattle.stl_statements.specs.PathForms as named
-use Rattle.stl_statements.specs.Paths.{in_block_behind, local_behind, named_at, named_behind, path_at}
-use Rattle.stl_statements.specs.PlaceForms.{IsPlace}
-use Rattle.stl_statements.specs.Places.{Numbered, digits_of, is_no_digit, numbered_at, opened_area}
-use Rattle.stl_statements.specs.PointerForms.{IsCrossing, IsIndirect, IsMemory}
-use Rattle.stl_statements.specs.Pointers.{crossing_at, indirect_at, memory_at}
-use Rattle.stl_statements.specs.Readers.{fitting, further, read_as}
-use Rattle.stl_statements.specs.Statements.{asked_by, first_of, is_asked, located_at, opened_at, opened_behind, opened_by_memory_at, opened_in, opened_name_at, opened_number_at, opened_word, opening, opening_by, place_operand, placed_at, status_at, tests}
-use Rattle.stl_statements.specs.Words.{is_joined, is_quoted_kind, is_sign, is_sign_kind, is_text_kind, is_word_kind}
-use Rattle.stl_statements.specs.declared.mnemonic.Read.TheVariants.{Fits, No}
+use Rattle.stl_statement_grammar.specs.Constants.{Prefixed, begins_glued, constant_at, has_prefix, is_real, marked_at, prefixed_at, prefixed_by, prefixes, real_at, text_at, begins_real}
+use Rattle.stl_statement_grammar.specs.InstructionForms.{IsLocated, IsOpened, IsPlaced, by_memory, by_name, by_number, by_word}
+use Rattle.stl_statement_grammar.specs.InstructionForms as form
+use Rattle.stl_statement_grammar.specs.PathForms.{IsNamed, IsPath}
+use Rattle.stl_statement_grammar.specs.PathForms as named
+use Rattle.stl_statement_grammar.specs.Paths.{in_block_behind, local_behind, named_at, named_behind, path_at}
+use Rattle.stl_statement_grammar.specs.PlaceForms.{IsPlace}
+use Rattle.stl_statement_grammar.specs.Places.{Numbered, digits_of, is_no_digit, numbered_at, opened_area}
+use Rattle.stl_statement_grammar.specs.PointerForms.{IsCrossing, IsIndirect, IsMemory}
+use Rattle.stl_statement_grammar.specs.Pointers.{crossing_at, indirect_at, memory_at}
+use Rattle.stl_statement_grammar.specs.Readers.{fitting, further, read_as}
+use Rattle.stl_statement_grammar.specs.Statements.{asked_by, first_of, is_asked, located_at, opened_at, opened_behind, opened_by_memory_at, opened_in, opened_name_at, opened_number_at, opened_word, opening, opening_by, place_operand, placed_at, status_at, tests}
+use Rattle.stl_statement_grammar.specs.Words.{is_joined, is_quoted_kind, is_sign, is_sign_kind, is_text_kind, is_word_kind}
+use Rattle.stl_statement_grammar.specs.declared.mnemonic.Read.TheVariants.{Fits, No}
 use Rattle.stl_tree.specs.declared.raw.RawName.TheVariants.{Name, Number}
 use Rattle.stl_tree.specs.declared.raw.RawOperand.{RawOperand}
 use Rattle.stl_tree.specs.declared.raw.RawOperand.TheVariants.{At, InBlock, Local, Named, OpenDb}
@@ -60,14 +60,17 @@ named_front (first ∷ rest) = by (is_quoted_kind first.kind) refl (is_sign (cod
             let p = and_parts (is_joined (codes ".") point) (begins_glued more) t in
             further_front (first ∷ point ∷ []) more IsNamed (read_as (InBlock first.text) (path_at more))
             (as_front more (InBlock first.text) IsPath (λ others operand. IsNamed (first ∷ point ∷ others) operand)
-            (λ others left steps split is. named.in_block first point others steps kind p.0 (path_glued others left more steps is split p.1) is) (path_at more) (path_front more))
+            (λ others left steps split is. named.in_block first point others steps kind p.0 (path_glued others left more steps is split p.1) is)
+            (path_at more) (path_front more))
 
-    local : is_sign (codes "#") first ≡ true → (b : Bool) → begins_glued rest ≡ b → FrontOf (first ∷ rest) IsNamed (if b then further 1 (read_as Local (path_at rest)) else No)
+    local : is_sign (codes "#") first ≡ true → (b : Bool) → begins_glued rest ≡ b
+        → FrontOf (first ∷ rest) IsNamed (if b then further 1 (read_as Local (path_at rest)) else No)
     local sign false glued = tt
     local sign true glued =
         further_front (first ∷ []) rest IsNamed (read_as Local (path_at rest))
         (as_front rest Local IsPath (λ others operand. IsNamed (first ∷ others) operand)
-        (λ others left steps split is. named.local first others steps sign (path_glued others left rest steps is split glued) is) (path_at rest) (path_front rest))
+        (λ others left steps split is. named.local first others steps sign (path_glued others left rest steps is split glued) is)
+        (path_at rest) (path_front rest))
 
     by : (quoted : Bool) → is_quoted_kind first.kind ≡ quoted → (sign : Bool) → is_sign (codes "#") first ≡ sign →
         FrontOf (first ∷ rest) IsNamed (if quoted then named_behind first.text rest else if sign then local_behind rest else No)
@@ -86,12 +89,14 @@ placed_all tokens =
     (front_all tokens IsNamed (named_at tokens) (named_front tokens)))
     (weaker (length tokens) (IsIndirect tokens) (IsPlaced tokens) (λ operand is. form.indirect tokens operand is) (indirect_at tokens) (indirect_all tokens)))
 
-pub placed_as : (tokens : List Token) (P : RawOperand → Type 0) → ((operand : RawOperand) → IsPlaced tokens operand → P operand) → AllOf (length tokens) P (placed_at tokens)
+pub placed_as : (tokens : List Token) (P : RawOperand → Type 0)
+    → ((operand : RawOperand) → IsPlaced tokens operand → P operand) → AllOf (length tokens) P (placed_at tokens)
 placed_as tokens P make = weaker (length tokens) (IsPlaced tokens) P make (placed_at tokens) (placed_all tokens)
 
 pub located_all : (tokens : List Token) → AllOf (length tokens) (IsLocated tokens) (located_at tokens)
 located_all tokens =
-    or_all (length tokens) (IsLocated tokens) (placed_at tokens) (crossing_at tokens) (placed_as tokens (IsLocated tokens) (λ operand is. form.placed tokens operand is))
+    or_all (length tokens) (IsLocated tokens) (placed_at tokens) (crossing_at tokens)
+    (placed_as tokens (IsLocated tokens) (λ operand is. form.placed tokens operand is))
     (weaker (length tokens) (IsCrossing tokens) (IsLocated tokens) (λ operand is. form.crossing tokens operand is) (crossing_at tokens) (crossing_all tokens))
 
 opened_number_front : (tokens : List Token) → FrontOf tokens IsOpened (opened_number_at tokens)
@@ -143,7 +148,8 @@ opened_by_memory_front (word ∷ before ∷ rest) = by (opened_word word) refl
     at name e true sign =
         further_front (word ∷ before ∷ []) rest IsOpened (memory_at (opening_by name) width.Word rest)
         (refined rest (IsMemory (opening_by name) width.Word) (λ more o. IsOpened (word ∷ before ∷ more) o)
-        (λ front behind o split is. by_memory word before front name o e sign is) (memory_at (opening_by name) width.Word rest) (memory_front (opening_by name) width.Word rest))
+        (λ front behind o split is. by_memory word before front name o e sign is)
+        (memory_at (opening_by name) width.Word rest) (memory_front (opening_by name) width.Word rest))
 
     by : (o : Option AreaName) → opened_word word ≡ o → FrontOf (word ∷ before ∷ rest) IsOpened (opened_in o before rest)
     by None e = tt
@@ -163,7 +169,8 @@ named_read tokens operand (named.in_block quoted point rest steps kind at glued 
     if_true (is_quoted_kind quoted.kind) _ _ kind
     ∙ or_this (in_block_behind quoted.text (point ∷ rest)) _ (InBlock quoted.text steps) (length (quoted ∷ point ∷ rest))
     (if_true (is_joined (codes ".") point && begins_glued rest) _ No (and_from _ _ at glued)
-    ∙ further_read (quoted ∷ point ∷ []) rest (read_as (InBlock quoted.text) (path_at rest)) (InBlock quoted.text steps) (ap (read_as (InBlock quoted.text)) (path_read rest steps is)))
+    ∙ further_read (quoted ∷ point ∷ []) rest (read_as (InBlock quoted.text) (path_at rest))
+    (InBlock quoted.text steps) (ap (read_as (InBlock quoted.text)) (path_read rest steps is)))
 named_read tokens operand (named.local hash rest steps sign glued is) =
     if_false (is_quoted_kind hash.kind) _ _ (sign_no_quoted (codes "#") hash sign)
     ∙ if_true (is_sign (codes "#") hash) _ No sign
@@ -179,7 +186,8 @@ record IsMark (first : Token) : Type 0 where
   other : (sign : List ℕ) → is_same_word sign (codes "#") ≡ false → (is_sign_kind first.kind && is_same_word first.text sign) ≡ false
 
 quoted_mark : (first : Token) → is_quoted_kind first.kind ≡ true → IsMark first
-quoted_mark first kind = record { no_word = word first.kind kind; no_text = text first.kind kind; other = λ sign h. and_left _ _ (no_sign_kind first.kind kind) }
+quoted_mark first kind =
+    record { no_word = word first.kind kind; no_text = text first.kind kind; other = λ sign h. and_left _ _ (no_sign_kind first.kind kind) }
   where
     word : (kind : TokenKind) → is_quoted_kind kind ≡ true → is_word_kind kind ≡ false
     word Word h = absurd cc
@@ -200,7 +208,11 @@ quoted_mark first kind = record { no_word = word first.kind kind; no_text = text
     no_sign_kind Sign h = absurd cc
 
 sign_mark : (first : Token) → is_sign (codes "#") first ≡ true → IsMark first
-sign_mark first sign = record { no_word = no_word (codes "#") first sign; no_text = sign_no_text (codes "#") first sign; other = λ other h. other_sign (codes "#") other first sign h }
+sign_mark first sign = record {
+  no_word = no_word (codes "#") first sign;
+  no_text = sign_no_text (codes "#") first sign;
+  other = λ other h. other_sign (codes "#") other first sign h;
+}
 
 record Marked (tokens : List Token) : Type 0 where
   first : Token
@@ -210,7 +222,8 @@ record Marked (tokens : List Token) : Type 0 where
 
 marked : (tokens : List Token) (operand : RawOperand) → IsNamed tokens operand → Marked tokens
 marked tokens operand (named.name quoted kind) = record { first = quoted; rest = []; is = refl; mark = quoted_mark quoted kind }
-marked tokens operand (named.in_block quoted point rest steps kind at glued is) = record { first = quoted; rest = point ∷ rest; is = refl; mark = quoted_mark quoted kind }
+marked tokens operand (named.in_block quoted point rest steps kind at glued is) =
+    record { first = quoted; rest = point ∷ rest; is = refl; mark = quoted_mark quoted kind }
 marked tokens operand (named.local hash rest steps sign glued is) = record { first = hash; rest = rest; is = refl; mark = sign_mark hash sign }
 
 no_marked : (table : List Prefixed) (first : Token) (rest : List Token) → IsMark first → marked_at table (first ∷ rest) ≡ No
@@ -254,19 +267,27 @@ no_status first rest m = ap asked_by (none_found (is_asked (first ∷ rest)) tes
     spelled_so false sign same w s = s
 
     not_asked : (test : Test) → is_asked (first ∷ rest) test ≡ false
-    not_asked test = and_left _ _ (spelled_so (is_word_kind first.kind) (is_sign_kind first.kind) (is_same_word first.text (first_of test)) m.no_word (m.other (first_of test) (sharp_apart test)))
+    not_asked test =
+        and_left _ _ (spelled_so (is_word_kind first.kind) (is_sign_kind first.kind)
+        (is_same_word first.text (first_of test)) m.no_word (m.other (first_of test) (sharp_apart test)))
 
 pub named_not_asked : (tokens : List Token) (operand : RawOperand) → IsNamed tokens operand → status_at tokens ≡ No
 named_not_asked tokens operand is = let m = marked tokens operand is in subst (λ (ts : List Token). status_at ts ≡ No) m.is (no_status m.first m.rest m.mark)
 
 pub named_no_constant : (tokens : List Token) (operand : RawOperand) → IsNamed tokens operand → constant_at tokens ≡ No
-named_no_constant tokens operand is = let m = marked tokens operand is in subst (λ (ts : List Token). constant_at ts ≡ No) m.is (no_constant m.first m.rest m.mark)
+named_no_constant tokens operand is =
+    let m = marked tokens operand is in
+    subst (λ (ts : List Token). constant_at ts ≡ No) m.is (no_constant m.first m.rest m.mark)
 
 pub named_no_mark : (table : List Prefixed) (tokens : List Token) (operand : RawOperand) → IsNamed tokens operand → marked_at table tokens ≡ No
-named_no_mark table tokens operand is = let m = marked tokens operand is in subst (λ (ts : List Token). marked_at table ts ≡ No) m.is (no_marked table m.first m.rest m.mark)
+named_no_mark table tokens operand is =
+    let m = marked tokens operand is in
+    subst (λ (ts : List Token). marked_at table ts ≡ No) m.is (no_marked table m.first m.rest m.mark)
 
 pub named_no_word : (tokens : List Token) (operand : RawOperand) (word : List ℕ) → IsNamed tokens operand → word_is word tokens ≡ false
-named_no_word tokens operand word is = let m = marked tokens operand is in subst (λ (ts : List Token). word_is word ts ≡ false) m.is (and_left _ _ m.mark.no_word)
+named_no_word tokens operand word is =
+    let m = marked tokens operand is in
+    subst (λ (ts : List Token). word_is word ts ≡ false) m.is (and_left _ _ m.mark.no_word)
 
 pub named_there : (tokens : List Token) (operand : RawOperand) → IsNamed tokens operand → tokens ≡ [] → ⊥
 named_there tokens operand is e =
@@ -275,15 +296,20 @@ named_there tokens operand is e =
     absurd cc
 
 named_no_place : (tokens : List Token) (operand : RawOperand) → IsNamed tokens operand → place_operand tokens ≡ No
-named_no_place tokens operand is = let m = marked tokens operand is in subst (λ (ts : List Token). place_operand ts ≡ No) m.is (no_place m.first m.rest m.mark.no_word)
+named_no_place tokens operand is =
+    let m = marked tokens operand is in
+    subst (λ (ts : List Token). place_operand ts ≡ No) m.is (no_place m.first m.rest m.mark.no_word)
 
 pub placed_read : (tokens : List Token) (operand : RawOperand) → IsPlaced tokens operand → placed_at tokens ≡ Fits operand (length tokens)
 placed_read tokens operand (form.at ts place is) = or_this (read_as At (place_operand ts)) _ (At place) (length ts) (ap (read_as At) (place_read ts place is))
 placed_read tokens operand (form.named ts o is) =
-    or_no (read_as At (place_operand ts)) _ (ap (read_as At) (named_no_place ts o is)) ∙ or_this (named_at ts) (indirect_at ts) o (length ts) (named_read ts o is)
+    or_no (read_as At (place_operand ts)) _ (ap (read_as At) (named_no_place ts o is))
+    ∙ or_this (named_at ts) (indirect_at ts) o (length ts) (named_read ts o is)
 placed_read tokens operand (form.indirect ts o is) =
     let bracketed = indirect_bracketed ts o is in
-    or_no (read_as At (place_operand ts)) _ (ap (read_as At) (bracketed_no_place ts bracketed)) ∙ or_no (named_at ts) (indirect_at ts) (bracketed_no_named ts bracketed) ∙ indirect_read ts o is
+    or_no (read_as At (place_operand ts)) _ (ap (read_as At) (bracketed_no_place ts bracketed))
+    ∙ or_no (named_at ts) (indirect_at ts) (bracketed_no_named ts bracketed)
+    ∙ indirect_read ts o is
 
 crossing_no_placed : (tokens : List Token) (operand : RawOperand) → IsCrossing tokens operand → placed_at tokens ≡ No
 crossing_no_placed tokens operand is =
@@ -305,8 +331,9 @@ area_letters text name e = by (is_same_word text (codes "DB")) refl (is_same_wor
     of_word word s none =
         no_digits text (ap (λ (low : List ℕ). list_all is_no_digit low) (same_letters text word s) ∙ none)
 
-    by : (db : Bool) → is_same_word text (codes "DB") ≡ db → (di : Bool) → is_same_word text (codes "DI") ≡ di → (if db then Some area.Db else if di then Some area.Di else None) ≡ Some name →
-        digits_of text ≡ []
+    by : (db : Bool) → is_same_word text (codes "DB") ≡ db → (di : Bool) → is_same_word text (codes "DI") ≡ di
+        → (if db then Some area.Db else if di then Some area.Di else None) ≡ Some name
+        → digits_of text ≡ []
     by true s di t e = of_word (codes "DB") s refl
     by false s true t e = of_word (codes "DI") t refl
     by false s false t e = absurd cc

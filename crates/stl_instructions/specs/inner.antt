@@ -1,3 +1,3 @@
 pub mod Answers
 pub mod Rows
-pub mod Shapes
+pub mod PlainForms

@@ -1,9 +1,9 @@
 //! Reads the tokens of one statement of STL, without its `;`: its mnemonic and its operand.
 //!
-//! Stands on `stl_mnemonics` for the mnemonic at the front, on `stl_constants` and `stl_places` for what operands
-//! are made of, and on `stl_statements`, which has the forms of operands as definitions. `instruction` gives
-//! exactly the instruction of the tokens, or its refusal; `instructions_have_forms` is the law that the functions
-//! of `stl_statements` and its forms say the same.
+//! Uses `stl_mnemonics` for the mnemonic at the front, `stl_constants` and `stl_places` for the parts of
+//! operands, and `stl_statement_grammar`, which has the forms of operands as definitions. `instruction` gives
+//! exactly the instruction of the tokens, or its refusal; `instructions_have_forms` is the law that the
+//! functions of `stl_statement_grammar` and its forms say the same.
 #![tactic(auto)]
 
 pub use laws::instructions_have_forms;

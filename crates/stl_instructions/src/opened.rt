@@ -1,20 +1,20 @@
-//! Reads what `OPN` opens.
+//! Reads the operand of `OPN`.
 ghost use Rattle.std.specs.Prelude.{◌≡◌, IfOk};
 ghost use Rattle.s7_base.specs.declared.word.Width.TheVariants as width;
-ghost use Rattle.stl_statements.specs.Places.{opened_area};
-ghost use Rattle.stl_statements.specs.Pointers.{memory_at};
-ghost use Rattle.stl_statements.specs.Readers.{IsWithin, or_else};
-ghost use Rattle.stl_statements.specs.Statements.{opened_at, opened_behind, opened_by_memory_at, opened_name_at, opened_number_at, opened_word, opening, opening_by};
+ghost use Rattle.stl_statement_grammar.specs.Places.{opened_area};
+ghost use Rattle.stl_statement_grammar.specs.Pointers.{memory_at};
+ghost use Rattle.stl_statement_grammar.specs.Readers.{IsWithin, or_else};
+ghost use Rattle.stl_statement_grammar.specs.Statements.{opened_at, opened_behind, opened_by_memory_at, opened_name_at, opened_number_at, opened_word, opening, opening_by};
 
 use memory_areas::AreaName;
 use s7_base::{NoMemory, Token, Width, is_same_word};
 use std::alloc::Global;
 use stl_constants::{is_quoted, is_sign, is_word_kind};
 use stl_places::{further, memory_at, name_of, numbered_at};
-use stl_statements::Read;
+use stl_statement_grammar::Read;
 use stl_tree::{RawName, RawOperand, RawPlace};
 
-/// `DB` or `DI`, by the area that is opened.
+/// The area that `DB` or `DI` opens.
 fn opened_area(letters: &[u8]) -> Option<AreaName>
     ensures { result ≡ opened_area letters.now }
 {
@@ -63,7 +63,7 @@ fn opened_word(word: &Token) -> Option<AreaName>
     }
 }
 
-/// A data block by its name, behind its word.
+/// A data block by its name, after its word.
 fn opened_behind(alloc: Global, word: &Token, rest: &[Token]) -> Result<Read<RawOperand>, NoMemory>
     ensures { IfOk result (λ read. read ≡ opened_behind (opened_word word.now) rest.now) }
 {
@@ -76,7 +76,7 @@ fn opened_behind(alloc: Global, word: &Token, rest: &[Token]) -> Result<Read<Raw
     }
 }
 
-/// A data block by its name, behind its word or alone.
+/// A data block by its name, after its word or alone.
 fn opened_name_at(alloc: Global, tokens: &[Token]) -> Result<Read<RawOperand>, NoMemory>
     ensures { IfOk result (λ read. read ≡ opened_name_at tokens.now) }
 {
@@ -101,7 +101,7 @@ fn opening_by(area: AreaName, place: RawPlace) -> RawOperand
     }
 }
 
-/// In a bracket: the word that has the number of a data block.
+/// The word in a bracket that has the number of a data block.
 fn opened_word_at(area: AreaName, tokens: &[Token]) -> Read<RawOperand>
     ensures value { result ≡ memory_at (opening_by area) width.Word tokens.now }
     ensures within { IsWithin 8 result }
@@ -135,7 +135,7 @@ fn opened_otherwise(alloc: Global, tokens: &[Token]) -> Result<Read<RawOperand>,
     }
 }
 
-/// What `OPN` opens.
+/// The operand of `OPN`.
 pub fn opened_at(alloc: Global, tokens: &[Token]) -> Result<Read<RawOperand>, NoMemory>
     ensures { IfOk result (λ read. read ≡ opened_at tokens.now) }
 {

@@ -2,16 +2,16 @@
 ghost use Rattle.std.specs.Prelude.{◌≡◌, IfOk, ◌&&◌, ◌||◌, map, option_map};
 ghost use Rattle.std.specs.List.{find};
 ghost use Rattle.s7_base.specs.Tokens.{is_same_word};
-ghost use Rattle.stl_statements.specs.Constants.{number_at};
-ghost use Rattle.stl_statements.specs.Mnemonics.{goes_on};
-ghost use Rattle.stl_statements.specs.Paths.{named_at};
-ghost use Rattle.stl_statements.specs.Pointers.{indirect_at, offset_at, pointer_at};
-ghost use Rattle.stl_statements.specs.Readers.{or_else, read_as};
-ghost use Rattle.stl_statements.specs.Statements.{any_constant_at, block_number_at, checked_at, checked_shape, first_of, has_form, is_asked, is_named, left_out_at, left_out_forms, length_at, loaded_at, located_at, nothing_at, operand_by, operand_of, or_nothing, other_at, place_operand, placed_at, pointer_alone_at, pointer_loaded_at, pointer_stored_at, second_of, shape_of, size_with, status_at, stored_at, stw_at, tests, timers_and_counters};
-ghost use Rattle.stl_statements.specs.Words.{is_spelled};
+ghost use Rattle.stl_statement_grammar.specs.Constants.{number_at};
+ghost use Rattle.stl_statement_grammar.specs.Mnemonics.{goes_on};
+ghost use Rattle.stl_statement_grammar.specs.Paths.{named_at};
+ghost use Rattle.stl_statement_grammar.specs.Pointers.{indirect_at, offset_at, pointer_at};
+ghost use Rattle.stl_statement_grammar.specs.Readers.{or_else, read_as};
+ghost use Rattle.stl_statement_grammar.specs.Statements.{any_constant_at, block_number_at, checked_at, checked_form, first_of, has_form, is_asked, is_named, left_out_at, left_out_forms, length_at, loaded_at, located_at, nothing_at, operand_by, operand_of, or_nothing, other_at, place_operand, placed_at, pointer_alone_at, pointer_loaded_at, pointer_stored_at, second_of, operand_form_of, size_with, status_at, stored_at, stw_at, tests, timers_and_counters};
+ghost use Rattle.stl_statement_grammar.specs.Words.{is_spelled};
 ghost use Rattle.stl_tree.specs.declared.raw.RawOperand.TheVariants as operand;
-ghost use Rattle.stl_instructions.specs.inner.Rows.{seen};
-ghost use Rattle.stl_instructions.specs.inner.Shapes.{IsPlainShape};
+ghost use Rattle.stl_instructions.specs.inner.Rows.{named_form_of};
+ghost use Rattle.stl_instructions.specs.inner.PlainForms.{IsPlainForm};
 
 use crate::opened::opened_at;
 use digit_texts::are_digits;
@@ -24,11 +24,11 @@ use stl_constants::{
 };
 use stl_mnemonics::goes_on;
 use stl_places::{crossing_at, indirect_at, named_at, offset_at, place_at, pointer_at};
-use stl_statements::{Mnemonic, Read, Shape};
+use stl_statement_grammar::{Mnemonic, OperandForm, Read};
 use stl_tree::{Ar, Constant, RawOperand, RawPlace, RawPointer};
 
-/// A form that is left out where a place may stand: a word with a number, or with a bracket where it may be
-/// indirect, and its kind.
+/// A form of a place that is not supported: a word with a number, or with a bracket where it may be indirect,
+/// and its kind.
 #[derive(Clone, Copy)]
 pub struct NamedForm {
     word: &'static str,
@@ -36,7 +36,7 @@ pub struct NamedForm {
     kind: Kind,
 }
 
-/// Timers, counters, and the peripheral inputs and outputs.
+/// The forms of timers, counters, and the peripheral inputs and outputs.
 static LEFT_OUT_FORMS: [NamedForm; 8] = [
     NamedForm {
         word: "T",
@@ -81,7 +81,7 @@ static LEFT_OUT_FORMS: [NamedForm; 8] = [
 ];
 
 fn is_named(form: &NamedForm, tokens: &[Token]) -> bool
-    ensures { result ≡ is_named (seen form.now) tokens.now }
+    ensures { result ≡ is_named (named_form_of form.now) tokens.now }
 {
     match tokens {
         [next, ..] => {
@@ -92,9 +92,9 @@ fn is_named(form: &NamedForm, tokens: &[Token]) -> bool
     }
 }
 
-/// A form that is left out stands at the front, in one word or in two.
+/// Whether the tokens begin with a form that is not supported, in one word or in two.
 fn has_form(form: &NamedForm, tokens: &[Token]) -> bool
-    ensures { result ≡ has_form tokens.now (seen form.now) }
+    ensures { result ≡ has_form tokens.now (named_form_of form.now) }
 {
     match tokens {
         [first, rest @ ..] => {
@@ -105,33 +105,33 @@ fn has_form(form: &NamedForm, tokens: &[Token]) -> bool
 }
 
 fn form_found(tokens: &[Token], table: &[NamedForm]) -> Option<NamedForm>
-    ensures { result ≡ find (λ f. has_form tokens.now (seen f)) table.now }
+    ensures { result ≡ find (λ f. has_form tokens.now (named_form_of f)) table.now }
 {
     table.iter().copied().find(|form| has_form(form, tokens))
 }
 
-/// The first form of a table that stands at the front.
+/// The first form of a table with which the tokens begin.
 fn first_form(tokens: &[Token], table: &[NamedForm]) -> Option<NamedForm>
-    ensures { option_map seen result ≡ find (has_form tokens.now) (map seen table.now) }
+    ensures { option_map named_form_of result ≡ find (has_form tokens.now) (map named_form_of table.now) }
 {
     form_found(tokens, table)
 }
 
 fn timers_and_counters() -> &'static [NamedForm]
-    ensures { map seen result.now ≡ timers_and_counters }
+    ensures { map named_form_of result.now ≡ timers_and_counters }
 {
     front_of(&LEFT_OUT_FORMS, 2)
 }
 
 fn left_out_forms() -> &'static [NamedForm]
-    ensures { map seen result.now ≡ left_out_forms }
+    ensures { map named_form_of result.now ≡ left_out_forms }
 {
     &LEFT_OUT_FORMS
 }
 
-/// A form of a table that is left out.
+/// A form of a table that is not supported.
 fn left_out_at(table: &[NamedForm], tokens: &[Token]) -> Read<RawPlace>
-    ensures { result ≡ left_out_at (map seen table.now) tokens.now }
+    ensures { result ≡ left_out_at (map named_form_of table.now) tokens.now }
 {
     match first_form(tokens, table) {
         Some(form) => Read::LeftOut(form.kind),
@@ -139,7 +139,7 @@ fn left_out_at(table: &[NamedForm], tokens: &[Token]) -> Read<RawPlace>
     }
 }
 
-/// What stands where a written place may stand.
+/// The operand at a place where a place of memory may be written.
 fn place_operand(tokens: &[Token]) -> Read<RawPlace>
     ensures { result ≡ place_operand tokens.now }
 {
@@ -158,7 +158,7 @@ fn named_or_indirect(alloc: Global, tokens: &[Token]) -> Result<Read<RawOperand>
     }
 }
 
-/// What stands where a written place may stand, or a name, or an area and a pointer.
+/// The operand at a place where a place of memory, a name, or an area and a pointer may be written.
 fn placed_at(alloc: Global, tokens: &[Token]) -> Result<Read<RawOperand>, NoMemory>
     ensures { IfOk result (λ read. read ≡ placed_at tokens.now) }
 {
@@ -168,7 +168,8 @@ fn placed_at(alloc: Global, tokens: &[Token]) -> Result<Read<RawOperand>, NoMemo
     }
 }
 
-/// The same, or a pointer that has its area.
+/// The operand at a place where a place of memory, a name or a pointer, with or without an area, may be
+/// written.
 fn located_at(alloc: Global, tokens: &[Token]) -> Result<Read<RawOperand>, NoMemory>
     ensures { IfOk result (λ read. read ≡ located_at tokens.now) }
 {
@@ -208,14 +209,14 @@ fn at_pointer(read: Read<RawPointer>) -> Read<RawOperand>
     }
 }
 
-/// How many tokens a mnemonic or a question to the status word takes, by its second part.
+/// How many tokens a mnemonic or a test of the status word takes, by its second part.
 pub fn size_with(second: &str) -> usize
     ensures { result ≡ size_with second.now }
 {
     if second.is_empty() { 1 } else { 2 }
 }
 
-/// The questions to the status word.
+/// The tests of the status word.
 static TESTS: [Test; 10] = [
     Test::Eq,
     Test::Ne,
@@ -229,7 +230,7 @@ static TESTS: [Test; 10] = [
     Test::Br,
 ];
 
-/// The word or the sign with which a question is written.
+/// The word or the sign with which a test begins.
 fn first_of(test: Test) -> &'static str
     ensures { result.now ≡ first_of test }
 {
@@ -247,7 +248,7 @@ fn first_of(test: Test) -> &'static str
     }
 }
 
-/// What is written behind a sign.
+/// The second part of a test as it is written: `0` after a comparison, else empty.
 fn second_of(test: Test) -> &'static str
     ensures { result.now ≡ second_of test }
 {
@@ -257,7 +258,7 @@ fn second_of(test: Test) -> &'static str
     }
 }
 
-/// The first question of a table that stands at the front.
+/// The first test of a table with which the tokens begin.
 fn first_asked(tokens: &[Token], table: &[Test]) -> Option<Test>
     ensures { result ≡ find (λ test. is_asked tokens.now test) table.now }
 {
@@ -267,7 +268,7 @@ fn first_asked(tokens: &[Token], table: &[Test]) -> Option<Test>
     }
 }
 
-/// The first question of a table whose first part is this token and whose second part stands behind it.
+/// The first test of a table whose first part is this token and whose second part follows it.
 fn test_at(first: &Token, rest: &[Token], table: &[Test]) -> Option<Test>
     ensures { result ≡ find (λ test. is_spelled (first_of test) first.now && goes_on (second_of test) rest.now) table.now }
 {
@@ -278,7 +279,8 @@ fn test_at(first: &Token, rest: &[Token], table: &[Test]) -> Option<Test>
     }
 }
 
-/// The same by the text of the first token, which is taken out once for all questions.
+/// The first test of a table whose first part has this text and whose second part follows it. The text is
+/// taken from its token once for all tests.
 fn test_spelled(text: &[u8], rest: &[Token], table: &[Test]) -> Option<Test>
     ensures { result ≡ find (λ test. is_same_word text.now (first_of test) && goes_on (second_of test) rest.now) table.now }
 {
@@ -286,23 +288,23 @@ fn test_spelled(text: &[u8], rest: &[Token], table: &[Test]) -> Option<Test>
         && goes_on(second_of(*test), rest))
 }
 
-fn asked(tokens: &[Token]) -> Option<Test>
+fn asked_test(tokens: &[Token]) -> Option<Test>
     ensures { result ≡ find (is_asked tokens.now) tests }
 {
     first_asked(tokens, &TESTS)
 }
 
-/// What stands where a question to the status word may stand.
+/// The operand at a place where a test of the status word may be written.
 fn status_at(tokens: &[Token]) -> Read<RawOperand>
     ensures { result ≡ status_at tokens.now }
 {
-    match asked(tokens) {
+    match asked_test(tokens) {
         Some(test) => Read::Fits(RawOperand::Flag(test), size_with(second_of(test))),
         None => Read::No,
     }
 }
 
-/// The status word.
+/// The status word as an operand.
 fn stw_at(tokens: &[Token]) -> Read<RawOperand>
     ensures { result ≡ stw_at tokens.now }
 {
@@ -312,7 +314,7 @@ fn stw_at(tokens: &[Token]) -> Read<RawOperand>
     }
 }
 
-/// The number of the data block that is open, or of that of the instance.
+/// The number of the open data block or of the open instance as an operand.
 fn block_number_at(tokens: &[Token]) -> Read<RawOperand>
     ensures { result ≡ block_number_at tokens.now }
 {
@@ -323,7 +325,7 @@ fn block_number_at(tokens: &[Token]) -> Read<RawOperand>
     }
 }
 
-/// The length of a data block, which is left out.
+/// The length of a data block as an operand, which is not supported.
 fn length_at(tokens: &[Token]) -> Read<RawOperand>
     ensures { result ≡ length_at tokens.now }
 {
@@ -344,7 +346,7 @@ fn nothing_at(tokens: &[Token]) -> Read<RawOperand>
     }
 }
 
-/// A place or a name, or a question to the status word.
+/// The operand of a check: a place, a name, or a test of the status word.
 fn checked_at(alloc: Global, tokens: &[Token]) -> Result<Read<RawOperand>, NoMemory>
     ensures { IfOk result (λ read. read ≡ checked_at tokens.now) }
 {
@@ -354,7 +356,7 @@ fn checked_at(alloc: Global, tokens: &[Token]) -> Result<Read<RawOperand>, NoMem
     }
 }
 
-/// What `T` stores in.
+/// The operand of `T`.
 fn stored_at(alloc: Global, tokens: &[Token]) -> Result<Read<RawOperand>, NoMemory>
     ensures { IfOk result (λ read. read ≡ stored_at tokens.now) }
 {
@@ -373,7 +375,7 @@ fn located_or_length(alloc: Global, tokens: &[Token]) -> Result<Read<RawOperand>
     }
 }
 
-/// What `L` loads by a word of its own: the status word, or the number of an open data block.
+/// The operand of `L` that is a word of its own: the status word, or the number of an open data block.
 fn register_at(tokens: &[Token]) -> Read<RawOperand>
     ensures { result ≡ or_else (stw_at tokens.now) (block_number_at tokens.now) }
 {
@@ -383,7 +385,7 @@ fn register_at(tokens: &[Token]) -> Read<RawOperand>
     }
 }
 
-/// A constant, that of a pointer among them.
+/// A constant as an operand, also that of a pointer.
 fn any_constant_at(tokens: &[Token]) -> Read<RawOperand>
     ensures { result ≡ any_constant_at tokens.now }
 {
@@ -403,7 +405,7 @@ fn constant_or_located(alloc: Global, tokens: &[Token]) -> Result<Read<RawOperan
     }
 }
 
-/// What `L` loads.
+/// The operand of `L`.
 fn loaded_at(alloc: Global, tokens: &[Token]) -> Result<Read<RawOperand>, NoMemory>
     ensures { IfOk result (λ read. read ≡ loaded_at tokens.now) }
 {
@@ -413,7 +415,7 @@ fn loaded_at(alloc: Global, tokens: &[Token]) -> Result<Read<RawOperand>, NoMemo
     }
 }
 
-/// A pointer where no other constant may stand; those that are left out are named all the same.
+/// A pointer where no other constant may be written; constants that are not supported are named too.
 fn pointer_alone_at(tokens: &[Token]) -> Read<RawOperand>
     ensures { result ≡ pointer_alone_at pointer_at tokens.now }
 {
@@ -423,7 +425,7 @@ fn pointer_alone_at(tokens: &[Token]) -> Read<RawOperand>
     }
 }
 
-/// The same of an offset.
+/// An offset where no other constant may be written; constants that are not supported are named too.
 fn offset_alone_at(tokens: &[Token]) -> Read<RawOperand>
     ensures { result ≡ pointer_alone_at offset_at tokens.now }
 {
@@ -433,7 +435,7 @@ fn offset_alone_at(tokens: &[Token]) -> Read<RawOperand>
     }
 }
 
-/// The other address register, which stands behind `LAR1` and `TAR1` alone.
+/// AR2 as the operand of `LAR1` and `TAR1`, which alone take it.
 fn other_at(register: Ar, tokens: &[Token]) -> Read<RawOperand>
     ensures { result ≡ other_at register tokens.now }
 {
@@ -452,7 +454,7 @@ fn pointer_or_placed(alloc: Global, tokens: &[Token]) -> Result<Read<RawOperand>
     }
 }
 
-/// What `LAR1` and `LAR2` load.
+/// The operand of `LAR1` and `LAR2`.
 fn pointer_loaded_at(
     alloc: Global,
     register: Ar,
@@ -466,7 +468,7 @@ fn pointer_loaded_at(
     }
 }
 
-/// Where `TAR1` and `TAR2` store.
+/// The operand of `TAR1` and `TAR2`.
 fn pointer_stored_at(
     alloc: Global,
     register: Ar,
@@ -542,64 +544,68 @@ fn pointer_stored_or_nothing(
     }
 }
 
-/// What stands where an operand may stand that is neither a place nor a name.
-fn plain_operand(shape: Shape, tokens: &[Token]) -> Read<RawOperand>
-    requires { IsPlainShape shape }
+/// An operand of a form that is neither a place nor a name.
+fn plain_operand(shape: OperandForm, tokens: &[Token]) -> Read<RawOperand>
+    requires { IsPlainForm shape }
     ensures { result ≡ operand_by shape tokens.now }
 {
     match shape {
-        Shape::Nothing => nothing_at(tokens),
-        Shape::Number(most) => at_constant(number_at(most, tokens)),
-        Shape::NumberOrNothing(most) => number_or_nothing(most, tokens),
-        Shape::Addend => at_constant(addend_at(tokens)),
-        Shape::ConstantOrNothing => constant_or_nothing(tokens),
-        Shape::OffsetOrNothing => offset_or_nothing(tokens),
-        Shape::TimerOrCounter => at_place(left_out_at(timers_and_counters(), tokens)),
-        Shape::LeftOut(kind) => Read::LeftOut(kind),
+        OperandForm::Nothing => nothing_at(tokens),
+        OperandForm::Number(most) => at_constant(number_at(most, tokens)),
+        OperandForm::NumberOrNothing(most) => number_or_nothing(most, tokens),
+        OperandForm::Addend => at_constant(addend_at(tokens)),
+        OperandForm::ConstantOrNothing => constant_or_nothing(tokens),
+        OperandForm::OffsetOrNothing => offset_or_nothing(tokens),
+        OperandForm::TimerOrCounter => at_place(left_out_at(timers_and_counters(), tokens)),
+        OperandForm::LeftOut(kind) => Read::LeftOut(kind),
         _ => Read::No,
     }
 }
 
-/// What stands where an operand of the shape may stand.
-fn operand_by(alloc: Global, shape: Shape, tokens: &[Token]) -> Result<Read<RawOperand>, NoMemory>
+/// An operand of a form.
+fn operand_by(
+    alloc: Global,
+    shape: OperandForm,
+    tokens: &[Token],
+) -> Result<Read<RawOperand>, NoMemory>
     ensures { IfOk result (λ read. read ≡ operand_by shape tokens.now) }
 {
     match shape {
-        Shape::Bit => located_at(alloc, tokens),
-        Shape::Checked => checked_at(alloc, tokens),
-        Shape::CheckedOrNothing => checked_or_nothing(alloc, tokens),
-        Shape::Loaded => loaded_at(alloc, tokens),
-        Shape::Stored => stored_at(alloc, tokens),
-        Shape::PointerLoaded(register) => pointer_loaded_or_nothing(alloc, register, tokens),
-        Shape::PointerStored(register) => pointer_stored_or_nothing(alloc, register, tokens),
-        Shape::Opened => opened_at(alloc, tokens),
-        Shape::Nothing
-        | Shape::Number(_)
-        | Shape::NumberOrNothing(_)
-        | Shape::Addend
-        | Shape::ConstantOrNothing
-        | Shape::OffsetOrNothing
-        | Shape::TimerOrCounter
-        | Shape::Later
-        | Shape::LeftOut(_) => Ok(plain_operand(shape, tokens)),
+        OperandForm::Bit => located_at(alloc, tokens),
+        OperandForm::Checked => checked_at(alloc, tokens),
+        OperandForm::CheckedOrNothing => checked_or_nothing(alloc, tokens),
+        OperandForm::Loaded => loaded_at(alloc, tokens),
+        OperandForm::Stored => stored_at(alloc, tokens),
+        OperandForm::PointerLoaded(register) => pointer_loaded_or_nothing(alloc, register, tokens),
+        OperandForm::PointerStored(register) => pointer_stored_or_nothing(alloc, register, tokens),
+        OperandForm::Opened => opened_at(alloc, tokens),
+        OperandForm::Nothing
+        | OperandForm::Number(_)
+        | OperandForm::NumberOrNothing(_)
+        | OperandForm::Addend
+        | OperandForm::ConstantOrNothing
+        | OperandForm::OffsetOrNothing
+        | OperandForm::TimerOrCounter
+        | OperandForm::Later
+        | OperandForm::LeftOut(_) => Ok(plain_operand(shape, tokens)),
     }
 }
 
-fn checked_shape(check: Check) -> Shape
-    ensures { result ≡ checked_shape check }
+fn checked_form(check: Check) -> OperandForm
+    ensures { result ≡ checked_form check }
 {
     match check {
-        Check::O => Shape::CheckedOrNothing,
-        Check::A | Check::An | Check::On | Check::X | Check::Xn => Shape::Checked,
+        Check::O => OperandForm::CheckedOrNothing,
+        Check::A | Check::An | Check::On | Check::X | Check::Xn => OperandForm::Checked,
     }
 }
 
-/// The shape of a mnemonic's operand.
-fn shape_of(what: Mnemonic) -> Shape
-    ensures { result ≡ shape_of what }
+/// The form of a mnemonic's operand.
+fn operand_form_of(what: Mnemonic) -> OperandForm
+    ensures { result ≡ operand_form_of what }
 {
     match what {
-        Mnemonic::Check(check) => checked_shape(check),
+        Mnemonic::Check(check) => checked_form(check),
         Mnemonic::Bracket(_)
         | Mnemonic::Close
         | Mnemonic::SetRlo
@@ -615,25 +621,25 @@ fn shape_of(what: Mnemonic) -> Shape
         | Mnemonic::ExchangeDb
         | Mnemonic::Push
         | Mnemonic::Pop
-        | Mnemonic::ExchangeAr => Shape::Nothing,
+        | Mnemonic::ExchangeAr => OperandForm::Nothing,
         Mnemonic::Assign
         | Mnemonic::Set
         | Mnemonic::Reset
         | Mnemonic::EdgeUp
-        | Mnemonic::EdgeDown => Shape::Bit,
-        Mnemonic::Load => Shape::Loaded,
-        Mnemonic::Transfer => Shape::Stored,
-        Mnemonic::Plus => Shape::Addend,
-        Mnemonic::Inc | Mnemonic::Dec | Mnemonic::Nop => Shape::Number(255),
-        Mnemonic::Shift(row) => Shape::NumberOrNothing(row.most_steps()),
-        Mnemonic::Logic(_) => Shape::ConstantOrNothing,
-        Mnemonic::LoadAr(register) => Shape::PointerLoaded(register),
-        Mnemonic::StoreAr(register) => Shape::PointerStored(register),
-        Mnemonic::AddAr(_) => Shape::OffsetOrNothing,
-        Mnemonic::Open => Shape::Opened,
-        Mnemonic::TimerOrCounter => Shape::TimerOrCounter,
-        Mnemonic::Later => Shape::Later,
-        Mnemonic::LeftOut(kind) => Shape::LeftOut(kind),
+        | Mnemonic::EdgeDown => OperandForm::Bit,
+        Mnemonic::Load => OperandForm::Loaded,
+        Mnemonic::Transfer => OperandForm::Stored,
+        Mnemonic::Plus => OperandForm::Addend,
+        Mnemonic::Inc | Mnemonic::Dec | Mnemonic::Nop => OperandForm::Number(255),
+        Mnemonic::Shift(row) => OperandForm::NumberOrNothing(row.most_steps()),
+        Mnemonic::Logic(_) => OperandForm::ConstantOrNothing,
+        Mnemonic::LoadAr(register) => OperandForm::PointerLoaded(register),
+        Mnemonic::StoreAr(register) => OperandForm::PointerStored(register),
+        Mnemonic::AddAr(_) => OperandForm::OffsetOrNothing,
+        Mnemonic::Open => OperandForm::Opened,
+        Mnemonic::TimerOrCounter => OperandForm::TimerOrCounter,
+        Mnemonic::Later => OperandForm::Later,
+        Mnemonic::LeftOut(kind) => OperandForm::LeftOut(kind),
     }
 }
 
@@ -645,5 +651,5 @@ pub fn operand_of(
 ) -> Result<Read<RawOperand>, NoMemory>
     ensures { IfOk result (λ read. read ≡ operand_of what tokens.now) }
 {
-    operand_by(alloc, shape_of(what), tokens)
+    operand_by(alloc, operand_form_of(what), tokens)
 }

@@ -1,8 +1,8 @@
 //! Reads one statement.
 ghost use Rattle.std.specs.Prelude.{◌≡◌, IfOk, length};
 ghost use Rattle.s7_base.specs.Answers.{Answers};
-ghost use Rattle.stl_statements.specs.Statements.{answered, is_label, begins_with_label, name_of, instr_with, with_operand, with_mnemonic, statement, instruction_of};
-ghost use Rattle.stl_statements.specs.Mnemonics.{mnemonic_at};
+ghost use Rattle.stl_statement_grammar.specs.Statements.{refusal_kind, is_label, begins_with_label, name_of, instr_with, with_operand, with_mnemonic, statement, instruction_of};
+ghost use Rattle.stl_statement_grammar.specs.Mnemonics.{mnemonic_at};
 ghost use Rattle.stl_instructions.specs.inner.Answers.{Says};
 ghost use Rattle.stl_mnemonics.specs.Rows.{view};
 
@@ -11,12 +11,12 @@ use s7_base::{Kind, Line, NoMemory, Reason, Rejection, SmallText, Token, rest_af
 use std::alloc::Global;
 use stl_constants::{is_sign, is_word_kind};
 use stl_mnemonics::{Row, mnemonic_at};
-use stl_statements::Read;
+use stl_statement_grammar::Read;
 use stl_tree::{RawInstr, RawOp, RawOperand};
 
-/// The kind by which a form that is left out is refused; those of calls and declarations are not built yet.
-fn answered(kind: Kind) -> Kind
-    ensures { result ≡ answered kind }
+/// The kind by which an unsupported form is refused; those of calls and declarations are not built yet.
+fn refusal_kind(kind: Kind) -> Kind
+    ensures { result ≡ refusal_kind kind }
 {
     match kind {
         Kind::Timer
@@ -32,7 +32,7 @@ fn answered(kind: Kind) -> Kind
     }
 }
 
-/// One to four letters, digits or `_`, the first of them no digit.
+/// Whether a word is one to four letters, digits or `_`, the first of them no digit.
 fn is_label(word: &[u8]) -> bool
     ensures { result ≡ is_label word.now }
 {
@@ -42,7 +42,7 @@ fn is_label(word: &[u8]) -> bool
     }
 }
 
-/// A label and its colon stand at the front.
+/// Whether the tokens begin with a label and its colon.
 pub fn begins_with_label(tokens: &[Token]) -> bool
     ensures { result ≡ begins_with_label tokens.now }
 {
@@ -66,28 +66,28 @@ fn name_of(alloc: Global, row: Row) -> Result<SmallText, NoMemory>
     SmallText::new(alloc, name.as_slice())
 }
 
-/// A mnemonic with what was read of the tokens behind it, of which the operand takes all.
+/// A mnemonic with the operand that was read, which must take all tokens after the mnemonic.
 fn with_operand(row: Row, size: usize, read: Read<RawOperand>) -> Result<(Row, RawOperand), Reason>
     ensures { Says result (with_operand (name_of (view row)) size read) }
 {
     match read {
         Read::Fits(operand, taken) if taken == size => Ok((row, operand)),
-        Read::LeftOut(kind) => Err(Reason::Unsupported(answered(kind))),
+        Read::LeftOut(kind) => Err(Reason::Unsupported(refusal_kind(kind))),
         _ => Err(Reason::Unsupported(Kind::NotBuilt)),
     }
 }
 
-/// What the tokens of a statement say.
+/// The mnemonic and the operand of a statement, or the rule that its tokens break.
 fn statement(alloc: Global, tokens: &[Token]) -> Result<Result<(Row, RawOperand), Reason>, NoMemory>
     ensures { IfOk result (λ said. Says said (statement tokens.now)) }
 {
     if begins_with_label(tokens) {
         return Ok(Err(Reason::Unsupported(Kind::NotBuilt)));
     }
-    unlabelled(alloc, tokens)
+    unlabelled_statement(alloc, tokens)
 }
 
-fn unlabelled(
+fn unlabelled_statement(
     alloc: Global,
     tokens: &[Token],
 ) -> Result<Result<(Row, RawOperand), Reason>, NoMemory>
@@ -115,7 +115,7 @@ fn on_line(alloc: Global, line: Line, row: Row, operand: RawOperand) -> Result<R
 }
 
 /// The instruction that the tokens of one statement are, without its `;`.
-#[tactic(auto, unfolding(stl_statements::specs::Statements::instruction_of))]
+#[tactic(auto, unfolding(stl_statement_grammar::specs::Statements::instruction_of))]
 pub fn instruction(alloc: Global, tokens: &[Token]) -> Result<RawInstr, Rejection>
     ensures { Answers result (instruction_of tokens.now) }
 {

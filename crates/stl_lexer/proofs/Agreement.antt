@@ -28,7 +28,8 @@ front_piece piece front rest line before a =
     let last : get_or whole (length front - 1) 0 ≡ last_of before front = last_append before front rest (length front - 1) (omega arith) in
     next_piece whole a.found (length front) line before a.at a.size some (omega (arith, length-append front rest))
     ∙ ap (λ (b : ℕ). prepend_tokens (token_of a.found whole line before) (tokens_from 0 (line_behind a.found line) b (drop (length front) whole))) last
-    ∙ ap (λ (bs : List ℕ). prepend_tokens (token_of a.found whole line before) (tokens_from 0 (line_behind a.found line) (last_of before front) bs)) (drop-append_seam front rest)
+    ∙ ap (λ (bs : List ℕ). prepend_tokens (token_of a.found whole line before) (tokens_from 0 (line_behind a.found line) (last_of before front) bs))
+    (drop-append_seam front rest)
     ∙ ap (λ (ts : List Token). prepend_tokens ts (tokens_from 0 (line_behind a.found line) (last_of before front) rest)) (a.tokens line before)
     ∙ ap (λ (n : ℕ). prepend_tokens (tokens_in piece line before) (tokens_from 0 n (last_of before front) rest)) (a.line line)
 
@@ -47,9 +48,11 @@ none_stands b rest none = record {
   none = λ piece front more whole is. let a = agrees is in let clash : Some a.found ≡ None = sym a.at ∙ ap piece_at (sym whole) ∙ none in absurd cc;
 }
 
-at_no_piece : (line before b : ℕ) (rest : List ℕ) → piece_at (b ∷ rest) ≡ None → tokens_from 0 line before (b ∷ rest) ≡ Err (Refused (record { 0 = line }) BadToken)
+at_no_piece : (line before b : ℕ) (rest : List ℕ) → piece_at (b ∷ rest) ≡ None
+    → tokens_from 0 line before (b ∷ rest) ≡ Err (Refused (record { 0 = line }) BadToken)
 at_no_piece line before b rest none =
-    ap (λ (o : Option Found). with_piece o line (λ p. prepend_tokens (token_of p (b ∷ rest) line before) (tokens_from (piece_size p - 1) (line_behind p line) b rest))) none
+    ap (λ (o : Option Found). with_piece o line
+    (λ p. prepend_tokens (token_of p (b ∷ rest) line before) (tokens_from (piece_size p - 1) (line_behind p line) b rest))) none
 
 stops : (line before : ℕ) (rest : List ℕ) → NoPiece rest → tokens_from 0 line before rest ≡ Err (Refused (record { 0 = line }) BadToken)
 stops line before [] none = absurd (omega (arith, none.some))
@@ -57,8 +60,9 @@ stops line before (b ∷ rest) none = at_no_piece line before b rest (none_found
 
 -- From the cut to the tokens
 
-cut_tokens : {line before end : ℕ} {bytes rest : List ℕ} {tokens : List Token} → Cuts line before bytes tokens end rest → (after : ℕ → Result (List Token) Rejection) →
-    ((b : ℕ) → tokens_from 0 end b rest ≡ after b) → (last : ℕ) × (tokens_from 0 line before bytes ≡ prepend_tokens tokens (after last))
+cut_tokens : {line before end : ℕ} {bytes rest : List ℕ} {tokens : List Token}
+    → Cuts line before bytes tokens end rest → (after : ℕ → Result (List Token) Rejection)
+    → ((b : ℕ) → tokens_from 0 end b rest ≡ after b) → (last : ℕ) × (tokens_from 0 line before bytes ≡ prepend_tokens tokens (after last))
 cut_tokens (here {line = line} {before = before} {rest = rest}) after e = (before, e before ∙ sym (prepend_none (after before)))
 cut_tokens (next piece front {line = line} {before = before} {more = more} {tokens = tokens} is cuts) after e =
     let behind = cut_tokens cuts after e in (
@@ -100,7 +104,8 @@ record Cut (line before : ℕ) (bytes : List ℕ) : Type 0 where
 abbrev IsCut : ℕ → Type 0
 IsCut n = (line before : ℕ) (bytes : List ℕ) → length bytes ≤ n → Cut line before bytes
 
-cut_at : (n : ℕ) → IsCut n → (line before b : ℕ) (rest : List ℕ) (o : Option Found) → length rest ≤ n → piece_at (b ∷ rest) ≡ o → IfSome o (λ found. Reads (b ∷ rest)) → Cut line before (b ∷ rest)
+cut_at : (n : ℕ) → IsCut n → (line before b : ℕ) (rest : List ℕ) (o : Option Found) → length rest ≤ n
+    → piece_at (b ∷ rest) ≡ o → IfSome o (λ found. Reads (b ∷ rest)) → Cut line before (b ∷ rest)
 cut_at n cut line before b rest None h found r =
     record { tokens = []; end = line; rest = b ∷ rest; cut = here; over = stopped (none_stands b rest found) }
 cut_at n cut line before b rest (Some piece) h found r =
@@ -143,7 +148,8 @@ sound bytes tokens e = at (judged bytes)
     at (good found line cut is) = let same : found ≡ tokens = cc in let P : List Token → Type 0 = λ ts. Cuts 1 10 bytes ts line [] in (line, subst P same cut)
     at (wrong line b is) = absurd cc
 
-refused : (bytes : List ℕ) (answer : Rejection) → tokens_of bytes ≡ Err answer → (line : ℕ) × (answer ≡ Refused (record { 0 = line }) BadToken) × BadAt bytes line
+refused : (bytes : List ℕ) (answer : Rejection) → tokens_of bytes ≡ Err answer
+    → (line : ℕ) × (answer ≡ Refused (record { 0 = line }) BadToken) × BadAt bytes line
 refused bytes answer e = at (judged bytes)
   where
     at : Judged bytes → (line : ℕ) × (answer ≡ Refused (record { 0 = line }) BadToken) × BadAt bytes line

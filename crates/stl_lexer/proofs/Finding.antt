@@ -103,9 +103,12 @@ first_is a b rest o same h = let P : ℕ → Type 0 = λ x. HasForm (x ∷ rest)
 
 mark_reads : (a : ℕ) (rest : List ℕ) → HasForm (a ∷ rest) (mark_piece a rest)
 mark_reads a rest =
-    choose (a ∷ rest) (a == 34) _ _ (λ h. first_is a 34 rest _ h (closing 34 34 rest (λ t. token Quoted t) (found_token Quoted) (λ t more e. quoted_name t e) _ (closed 34 rest)))
-    (λ h. choose (a ∷ rest) (a == 39) _ _ (λ h. first_is a 39 rest _ h (closing 39 39 rest (λ t. token Text t) (found_token Text) (λ t more e. quoted_text t e) _ (closed 39 rest)))
-    (λ h. choose (a ∷ rest) (a == 123) _ _ (λ h. first_is a 123 rest _ h (closing 123 125 rest (λ t. passed) gap (λ t more e. attribute t e) _ (closed 125 rest)))
+    choose (a ∷ rest) (a == 34) _ _
+    (λ h. first_is a 34 rest _ h (closing 34 34 rest (λ t. token Quoted t) (found_token Quoted) (λ t more e. quoted_name t e) _ (closed 34 rest)))
+    (λ h. choose (a ∷ rest) (a == 39) _ _
+    (λ h. first_is a 39 rest _ h (closing 39 39 rest (λ t. token Text t) (found_token Text) (λ t more e. quoted_text t e) _ (closed 39 rest)))
+    (λ h. choose (a ∷ rest) (a == 123) _ _
+    (λ h. first_is a 123 rest _ h (closing 123 125 rest (λ t. passed) gap (λ t more e. attribute t e) _ (closed 125 rest)))
     (λ h. comment_or_sign_reads a rest)))
 
 -- a longest run is a word, or the word of a title
@@ -131,7 +134,8 @@ run_reads bytes front rest false whole run h =
 word_reads : (bytes : List ℕ) → 0 < prefix_len is_word_byte bytes → Reads bytes
 word_reads bytes some =
     let size = prefix_len is_word_byte bytes in
-    let run : IsRun (take size bytes) (drop size bytes) = record { some = some_of bytes some; each = run_each is_word_byte bytes; longest = run_stops is_word_byte bytes } in
+    let run : IsRun (take size bytes) (drop size bytes) =
+    record { some = some_of bytes some; each = run_each is_word_byte bytes; longest = run_stops is_word_byte bytes } in
     run_reads bytes (take size bytes) (drop size bytes) _ (take-append-drop size bytes) run refl
   where
     some_of : (bytes : List ℕ) → 0 < prefix_len is_word_byte bytes → 0 < length (take (prefix_len is_word_byte bytes) bytes)
@@ -153,6 +157,7 @@ reads [] = tt
 reads (first ∷ rest) =
     choose (first ∷ rest) (first == 10) (Some found_line_end) _
     (λ h. first_is first 10 rest (Some found_line_end) h (record { piece = line_end; front = 10 ∷ []; rest = rest; whole = refl; is = end_of_line }))
-    (λ h. choose (first ∷ rest) (is_blank first) (Some (gap 1)) _ (λ h. record { piece = passed; front = first ∷ []; rest = rest; whole = refl; is = blank first h })
+    (λ h. choose (first ∷ rest) (is_blank first) (Some (gap 1)) _
+    (λ h. record { piece = passed; front = first ∷ []; rest = rest; whole = refl; is = blank first h })
     (λ h. choose (first ∷ rest) (is_word_byte first) (Some (word_piece (first ∷ rest))) _ (λ h. word_reads (first ∷ rest) (word_some first rest h))
     (λ h. mark_reads first rest)))

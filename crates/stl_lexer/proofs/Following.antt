@@ -19,7 +19,9 @@ pub at_bad_token : (tokens : List Token) (line before : ℕ) (rest : List ℕ) (
     → whole ≡ Err (Refused (record { 0 = line }) BadToken)
 at_bad_token tokens line before [] whole some none e = absurd (omega arith)
 at_bad_token tokens line before (b ∷ rest) whole some none e =
-    sym e ∙ ap (λ (o : Option Piece). prepend_tokens tokens (with_piece o line (λ p. prepend_tokens (token_of p (b ∷ rest) line before) (tokens_from (piece_size p - 1) (line_behind p line) b rest)))) none
+    sym e
+    ∙ ap (λ (o : Option Piece). prepend_tokens tokens
+    (with_piece o line (λ p. prepend_tokens (token_of p (b ∷ rest) line before) (tokens_from (piece_size p - 1) (line_behind p line) b rest)))) none
 
 -- one turn of the loop
 pub after_piece : (tokens more : List Token) (piece : Piece) (bytes : List ℕ) (line before : ℕ) (whole : Result (List Token) Rejection) →
@@ -27,7 +29,9 @@ pub after_piece : (tokens more : List Token) (piece : Piece) (bytes : List ℕ) 
     → prepend_tokens tokens (tokens_from 0 line before bytes) ≡ whole → more ≡ tokens ++ token_of piece bytes line before
     → prepend_tokens more (tokens_from 0 (line_behind piece line) (get_or bytes (piece_size piece - 1) 0) (drop (piece_size piece) bytes)) ≡ whole
 after_piece tokens more piece bytes line before whole found one within e put =
-    ap (λ (xs : List Token). prepend_tokens xs (tokens_from 0 (line_behind piece line) (get_or bytes (piece_size piece - 1) 0) (drop (piece_size piece) bytes))) put
-    ∙ sym (prepend-prepend tokens (token_of piece bytes line before) (tokens_from 0 (line_behind piece line) (get_or bytes (piece_size piece - 1) 0) (drop (piece_size piece) bytes)))
+    ap (λ (xs : List Token). prepend_tokens xs (tokens_from 0 (line_behind piece line) (get_or bytes (piece_size piece - 1) 0) (drop (piece_size piece) bytes)))
+    put
+    ∙ sym (prepend-prepend tokens (token_of piece bytes line before)
+    (tokens_from 0 (line_behind piece line) (get_or bytes (piece_size piece - 1) 0) (drop (piece_size piece) bytes)))
     ∙ ap (λ (r : Result (List Token) Rejection). prepend_tokens tokens r) (sym (next_piece bytes piece (piece_size piece) line before found refl one within))
     ∙ e

@@ -17,7 +17,8 @@ run_size : (test : ℕ → Bool) (bytes rest : List ℕ) → Each test bytes →
 run_size test [] [] h s = refl
 run_size test [] (b ∷ rest) h s = ap (λ (c : Bool). cond c (1 + prefix_len test rest) 0) s
 run_size test (b ∷ bytes) rest h s =
-    let e : prefix_len test ((b ∷ bytes) ++ rest) ≡ 1 + prefix_len test (bytes ++ rest) = ap (λ (c : Bool). cond c (1 + prefix_len test (bytes ++ rest)) 0) h.0 in
+    let e : prefix_len test ((b ∷ bytes) ++ rest) ≡ 1 + prefix_len test (bytes ++ rest) =
+    ap (λ (c : Bool). cond c (1 + prefix_len test (bytes ++ rest)) 0) h.0 in
     let more : prefix_len test (bytes ++ rest) ≡ length bytes = run_size test bytes rest h.1 s in
     omega arith
 
@@ -59,7 +60,8 @@ is_mark a = not (a == 10) && (not (is_blank a) && (not (is_word_byte a) && (not 
 
 all_found : (good : ℕ → Bool) (xs : List ℕ) (a : ℕ) → list_all good xs ≡ true → list_any (λ s. s == a) xs ≡ true → good a ≡ true
 all_found good [] a h f = absurd cc
-all_found good (x ∷ xs) a h f = at_found good x xs a (x == a) refl (and_parts (good x) (list_all good xs) h).0 (λ g. all_found good xs a (and_parts (good x) (list_all good xs) h).1 g) f
+all_found good (x ∷ xs) a h f =
+    at_found good x xs a (x == a) refl (and_parts (good x) (list_all good xs) h).0 (λ g. all_found good xs a (and_parts (good x) (list_all good xs) h).1 g) f
   where
     at_found : (good : ℕ → Bool) (x : ℕ) (xs : List ℕ) (a : ℕ) (t : Bool) → (x == a) ≡ t → good x ≡ true → (list_any (λ s. s == a) xs ≡ true → good a ≡ true)
         → (t || list_any (λ s. s == a) xs) ≡ true → good a ≡ true
@@ -122,12 +124,15 @@ run_found : (word rest : List ℕ) → IsRun word rest → piece_at (word ++ res
 run_found word rest h =
     let bytes = word ++ rest in
     let by_size = λ (n : ℕ).
-    if str_eq_ignore_ascii_case (take n bytes) (codes "TITLE") && begins_with 61 (after_blanks (drop n bytes)) then gap (n + line_size (drop n bytes)) else found_token Word n in
+    if str_eq_ignore_ascii_case (take n bytes) (codes "TITLE") && begins_with 61 (after_blanks (drop n bytes)) then gap (n + line_size (drop n bytes))
+    else found_token Word n in
     let by_front = λ (front : List ℕ). if str_eq_ignore_ascii_case front (codes "TITLE") && begins_with 61 (after_blanks (drop (length word) bytes))
     then gap (length word + line_size (drop (length word) bytes))
     else found_token Word (length word) in
     words_found word rest h
-    ∙ ap (λ (p : Found). Some p) (ap by_size (run_size is_word_byte word rest h.each h.longest) ∙ ap by_front (take-append_seam word rest) ∙ ap (run_piece word) (drop-append_seam word rest))
+    ∙ ap (λ (p : Found). Some p)
+    (ap by_size (run_size is_word_byte word rest h.each h.longest)
+    ∙ ap by_front (take-append_seam word rest) ∙ ap (run_piece word) (drop-append_seam word rest))
 
 equals_found : (blanks more : List ℕ) → Each is_blank blanks → begins_with 61 (after_blanks (blanks ++ (61 ∷ more))) ≡ true
 equals_found blanks more h =
@@ -209,7 +214,8 @@ attribute_agrees inside rest h = record {
   line = λ l. refl;
 }
 
-title_agrees : (word inside rest : List ℕ) → IsRun word (inside ++ rest) → MakesTitle word (inside ++ rest) → IsLineRest inside rest → Agrees passed (word ++ inside) rest
+title_agrees : (word inside rest : List ℕ) → IsRun word (inside ++ rest)
+    → MakesTitle word (inside ++ rest) → IsLineRest inside rest → Agrees passed (word ++ inside) rest
 title_agrees word inside rest run makes h =
     let size : line_size (inside ++ rest) ≡ length inside = run_size is_in_line inside rest h.each h.whole in
     let both : length (word ++ inside) ≡ length word + length inside = length-append word inside in

@@ -14,7 +14,7 @@ abbrev pub Each : (ℕ → Bool) → List ℕ → Type 0
 Each test [] = Unit {0}
 Each test (b ∷ bytes) = (test b ≡ true) × Each test bytes
 
--- no byte that passes the test stands at the front
+-- the text does not begin with a byte that passes the test
 abbrev pub Stops : (ℕ → Bool) → List ℕ → Type 0
 Stops test [] = Unit {0}
 Stops test (b ∷ bytes) = test b ≡ false
@@ -38,7 +38,7 @@ pub record IsLineRest (bytes rest : List ℕ) : Type 0 where
   pub each : Each is_in_line bytes
   pub whole : Stops is_in_line rest
 
--- what stands after a word makes a title of it: TITLE, and an equals sign behind blanks
+-- a word before this rest makes a title: it is TITLE, and an equals sign follows, with or without blanks before it
 pub record MakesTitle (word rest : List ℕ) : Type 0 where
   pub blanks : List ℕ
   pub more : List ℕ
@@ -46,18 +46,18 @@ pub record MakesTitle (word rest : List ℕ) : Type 0 where
   pub blank : Each is_blank blanks
   pub equals : rest ≡ blanks ++ (61 ∷ more)
 
--- a sign that begins here takes two characters, or a comment begins here
+-- these bytes begin a sign of two characters, or a comment
 abbrev pub goes_on : ℕ → List ℕ → Bool
 goes_on a [] = false
 goes_on a (b ∷ rest) = is_double_sign a b || (a == 47 && b == 47)
 
--- what a piece is: the end of a line, something that is passed over, or a token with its characters
+-- what a piece is: the end of a line, something that is skipped, or a token with its characters
 pub data Piece : Type 0 where
   line_end : Piece
   passed : Piece
   token : TokenKind → List ℕ → Piece
 
--- these bytes are a piece of a text, with this rest behind them
+-- these bytes are a piece of a text, with this rest after them
 pub data IsPiece : Piece → List ℕ → List ℕ → Type 0 where
   end_of_line : {rest : List ℕ} → IsPiece line_end (10 ∷ []) rest
   blank : (b : ℕ) {rest : List ℕ} → is_blank b ≡ true → IsPiece passed (b ∷ []) rest
@@ -77,12 +77,12 @@ pub data IsPiece : Piece → List ℕ → List ℕ → Type 0 where
   single_sign : (a : ℕ) {rest : List ℕ} → is_sign a ≡ true → goes_on a rest ≡ false
       → IsPiece (token Sign (a ∷ [])) (a ∷ []) rest
 
--- no piece stands at the front of a text that has not ended
+-- a text that has not ended begins with no piece
 pub record NoPiece (bytes : List ℕ) : Type 0 where
   pub some : 0 < length bytes
   pub none : (piece : Piece) (front rest : List ℕ) → bytes ≡ front ++ rest → IsPiece piece front rest → ⊥
 
--- the line behind a piece
+-- the line after a piece on a line
 abbrev pub line_past : Piece → ℕ → ℕ
 line_past line_end line = line_after line
 line_past passed line = line
@@ -93,29 +93,29 @@ abbrev pub last_of : ℕ → List ℕ → ℕ
 last_of before [] = before
 last_of before (b ∷ bytes) = last_of b bytes
 
--- the token that a piece is, on a line and behind a byte; it is glued where that is no blank
+-- the token that a piece is, on a line and after a byte; it is glued where that is no blank
 abbrev pub tokens_in : Piece → ℕ → ℕ → List Token
 tokens_in line_end line before = []
 tokens_in passed line before = []
 tokens_in (token kind characters) line before =
     record { kind = kind; text = characters; line = record { 0 = line }; glued = not (is_blank before) } ∷ []
 
--- a text on a line and behind a byte is cut up to a rest on a line, and these are its tokens so far
+-- a text on a line and after a byte is cut up to a rest on a line, and these are its tokens so far
 pub data Cuts : ℕ → ℕ → List ℕ → List Token → ℕ → List ℕ → Type 0 where
   here : {line before : ℕ} {rest : List ℕ} → Cuts line before rest [] line rest
   next : (piece : Piece) (front : List ℕ) {line before end : ℕ} {more rest : List ℕ} {tokens : List Token} →
       IsPiece piece front more → Cuts (line_past piece line) (last_of before front) more tokens end rest
       → Cuts line before (front ++ more) (tokens_in piece line before ++ tokens) end rest
 
--- a text that is cut up to a rest on a line where no piece stands
+-- a text is cut up to a rest on a line where no piece begins
 pub record BadAt (bytes : List ℕ) (line : ℕ) : Type 0 where
   pub tokens : List Token
   pub rest : List ℕ
   pub cut : Cuts 1 10 bytes tokens line rest
   pub none : NoPiece rest
 
--- a text has these tokens exactly where it is cut to its end, and a bad token on a line exactly where it
--- is cut up to that line and no piece stands there
+-- a text has these tokens exactly where it is cut to its end, and a bad token on a line exactly where it is cut up to
+-- that line and no piece begins there
 pub record TokensAreCut : Type 0 where
   pub sound : (bytes : List ℕ) (tokens : List Token) → tokens_of bytes ≡ Ok tokens
       → (line : ℕ) × Cuts 1 10 bytes tokens line []

@@ -52,7 +52,7 @@ fn keep_token(
     })
 }
 
-/// The tokens of a text, or the line of the first place where none stands.
+/// The tokens of a text, or the line of the first place where none begins.
 pub fn tokens(alloc: Global, bytes: &[u8]) -> Result<List<Token>, Rejection>
     ensures { Answers result (tokens_of bytes.now) }
 {

@@ -1,7 +1,7 @@
 //! Cuts a source text into its tokens.
 //!
-//! Stands on `s7_base`, which has the definition of tokens. `tokens` gives exactly the tokens of a text, or
-//! the line of the first place where none stands. `specs/` says the cut a second time, form by form, and
+//! Uses `s7_base`, which has the definition of tokens. `tokens` gives exactly the tokens of a text, or the
+//! line of the first place where none begins. `specs/` defines the cut a second time, form by form, and
 //! `tokens_are_cut` is the law that both agree on every text.
 #![tactic(auto)]
 

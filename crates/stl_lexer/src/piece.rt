@@ -1,4 +1,4 @@
-//! Finds the piece that stands at the front of a text.
+//! Finds the piece with which a text begins.
 ghost use Rattle.std.specs.Prelude.{◌≡◌, ◌≤◌, ◌+◌, ◌&&◌, length, take, drop, codes, not, ◌==◌, ◌||◌, ◌<◌, IfSome, option_map};
 ghost use Rattle.s7_base.specs.Tokens.{is_blank, is_word_byte, is_sign, is_double_sign, begins_with, after_blanks, line_size, closed_size, word_piece, sign_piece, comment_or_sign, mark_piece, piece_at, piece_size, token, gap, line_behind};
 ghost use Rattle.std.specs.List.{prefix_len};
@@ -7,7 +7,7 @@ ghost use Rattle.stl_lexer.specs.inner.Found.{view, IsWithin};
 
 use s7_base::{TokenKind, begins_with, is_same_word, is_word_byte, rest_after};
 
-/// What stands at the front of a text, with its size in bytes.
+/// What a text begins with, and its size in bytes.
 #[derive(Clone, Copy)]
 pub enum Piece {
     /// The end of a line, one byte.
@@ -20,7 +20,7 @@ pub enum Piece {
     Token(TokenKind, usize),
 }
 
-/// Space, TAB and CR.
+/// Whether a byte is a space, TAB or CR.
 pub fn is_blank(b: u8) -> bool
     ensures { result ≡ is_blank b }
 {

@@ -5,9 +5,9 @@ use Rattle.std.specs.Prelude.{if◌then◌else◌}
 use Rattle.nesting_stack.specs.Entries.{IsPushed, most_open}
 use Rattle.nesting_stack.specs.declared.nesting.Full.{Full}
 use Rattle.s7_base.specs.declared.check.Entry.{Entry}
-use Rattle.stl_tree.specs.Brackets.{pushed}
+use Rattle.stl_tree.specs.Brackets.{push_bracket}
 
-pub is_pushed : (e : Entry) (r : Result Unit Full) (old new : List Entry) → IsPushed e r old new → new ≡ pushed e old
+pub is_pushed : (e : Entry) (r : Result Unit Full) (old new : List Entry) → IsPushed e r old new → new ≡ push_bracket e old
 is_pushed e (Ok done) old new h =
     let room : nat_lt (length old) most_open ≡ true = grind (arith, nat_tests, h.0) in
     h.1 ∙ sym (ap (λ b. if b then e ∷ old else old) room)

@@ -4,7 +4,7 @@ use Rattle.stl_machine.specs.declared.machine.Progress.{Progress}
 use Rattle.stl_machine.specs.declared.machine.Progress.TheVariants as progress
 use Rattle.stl_machine.specs.declared.state.State.{State}
 use Rattle.stl_machine.specs.inner.Effects.{next_of}
-use Rattle.stl_machine.specs.inner.Views.{seen, standing}
+use Rattle.stl_machine.specs.inner.Views.{now_of, standing}
 use Rattle.stl_tree.proofs.Runs.{steps_on-add}
 use Rattle.stl_tree.specs.StlRun.{Standing, running, over, step, step_by, steps_on}
 use Rattle.stl_tree.specs.declared.program.Instr.{Instr}
@@ -24,8 +24,9 @@ step_still (running program now) e = ap (λ (o : Option Instr). step_by o progra
 step_still (over memory f) e = refl
 
 -- the step of the instruction that a run stands before
-pub known_step : (program : Program) (p : Progress) (s : State) (i : Instr) → next_of (standing program p s) ≡ Some i → step_by (Some i) program (seen s) ≡ step (standing program p s)
-known_step program progress.Running s i e = ap (λ (o : Option Instr). step_by o program (seen s)) (sym e)
+pub known_step : (program : Program) (p : Progress) (s : State) (i : Instr)
+    → next_of (standing program p s) ≡ Some i → step_by (Some i) program (now_of s) ≡ step (standing program p s)
+known_step program progress.Running s i e = ap (λ (o : Option Instr). step_by o program (now_of s)) (sym e)
 known_step program (progress.Over f) s i e = cc
 
 -- a run that stays where it is before its bound stands there at the bound

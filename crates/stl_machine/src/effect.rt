@@ -3,10 +3,10 @@ ghost use Rattle.std.specs.Prelude.{◌≡◌};
 ghost use Rattle.status_word.specs.Flags.{bits};
 ghost use Rattle.stl_machine.specs.inner.Effects.{Does};
 ghost use Rattle.stl_machine.specs.inner.Operands.{IsTaken};
-ghost use Rattle.stl_machine.specs.inner.Rows.{IsOnRegisters};
-ghost use Rattle.stl_machine.specs.inner.Views.{seen};
+ghost use Rattle.stl_machine.specs.inner.RegisterInstructions.{IsOnRegisters};
+ghost use Rattle.stl_machine.specs.inner.Views.{now_of};
 ghost use Rattle.stl_registers.specs.Values.{values};
-ghost use Rattle.stl_tree.specs.Instructions.{at_edge, block_opened, effect_of, on_accu1, on_registers, on_status, stored};
+ghost use Rattle.stl_tree.specs.Instructions.{at_edge, block_opened, effect_of, on_accu1, on_registers, on_status, store_where_rlo};
 ghost use Rattle.stl_tree.specs.declared.program.Op.TheVariants as op;
 
 use crate::state::State;
@@ -16,7 +16,7 @@ use status_word::{Flag, Status};
 use stl_registers::{Registers, read_number, write_number};
 use stl_tree::{Ar, ArLoad, ArStore, BitArg, LoadArg, Op, OpenArg, Operand, UnaryRow};
 
-/// How a run goes on after an instruction.
+/// How a run continues after an instruction.
 #[derive(Clone, Copy)]
 pub enum Effect {
     /// The next instruction follows.
@@ -26,25 +26,25 @@ pub enum Effect {
     Leave,
 }
 
-/// The next instruction follows, with this status word.
+/// Sets the status word; the next instruction follows.
 fn next_with(status: Status, state: &mut State) -> Result<Effect, Fault>
-    ensures { Does (on_status (λ before. bits status) (seen state.old)) result state.old state.new }
+    ensures { Does (on_status (λ before. bits status) (now_of state.old)) result state.old state.new }
 {
     state.registers.status = status;
     Ok(Effect::Next)
 }
 
-/// The next instruction follows, with these registers.
+/// Sets the registers; the next instruction follows.
 fn next_on(registers: Registers, state: &mut State) -> Result<Effect, Fault>
-    ensures { Does (on_registers (λ before. values registers) (seen state.old)) result state.old state.new }
+    ensures { Does (on_registers (λ before. values registers) (now_of state.old)) result state.old state.new }
 {
     state.registers = registers;
     Ok(Effect::Next)
 }
 
-/// A check of a bit, or of what the status word says.
+/// The effect of a check of a bit or of the status word.
 fn check(check: Check, argument: &BitArg, state: &mut State) -> Result<Effect, Fault>
-    ensures { Does (effect_of (op.Check check argument.now) (seen state.old)) result state.old state.new }
+    ensures { Does (effect_of (op.Check check argument.now) (now_of state.old)) result state.old state.new }
 {
     let bit = match argument {
         BitArg::At(operand) => {
@@ -56,9 +56,9 @@ fn check(check: Check, argument: &BitArg, state: &mut State) -> Result<Effect, F
     next_with(state.registers.status.checked(check, bit), state)
 }
 
-/// `=`
+/// The effect of `=`.
 fn assign(operand: &Operand, state: &mut State) -> Result<Effect, Fault>
-    ensures { Does (effect_of (op.Assign operand.now) (seen state.old)) result state.old state.new }
+    ensures { Does (effect_of (op.Assign operand.now) (now_of state.old)) result state.old state.new }
 {
     let place = state.place_of(operand)?;
     let status = state.registers.status;
@@ -67,9 +67,9 @@ fn assign(operand: &Operand, state: &mut State) -> Result<Effect, Fault>
     next_with(status.stored(rlo), state)
 }
 
-/// `S` and `R`: where the RLO is 1, the bit becomes this value.
+/// The effect of `S` and `R`: where the RLO is 1, the bit becomes this value.
 fn set_to(value: bool, operand: &Operand, state: &mut State) -> Result<Effect, Fault>
-    ensures { Does (stored value operand.now (seen state.old)) result state.old state.new }
+    ensures { Does (store_where_rlo value operand.now (now_of state.old)) result state.old state.new }
 {
     let place = state.place_of(operand)?;
     let status = state.registers.status;
@@ -79,9 +79,9 @@ fn set_to(value: bool, operand: &Operand, state: &mut State) -> Result<Effect, F
     next_with(status.stored(stands), state)
 }
 
-/// `FP`, where the edge is a rising one, and `FN`.
+/// The effect of `FP`, where the edge is a rising one, and `FN`.
 fn edge(rising: bool, operand: &Operand, state: &mut State) -> Result<Effect, Fault>
-    ensures { Does (at_edge rising operand.now (seen state.old)) result state.old state.new }
+    ensures { Does (at_edge rising operand.now (now_of state.old)) result state.old state.new }
 {
     let place = state.place_of(operand)?;
     let status = state.registers.status;
@@ -90,9 +90,9 @@ fn edge(rising: bool, operand: &Operand, state: &mut State) -> Result<Effect, Fa
     next_with(status.edge(rising, old), state)
 }
 
-/// `L`
+/// The effect of `L`.
 fn load(argument: &LoadArg, state: &mut State) -> Result<Effect, Fault>
-    ensures { Does (effect_of (op.Load argument.now) (seen state.old)) result state.old state.new }
+    ensures { Does (effect_of (op.Load argument.now) (now_of state.old)) result state.old state.new }
 {
     let value = match argument {
         LoadArg::At(operand, width) => {
@@ -101,21 +101,21 @@ fn load(argument: &LoadArg, state: &mut State) -> Result<Effect, Fault>
         }
         LoadArg::Constant(value) => *value,
     };
-    next_on(state.registers.loaded(value), state)
+    next_on(state.registers.after_load(value), state)
 }
 
-/// `T`
+/// The effect of `T`.
 fn transfer(operand: &Operand, width: Width, state: &mut State) -> Result<Effect, Fault>
-    ensures { Does (effect_of (op.Transfer operand.now width) (seen state.old)) result state.old state.new }
+    ensures { Does (effect_of (op.Transfer operand.now width) (now_of state.old)) result state.old state.new }
 {
     let place = state.place_of(operand)?;
     write_number(&mut state.memory, place, width, state.registers.accu1)?;
     Ok(Effect::Next)
 }
 
-/// `LAR1` and `LAR2`
+/// The effect of `LAR1` and `LAR2`.
 fn load_pointer(register: Ar, from: &ArLoad, state: &mut State) -> Result<Effect, Fault>
-    ensures { Does (effect_of (op.LoadAr register from.now) (seen state.old)) result state.old state.new }
+    ensures { Does (effect_of (op.LoadAr register from.now) (now_of state.old)) result state.old state.new }
 {
     let registers = match from {
         ArLoad::Accu1 => state.registers.accu1_pointed(register),
@@ -130,9 +130,9 @@ fn load_pointer(register: Ar, from: &ArLoad, state: &mut State) -> Result<Effect
     next_on(registers, state)
 }
 
-/// `TAR1` and `TAR2`
+/// The effect of `TAR1` and `TAR2`.
 fn store_pointer(register: Ar, to: &ArStore, state: &mut State) -> Result<Effect, Fault>
-    ensures { Does (effect_of (op.StoreAr register to.now) (seen state.old)) result state.old state.new }
+    ensures { Does (effect_of (op.StoreAr register to.now) (now_of state.old)) result state.old state.new }
 {
     match to {
         ArStore::Accu1 => next_on(state.registers.pointer_loaded(register), state),
@@ -148,7 +148,7 @@ fn store_pointer(register: Ar, to: &ArStore, state: &mut State) -> Result<Effect
 
 /// The number of the data block that `OPN` opens.
 fn opened_number(argument: &OpenArg, state: &mut State) -> Result<u16, Fault>
-    ensures number { IsTaken (λ row. block_opened row argument.now (seen state.old)) result state.new }
+    ensures number { IsTaken (λ row. block_opened row argument.now (now_of state.old)) result state.new }
     ensures memory { state.new.memory ≡ state.old.memory }
     ensures frames { state.new.frames ≡ state.old.frames }
 {
@@ -161,57 +161,57 @@ fn opened_number(argument: &OpenArg, state: &mut State) -> Result<u16, Fault>
     }
 }
 
-/// `OPN` of a data block.
+/// The effect of `OPN` of a data block.
 fn open_db(argument: &OpenArg, state: &mut State) -> Result<Effect, Fault>
-    ensures { Does (effect_of (op.OpenDb argument.now) (seen state.old)) result state.old state.new }
+    ensures { Does (effect_of (op.OpenDb argument.now) (now_of state.old)) result state.old state.new }
 {
     let number = opened_number(argument, state)?;
     next_on(state.registers.db_opened(number), state)
 }
 
-/// `OPN` of an instance.
+/// The effect of `OPN` of an instance.
 fn open_di(argument: &OpenArg, state: &mut State) -> Result<Effect, Fault>
-    ensures { Does (effect_of (op.OpenDi argument.now) (seen state.old)) result state.old state.new }
+    ensures { Does (effect_of (op.OpenDi argument.now) (now_of state.old)) result state.old state.new }
 {
     let number = opened_number(argument, state)?;
     next_on(state.registers.di_opened(number), state)
 }
 
-/// An instruction on ACCU1 alone.
+/// The effect of an instruction on ACCU1 alone.
 fn on_accu1(of: UnaryRow, state: &mut State) -> Result<Effect, Fault>
-    ensures { Does (on_accu1 of (seen state.old)) result state.old state.new }
+    ensures { Does (on_accu1 of (now_of state.old)) result state.old state.new }
 {
-    next_on(state.registers.converted(of)?, state)
+    next_on(state.registers.after_conversion(of)?, state)
 }
 
-/// An opening bracket.
+/// The effect of an opening bracket.
 fn open(of: Check, state: &mut State) -> Result<Effect, Fault>
-    ensures { Does (effect_of (op.Bracket of) (seen state.old)) result state.old state.new }
+    ensures { Does (effect_of (op.Bracket of) (now_of state.old)) result state.old state.new }
 {
     state.open(of);
     Ok(Effect::Next)
 }
 
-/// `)`
+/// The effect of `)`.
 fn close(state: &mut State) -> Result<Effect, Fault>
-    ensures { Does (effect_of op.Close (seen state.old)) result state.old state.new }
+    ensures { Does (effect_of op.Close (now_of state.old)) result state.old state.new }
 {
     state.close();
     Ok(Effect::Next)
 }
 
-/// The end word of a block.
+/// The effect of the end word of a block.
 fn leave(state: &mut State) -> Result<Effect, Fault>
-    ensures { Does (effect_of op.BlockEnd (seen state.old)) result state.old state.new }
+    ensures { Does (effect_of op.BlockEnd (now_of state.old)) result state.old state.new }
 {
     state.registers.status = state.registers.status.ended();
     Ok(Effect::Leave)
 }
 
-/// An instruction on the registers alone.
+/// The effect of an instruction on the registers alone.
 fn on_registers(op: &Op, state: &mut State) -> Result<Effect, Fault>
     requires { IsOnRegisters op.now }
-    ensures { Does (effect_of op.now (seen state.old)) result state.old state.new }
+    ensures { Does (effect_of op.now (now_of state.old)) result state.old state.new }
 {
     let before = state.registers;
     let registers = match op {
@@ -219,16 +219,16 @@ fn on_registers(op: &Op, state: &mut State) -> Result<Effect, Fault>
         Op::TransferStw => before.status_stored(),
         Op::LoadDbNo => before.db_number_loaded(),
         Op::LoadDiNo => before.di_number_loaded(),
-        Op::Arith(of) => before.calculated(*of),
-        Op::AddWord(n) => before.increased(Width::Word, i32::from(*n)),
-        Op::AddDword(n) => before.increased(Width::Dword, *n),
+        Op::Arith(of) => before.after_arithmetic(*of),
+        Op::AddWord(n) => before.after_addition(Width::Word, i32::from(*n)),
+        Op::AddDword(n) => before.after_addition(Width::Dword, *n),
         Op::Inc(n) => before.counted_up(*n),
         Op::Dec(n) => before.counted_down(*n),
-        Op::Compare(test, width) => before.compared(*test, *width),
+        Op::Compare(test, width) => before.after_comparison(*test, *width),
         Op::Shift(of, count) => before.after_shift(*of, *count),
         Op::Rlda => before.around_left_through_cc1(),
         Op::Rrda => before.around_right_through_cc1(),
-        Op::Logic(of, constant) => before.after_logic_row(*of, *constant),
+        Op::Logic(of, constant) => before.after_word_logic(*of, *constant),
         Op::Tak => before.accus_exchanged(),
         Op::Push => before.accu_pushed(),
         Op::Pop => before.accu_popped(),
@@ -242,7 +242,7 @@ fn on_registers(op: &Op, state: &mut State) -> Result<Effect, Fault>
 
 /// Does an instruction. A fault leaves the memory as it was.
 pub fn effect_of(op: &Op, state: &mut State) -> Result<Effect, Fault>
-    ensures { Does (effect_of op.now (seen state.old)) result state.old state.new }
+    ensures { Does (effect_of op.now (now_of state.old)) result state.old state.new }
 {
     let status = state.registers.status;
     match op {

@@ -11,9 +11,9 @@ use std::marker::Model;
 /// The most callers that may wait: one activation fewer than there are local data for.
 const ROOM: usize = 7;
 
-/// An activation: its block by its position in the program, the position of the instruction to come in the
-/// block's body, the number of the data block that is its instance, 0 where it has none, and the numbers that the
-/// DB and the DI register take again when the block ends.
+/// An activation: the position of its block in the program, the position of the next instruction in the
+/// block's body, the number of the data block that is its instance, 0 where it has none, and the numbers that
+/// the DB and the DI register take again when the block ends.
 #[derive(Clone, Copy)]
 pub struct Frame {
     pub block: usize,
@@ -38,8 +38,8 @@ impl Frame {
     }
 }
 
-/// The activations of the blocks that wait for one that they called, at most seven. The frames behind the
-/// free places are theirs, the last caller first.
+/// The activations of the blocks that wait for one that they called, at most seven. The frames after the free
+/// places are theirs, the last caller first.
 #[derive(Drop)]
 pub struct Callers {
     frames: [Frame; ROOM],

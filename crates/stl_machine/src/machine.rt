@@ -1,10 +1,10 @@
-//! The machine itself.
+//! The machine.
 ghost use Rattle.std.specs.Prelude.{◌≡◌, ◌+◌, ◌^◌, ◌<◌, IfSome, MatchOption, Some, None};
 ghost use Rattle.stl_machine.specs.Machine.{IsNew, memory_of, outcome_of};
 ghost use Rattle.stl_machine.specs.declared.machine.Progress.TheVariants.{Running};
 ghost use Rattle.stl_machine.specs.inner.Effects.{next_of};
-ghost use Rattle.stl_machine.specs.inner.Views.{seen, standing};
-ghost use Rattle.stl_tree.specs.StlRun.{block_called, block_named, is_same_name, returned, step_by, steps_on};
+ghost use Rattle.stl_machine.specs.inner.Views.{now_of, standing};
+ghost use Rattle.stl_tree.specs.StlRun.{block_called, block_named, is_same_name, after_return, step_by, steps_on};
 ghost use Rattle.stl_tree.specs.declared.program.Program.{Program};
 
 use crate::effect::{Effect, effect_of};
@@ -28,14 +28,14 @@ pub enum MachineRefusal {
     NoMemory,
 }
 
-/// A run goes on or is over.
+/// Whether a run goes on or is over.
 #[derive(Clone, Copy, Debug)]
 enum Progress {
     Running,
     Over(Option<Fault>),
 }
 
-/// A run of a block of a program, which can be taken further in any portions of steps.
+/// A run of a block of a program, which can be continued in any portions of steps.
 #[derive(Drop)]
 pub struct Machine<'p> {
     program: &'p Program,
@@ -77,7 +77,7 @@ fn block_called(program: &Program, call: &Call) -> Option<usize>
     }
 }
 
-/// The instruction to come; none where the run is over, or where no instruction stands next.
+/// The next instruction; none where the run is over, or where no instruction follows.
 fn next_of<'p>(program: &'p Program, progress: Progress, state: &State) -> Option<&'p Instr>
     ensures instruction { MatchOption result (next_of (standing program.now progress state.now) ≡ None)
         (λ instr. next_of (standing program.now progress state.now) ≡ Some instr.now) }
@@ -91,10 +91,9 @@ fn next_of<'p>(program: &'p Program, progress: Progress, state: &State) -> Optio
     block.body.as_slice().get(state.frames.current.at)
 }
 
-/// The running block has ended: its caller goes on, with the data blocks that were open there, or the run is
-/// over.
-fn returned(state: &mut State) -> Progress
-    ensures { (program : Program) → standing program result state.new ≡ returned program (seen state.old).activations (seen state.old) }
+/// Ends the running block: its caller goes on, with the data blocks that were open there, or the run is over.
+fn after_return(state: &mut State) -> Progress
+    ensures { (program : Program) → standing program result state.new ≡ after_return program (now_of state.old).activations (now_of state.old) }
 {
     let done = state.frames.current;
     match state.frames.callers.pop() {
@@ -108,16 +107,16 @@ fn returned(state: &mut State) -> Progress
     }
 }
 
-/// Does an instruction, the one to come, in a run that is not over. The progress is written only where it
-/// changes, which a step seldom does.
+/// Does the next instruction of a run that is not over. The progress is written only where it changes, which
+/// a step seldom does.
 fn step_by(instr: &Instr, state: &mut State, progress: &mut Progress)
     requires running { progress.old ≡ Running }
     requires room { state.old.frames.current.at + 1 < 2 ^ 64 }
-    ensures { (program : Program) → standing program progress.new state.new ≡ step_by (Some instr.now) program (seen state.old) }
+    ensures { (program : Program) → standing program progress.new state.new ≡ step_by (Some instr.now) program (now_of state.old) }
 {
     match effect_of(&instr.op, state) {
         Ok(Effect::Next) => state.frames.current.at += 1,
-        Ok(Effect::Leave) => *progress = returned(state),
+        Ok(Effect::Leave) => *progress = after_return(state),
         Err(fault) => *progress = Progress::Over(Some(fault)),
     }
 }
@@ -162,7 +161,7 @@ impl<'p> Machine<'p> {
         self.outcome()
     }
 
-    /// The memory where the run stands.
+    /// The memory at this point of the run.
     pub fn memory(&self) -> &Memory
         ensures { result.now ≡ memory_of self.now }
     {

@@ -4,9 +4,9 @@ ghost use Rattle.memory_areas.specs.Memory.{IsActivation};
 ghost use Rattle.status_word.specs.Flags.{bits};
 ghost use Rattle.status_word.specs.StatusBits.{entry_of};
 ghost use Rattle.stl_machine.specs.inner.Operands.{IsFound};
-ghost use Rattle.stl_machine.specs.inner.Views.{seen};
-ghost use Rattle.stl_tree.specs.Brackets.{closed, opened, pushed};
-ghost use Rattle.stl_tree.specs.Operands.{aimed_by, aimed_in, found, found_at, place_in};
+ghost use Rattle.stl_machine.specs.inner.Views.{now_of};
+ghost use Rattle.stl_tree.specs.Brackets.{after_bracket, in_bracket_of, push_bracket};
+ghost use Rattle.stl_tree.specs.Operands.{aimed_by, aimed_in, place_of_operand, found_at, place_in};
 
 use crate::frames::Frames;
 use address_registers::{Pointer, resolve};
@@ -17,7 +17,7 @@ use status_word::{Flag, Status};
 use stl_registers::Registers;
 use stl_tree::Operand;
 
-/// What a bracket keeps that is opened at this status word.
+/// What a bracket keeps that is opened with this status word.
 fn entry_of(check: Check, status: Status) -> Entry
     ensures { result ≡ entry_of check (bits status) }
 {
@@ -32,7 +32,7 @@ fn entry_of(check: Check, status: Status) -> Entry
 /// Keeps an entry where there is room for it.
 #[tactic(auto, using(crate::proofs::Pushing::is_pushed))]
 fn push(brackets: &mut Nesting, e: Entry)
-    ensures { brackets.new ≡ pushed e brackets.old }
+    ensures { brackets.new ≡ push_bracket e brackets.old }
 {
     match brackets.push(e) {
         Ok(()) | Err(_) => {}
@@ -51,7 +51,7 @@ pub struct State {
 impl State {
     /// A byte and a bit in a named area, by the data blocks that are open.
     fn place_in(&self, name: AreaName, byte: u32, bit: u8) -> Place
-        ensures place { result ≡ place_in name byte bit (seen self.now) }
+        ensures place { result ≡ place_in name byte bit (now_of self.now) }
         ensures activation { IsActivation result.area }
     {
         Place {
@@ -63,8 +63,8 @@ impl State {
 
     /// The byte and the bit of a pointer in a named area.
     fn aimed_in(&self, name: AreaName, p: Pointer) -> Place
-        ensures place { found_at (aimed_in name p.0 (seen self.now)) (seen self.now)
-            ≡ Ok (record { place = result; after = seen self.now }) }
+        ensures place { found_at (aimed_in name p.0 (now_of self.now)) (now_of self.now)
+            ≡ Ok (record { place = result; after = now_of self.now }) }
         ensures activation { IsActivation result.area }
     {
         self.place_in(name, p.byte(), p.bit())
@@ -72,7 +72,7 @@ impl State {
 
     /// The byte and the bit of a pointer in the area that its code names, if it names one.
     fn aimed_by(&self, p: Pointer) -> Result<Place, Fault>
-        ensures { IsFound (found_at (aimed_by p.0 (seen self.now)) (seen self.now)) result self.now }
+        ensures { IsFound (found_at (aimed_by p.0 (now_of self.now)) (now_of self.now)) result self.now }
     {
         resolve(p, self.registers.db, self.registers.di, self.frames.depth())
     }
@@ -80,7 +80,7 @@ impl State {
     /// The place that an operand names, or the first fault on the way to it. An operand with the number of
     /// its data block opens that block first.
     pub fn place_of(&mut self, operand: &Operand) -> Result<Place, Fault>
-        ensures place { IsFound (found operand.now (seen self.old)) result self.new }
+        ensures place { IsFound (place_of_operand operand.now (now_of self.old)) result self.new }
         ensures memory { self.new.memory ≡ self.old.memory }
         ensures frames { self.new.frames ≡ self.old.frames }
     {
@@ -108,7 +108,7 @@ impl State {
 
     /// Opens a bracket.
     pub fn open(&mut self, check: Check)
-        ensures now { seen self.new ≡ opened check (seen self.old) }
+        ensures now { now_of self.new ≡ in_bracket_of check (now_of self.old) }
         ensures frames { self.new.frames ≡ self.old.frames }
     {
         let status = self.registers.status;
@@ -118,7 +118,7 @@ impl State {
 
     /// Closes the last bracket that is open.
     pub fn close(&mut self)
-        ensures now { seen self.new ≡ closed (seen self.old) }
+        ensures now { now_of self.new ≡ after_bracket (now_of self.old) }
         ensures frames { self.new.frames ≡ self.old.frames }
     {
         if let Some(e) = self.brackets.pop() {

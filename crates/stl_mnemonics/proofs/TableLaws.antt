@@ -5,11 +5,11 @@ use Rattle.std.specs.List.{find, list_any}
 use Rattle.std.specs.Prelude.{nat_lt}
 use Rattle.s7_base.specs.Tokens.{is_same_word}
 use Rattle.s7_base.specs.declared.token.Token.{Token}
-use Rattle.stl_statements.specs.ConstantForms.{IsAmong}
-use Rattle.stl_statements.specs.InstructionForms.{MnemonicsAreLongest}
-use Rattle.stl_statements.specs.Mnemonics.{Row, rows, goes_on, stands_at, mnemonic_at}
-use Rattle.stl_statements.specs.Statements.{size_with}
-use Rattle.stl_statements.specs.Words.{is_spelled}
+use Rattle.stl_statement_grammar.specs.ConstantForms.{IsAmong}
+use Rattle.stl_statement_grammar.specs.InstructionForms.{MnemonicsAreLongest}
+use Rattle.stl_statement_grammar.specs.Mnemonics.{Row, rows, goes_on, stands_at, mnemonic_at}
+use Rattle.stl_statement_grammar.specs.Statements.{size_with}
+use Rattle.stl_statement_grammar.specs.Words.{is_spelled}
 use Rattle.stl_constants.proofs.Reading.{alike}
 use Rattle.stl_constants.proofs.Tables.{any_at, found_among, found_passes, none_passes, some_is}
 
@@ -50,15 +50,18 @@ no_longer row other rest none among same = by (nat_lt (size_with row.second) (si
         both false b p q = absurd cc
     by false t = ltb-false (size_with row.second) (size_with other.second) t
 
-longest_of : (tokens : List Token) (xs : List Row) (row other : Row) → are_ordered xs ≡ true → find (stands_at tokens) xs ≡ Some row → IsAmong other xs → stands_at tokens other ≡ true →
-    size_with other.second ≤ size_with row.second
+longest_of : (tokens : List Token) (xs : List Row) (row other : Row) → are_ordered xs ≡ true
+    → find (stands_at tokens) xs ≡ Some row → IsAmong other xs → stands_at tokens other ≡ true
+    → size_with other.second ≤ size_with row.second
 longest_of tokens [] row other o e h s = absurd cc
 longest_of tokens (x ∷ xs) row other o e h s =
     let p = and_parts (not (list_any (hides x) xs)) (are_ordered xs) o in
     by (stands_at tokens x) refl e h (not-true (list_any (hides x) xs) p.0) (λ k more. longest_of tokens xs row other p.1 k more s)
   where
-    by : (b : Bool) → stands_at tokens x ≡ b → cond b (Some x) (find (stands_at tokens) xs) ≡ Some row → (other ≡ x) ⊎ IsAmong other xs → list_any (hides x) xs ≡ false
-        → (find (stands_at tokens) xs ≡ Some row → IsAmong other xs → size_with other.second ≤ size_with row.second) → size_with other.second ≤ size_with row.second
+    by : (b : Bool) → stands_at tokens x ≡ b → cond b (Some x) (find (stands_at tokens) xs) ≡ Some row
+        → (other ≡ x) ⊎ IsAmong other xs → list_any (hides x) xs ≡ false
+        → (find (stands_at tokens) xs ≡ Some row → IsAmong other xs → size_with other.second ≤ size_with row.second)
+        → size_with other.second ≤ size_with row.second
     by true t e (inl same) none next =
         let is : other ≡ row = same ∙ some_is x row e in
         let P : Row → Type 0 = λ r. size_with other.second ≤ size_with r.second in
@@ -78,7 +81,8 @@ stands : (tokens : List Token) (row : Row) → mnemonic_at tokens ≡ Some row �
 unfolding mnemonic_at
 stands tokens row e = found_passes (stands_at tokens) rows row e
 
-longest : (tokens : List Token) (row other : Row) → mnemonic_at tokens ≡ Some row → IsAmong other rows → stands_at tokens other ≡ true → size_with other.second ≤ size_with row.second
+longest : (tokens : List Token) (row other : Row) → mnemonic_at tokens ≡ Some row → IsAmong other rows
+    → stands_at tokens other ≡ true → size_with other.second ≤ size_with row.second
 unfolding mnemonic_at
 longest tokens row other e h s = longest_of tokens rows row other rows_ordered e h s
 

@@ -1,9 +1,10 @@
-//! The mnemonics of STL: the table of them as data, which one stands at the front of tokens, and what the one of a
-//! name is.
+//! The mnemonics of STL: the table of them as data, with which one tokens begin, and what the one of a name
+//! is.
 //!
-//! Stands on `stl_constants` for tests of words and signs, and on `stl_statements`, which has the table as its
-//! definition. One look-up serves all rows, and the code's table is proved to be the defined one as a whole;
-//! `mnemonics_are_longest` is the law that of two mnemonics that begin a statement the longer one is found.
+//! Uses `stl_constants` for tests of words and signs, and `stl_statement_grammar`, which has the table as its
+//! definition. One look-up serves all lines of the table, and the code's table is proved to be the defined
+//! one as a whole; `mnemonics_are_longest` is the law that of two mnemonics that begin a statement the longer
+//! one is found.
 #![tactic(auto)]
 
 pub use laws::mnemonics_are_longest;

@@ -2,24 +2,25 @@
 ghost use Rattle.std.specs.Prelude.{◌≡◌, ◌&&◌, ◌||◌, codes, map, option_map};
 ghost use Rattle.std.specs.List.{find};
 ghost use Rattle.s7_base.specs.Tokens.{is_same_word};
-ghost use Rattle.stl_statements.specs.Mnemonics.{goes_on, stands_at, mnemonic_at, begins_with_mnemonic, has_name, rows, mnemonic_named};
-ghost use Rattle.stl_statements.specs.Words.{is_sign, is_spelled};
+ghost use Rattle.stl_statement_grammar.specs.Mnemonics.{goes_on, stands_at, mnemonic_at, begins_with_mnemonic, has_name, rows, mnemonic_named};
+ghost use Rattle.stl_statement_grammar.specs.Words.{is_sign, is_spelled};
 ghost use Rattle.stl_mnemonics.specs.Rows.{view};
 
 use s7_base::{Check, Kind, Token, Width, front_of, is_same_word, rest_after};
 use status_word::Test;
 use stl_constants::{is_sign, is_spelled, is_word_or_sign};
-use stl_statements::Mnemonic;
+use stl_statement_grammar::Mnemonic;
 use stl_tree::{Ar, Arith, LogicRow, ShiftRow, UnaryRow};
 
-/// A row: a word or a sign, the word or sign behind it, if there is one, and what the mnemonic is.
+/// A line of the table: a word or a sign, the word or sign after it, if there is one, and what the mnemonic
+/// is.
 #[derive(Clone, Copy)]
 pub struct Row(pub &'static str, pub &'static str, pub Mnemonic);
 
 /// An instruction that is not built yet.
 const LATER: Mnemonic = Mnemonic::Later;
 
-/// The mnemonics. Of two that begin a statement the longer one stands first.
+/// The mnemonics. Of two that begin a statement the longer one comes first.
 static ROWS: [Row; 155] = [
     Row("A", "(", Mnemonic::Bracket(Check::A)),
     Row("A", "", Mnemonic::Check(Check::A)),
@@ -178,7 +179,7 @@ static ROWS: [Row; 155] = [
     Row("LEAVE", "", Mnemonic::LeftOut(Kind::Accumulators)),
 ];
 
-/// The second part of a mnemonic stands here, or it has none.
+/// Whether the tokens begin with the second part of a mnemonic, or it has none.
 pub fn goes_on(second: &str, tokens: &[Token]) -> bool
     ensures { result ≡ goes_on second.now tokens.now }
 {
@@ -197,7 +198,7 @@ fn table() -> &'static [Row]
     &ROWS
 }
 
-/// The first row of a table whose mnemonic stands at the front.
+/// The first line of a table with whose mnemonic the tokens begin.
 fn first_row(tokens: &[Token], table: &[Row]) -> Option<Row>
     ensures { option_map view result ≡ find (stands_at tokens.now) (map view table.now) }
 {
@@ -213,7 +214,7 @@ fn row_found(tokens: &[Token], table: &[Row]) -> Option<Row>
     }
 }
 
-/// The first row of a table whose first part is this token and whose second part stands behind it.
+/// The first line of a table whose first part is this token and whose second part follows it.
 fn row_at(first: &Token, rest: &[Token], table: &[Row]) -> Option<Row>
     ensures { result ≡ find (λ row. is_spelled row.0.now first.now && goes_on row.1.now rest.now) table.now }
 {
@@ -224,7 +225,8 @@ fn row_at(first: &Token, rest: &[Token], table: &[Row]) -> Option<Row>
     }
 }
 
-/// The same by the text of the first token, which is taken out once for all rows.
+/// The first line of a table whose first part has this text and whose second part follows it. The text is
+/// taken from its token once for all lines.
 fn row_spelled(text: &[u8], rest: &[Token], table: &[Row]) -> Option<Row>
     ensures { result ≡ find (λ row. is_same_word text.now row.0.now && goes_on row.1.now rest.now) table.now }
 {
@@ -234,15 +236,15 @@ fn row_spelled(text: &[u8], rest: &[Token], table: &[Row]) -> Option<Row>
         .find(|row| is_same_word(text, row.0) && goes_on(row.1, rest))
 }
 
-/// The mnemonic that stands at the front, with its row.
-#[tactic(auto, unfolding(stl_statements::specs::Mnemonics::mnemonic_at))]
+/// The mnemonic with which the tokens begin, as a line of the table.
+#[tactic(auto, unfolding(stl_statement_grammar::specs::Mnemonics::mnemonic_at))]
 pub fn mnemonic_at(tokens: &[Token]) -> Option<Row>
     ensures { option_map view result ≡ mnemonic_at tokens.now }
 {
     first_row(tokens, table())
 }
 
-/// A mnemonic stands at the front.
+/// Whether the tokens begin with a mnemonic.
 pub fn begins_with_mnemonic(tokens: &[Token]) -> bool
     ensures { result ≡ begins_with_mnemonic tokens.now }
 {
@@ -262,7 +264,7 @@ fn row_called(name: &[u8], table: &[Row]) -> Option<Row>
     table.iter().copied().find(|row| has_name(row, name))
 }
 
-/// The first row of a table whose mnemonic has this name.
+/// The first line of a table whose mnemonic has this name.
 fn row_named(name: &[u8], table: &[Row]) -> Option<Row>
     ensures { option_map view result ≡ find (has_name name.now) (map view table.now) }
 {
@@ -276,7 +278,7 @@ fn row_of(name: &[u8]) -> Option<Row>
 }
 
 /// What the mnemonic of a name is.
-#[tactic(auto, unfolding(stl_statements::specs::Mnemonics::mnemonic_named))]
+#[tactic(auto, unfolding(stl_statement_grammar::specs::Mnemonics::mnemonic_named))]
 pub fn mnemonic_named(name: &[u8]) -> Option<Mnemonic>
     ensures { result ≡ mnemonic_named name.now }
 {

@@ -3,9 +3,9 @@ use Rattle.std.proofs.Common.{◌≡◌, ℕ, ◌+◌, List, [], ◌∷◌, ◌+
 use Rattle.std.proofs.Math.Seq.{drop-append_seam}
 use Rattle.std.proofs.lemmas.List.{append-nil, append_assoc, length-append}
 use Rattle.s7_base.specs.declared.token.Token.{Token}
-use Rattle.stl_statements.specs.Readers.{and_then, fitting, further, or_else, read_as}
-use Rattle.stl_statements.specs.declared.mnemonic.Read.{Read}
-use Rattle.stl_statements.specs.declared.mnemonic.Read.TheVariants.{Fits, LeftOut, No}
+use Rattle.stl_statement_grammar.specs.Readers.{and_then, fitting, further, or_else, read_as}
+use Rattle.stl_statement_grammar.specs.declared.mnemonic.Read.{Read}
+use Rattle.stl_statement_grammar.specs.declared.mnemonic.Read.TheVariants.{Fits, LeftOut, No}
 use Rattle.stl_constants.proofs.Reading.{AllOf}
 
 -- tokens of which the first so many are so
@@ -29,14 +29,16 @@ pub fitting_front : {A : Type 0} (tokens : List Token) (size : ℕ) (P : List To
 fitting_front tokens size P None make = tt
 fitting_front tokens size P (Some a) make = make a refl
 
-pub or_front : {A : Type 0} (tokens : List Token) (P : List Token → A → Type 0) (a b : Read A) → FrontOf tokens P a → FrontOf tokens P b → FrontOf tokens P (or_else a b)
+pub or_front : {A : Type 0} (tokens : List Token) (P : List Token → A → Type 0) (a b : Read A)
+    → FrontOf tokens P a → FrontOf tokens P b → FrontOf tokens P (or_else a b)
 or_front tokens P No b p q = q
 or_front tokens P (LeftOut kind) b p q = p
 or_front tokens P (Fits a size) b p q = p
 
 -- what is known of the tokens in front may be used
-pub as_front : {A B : Type 0} (tokens : List Token) (make : A → B) (P : List Token → A → Type 0) (Q : List Token → B → Type 0) →
-    ((front rest : List Token) (a : A) → front ++ rest ≡ tokens → P front a → Q front (make a)) → (r : Read A) → FrontOf tokens P r → FrontOf tokens Q (read_as make r)
+pub as_front : {A B : Type 0} (tokens : List Token) (make : A → B) (P : List Token → A → Type 0) (Q : List Token → B → Type 0)
+    → ((front rest : List Token) (a : A) → front ++ rest ≡ tokens → P front a → Q front (make a))
+    → (r : Read A) → FrontOf tokens P r → FrontOf tokens Q (read_as make r)
 as_front tokens make P Q h No p = tt
 as_front tokens make P Q h (LeftOut kind) p = tt
 as_front tokens make P Q h (Fits a size) p = record { front = p.front; rest = p.rest; is = p.is; size_is = p.size_is; holds = h p.front p.rest a p.is p.holds }
@@ -62,20 +64,24 @@ further_front before tokens P (Fits a size) f =
     }
 
 -- behind what was read something else
-pub and_then_at : {A B : Type 0} (tokens : List Token) (P : List Token → A → Type 0) (Q : List Token → B → Type 0) (r : Read A) (next : A → List Token → Read B) → FrontOf tokens P r →
-    ((front rest : List Token) (a : A) → front ++ rest ≡ tokens → P front a → FrontOf rest (λ more b. Q (front ++ more) b) (next a rest)) → FrontOf tokens Q (and_then tokens r next)
+pub and_then_at : {A B : Type 0} (tokens : List Token) (P : List Token → A → Type 0) (Q : List Token → B → Type 0) (r : Read A) (next : A → List Token → Read B)
+    → FrontOf tokens P r
+    → ((front rest : List Token) (a : A) → front ++ rest ≡ tokens → P front a → FrontOf rest (λ more b. Q (front ++ more) b) (next a rest))
+    → FrontOf tokens Q (and_then tokens r next)
 and_then_at tokens P Q No next f h = tt
 and_then_at tokens P Q (LeftOut kind) next f h = tt
 and_then_at tokens P Q (Fits a size) next f h =
-    let behind : FrontOf (f.front ++ f.rest) Q (further (length f.front) (next a f.rest)) = further_front f.front f.rest Q (next a f.rest) (h f.front f.rest a f.is f.holds) in
+    let behind : FrontOf (f.front ++ f.rest) Q (further (length f.front) (next a f.rest)) =
+    further_front f.front f.rest Q (next a f.rest) (h f.front f.rest a f.is f.holds) in
     let dropped : FrontOf (f.front ++ f.rest) Q (further (length f.front) (next a (drop (length f.front) (f.front ++ f.rest)))) =
     subst (λ (ts : List Token). FrontOf (f.front ++ f.rest) Q (further (length f.front) (next a ts))) (sym (drop-append_seam f.front f.rest)) behind in
     let sized : FrontOf (f.front ++ f.rest) Q (further size (next a (drop size (f.front ++ f.rest)))) =
     subst (λ (n : ℕ). FrontOf (f.front ++ f.rest) Q (further n (next a (drop n (f.front ++ f.rest))))) f.size_is dropped in
     subst (λ (ts : List Token). FrontOf ts Q (further size (next a (drop size ts)))) f.is sized
 
-pub and_then_front : {A B : Type 0} (tokens : List Token) (P : List Token → A → Type 0) (Q : List Token → B → Type 0) (r : Read A) (next : A → List Token → Read B) → FrontOf tokens P r →
-    ((front rest : List Token) (a : A) → P front a → FrontOf rest (λ more b. Q (front ++ more) b) (next a rest)) → FrontOf tokens Q (and_then tokens r next)
+pub and_then_front : {A B : Type 0} (tokens : List Token) (P : List Token → A → Type 0)
+    (Q : List Token → B → Type 0) (r : Read A) (next : A → List Token → Read B) → FrontOf tokens P r
+    → ((front rest : List Token) (a : A) → P front a → FrontOf rest (λ more b. Q (front ++ more) b) (next a rest)) → FrontOf tokens Q (and_then tokens r next)
 and_then_front tokens P Q r next f h = and_then_at tokens P Q r next f (λ front rest a is holds. h front rest a holds)
 
 -- what was read of all tokens
@@ -98,7 +104,8 @@ and_then_read front rest r a next e =
     ap (λ (x : Read _). and_then (front ++ rest) x next) e ∙ ap (λ (ts : List Token). further (length front) (next a ts)) (drop-append_seam front rest)
 
 -- behind so many tokens as were read all others were
-pub further_read : {A : Type 0} (front rest : List Token) (r : Read A) (a : A) → r ≡ Fits a (length rest) → further (length front) r ≡ Fits a (length (front ++ rest))
+pub further_read : {A : Type 0} (front rest : List Token) (r : Read A) (a : A)
+    → r ≡ Fits a (length rest) → further (length front) r ≡ Fits a (length (front ++ rest))
 further_read front rest r a e = ap (further (length front)) e ∙ ap (Fits a) (sym (length-append front rest))
 
 -- where nothing was read nothing is behind it

@@ -7,11 +7,11 @@ use Rattle.std.specs.Str.{bytes_eq, str_to_ascii_lowercase}
 use Rattle.s7_base.specs.Tokens.{is_same_word}
 use Rattle.s7_base.specs.declared.token.Token.{Token}
 use Rattle.digit_texts.specs.Digits.{kept_number}
-use Rattle.stl_statements.specs.Places.{Numbered, PlaceWord, block_place_at, digits_of, has_letters, letters_of, number_behind, numbered_at, place_at, place_behind, place_by, place_in, place_words, with_number}
-use Rattle.stl_statements.specs.Readers.{and_then, fitting, further}
-use Rattle.stl_statements.specs.Words.{is_word_kind}
-use Rattle.stl_statements.specs.declared.mnemonic.Read.{Read}
-use Rattle.stl_statements.specs.declared.mnemonic.Read.TheVariants.{Fits, LeftOut, No}
+use Rattle.stl_statement_grammar.specs.Places.{Numbered, PlaceWord, block_place_at, digits_of, has_letters, letters_of, number_behind, numbered_at, place_at, place_behind, place_by, place_in, place_words, with_number}
+use Rattle.stl_statement_grammar.specs.Readers.{and_then, fitting, further}
+use Rattle.stl_statement_grammar.specs.Words.{is_word_kind}
+use Rattle.stl_statement_grammar.specs.declared.mnemonic.Read.{Read}
+use Rattle.stl_statement_grammar.specs.declared.mnemonic.Read.TheVariants.{Fits, LeftOut, No}
 use Rattle.stl_places.proofs.PlaceTokens.{begins_place}
 use Rattle.stl_constants.proofs.Reading.{if_false, or_no}
 use Rattle.stl_constants.proofs.Tables.{find_unlisted}
@@ -64,11 +64,13 @@ no_place_begins word rest h =
     let p = or_parts (list_any (λ (row : PlaceWord). bytes_eq (str_to_ascii_lowercase letters) (str_to_ascii_lowercase row.word)) place_words)
     (bytes_eq (str_to_ascii_lowercase letters) (codes "db")) h in
     or_no (place_in place_words None (word ∷ rest)) (block_place_at (word ∷ rest))
-    (none_behind (word ∷ rest) letters (numbered_at (word ∷ rest)) (λ found more. place_by None (find (has_letters found.letters) place_words) found.number more)
+    (none_behind (word ∷ rest) letters (numbered_at (word ∷ rest))
+    (λ found more. place_by None (find (has_letters found.letters) place_words) found.number more)
     (numbered_letters word rest)
     (λ found more same.
     ap (λ (ls : List ℕ). place_by None (find (has_letters ls) place_words) found.number more) same
     ∙ ap (λ (o : Option PlaceWord). place_by None o found.number more) (find_unlisted (has_letters letters) place_words p.0)))
-    ∙ none_behind (word ∷ rest) letters (numbered_at (word ∷ rest)) (λ found more. if is_same_word found.letters (codes "DB") then place_behind found.number more else No)
+    ∙ none_behind (word ∷ rest) letters (numbered_at (word ∷ rest))
+    (λ found more. if is_same_word found.letters (codes "DB") then place_behind found.number more else No)
     (numbered_letters word rest)
     (λ found more same. if_false (is_same_word found.letters (codes "DB")) _ No (ap (λ (ls : List ℕ). is_same_word ls (codes "DB")) same ∙ p.1))

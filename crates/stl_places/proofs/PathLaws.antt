@@ -5,15 +5,15 @@ use Rattle.std.proofs.lemmas.Bool.{and_from, and_left, and_parts}
 use Rattle.std.proofs.lemmas.List.{append-nil, append_assoc, length-append}
 use Rattle.std.specs.Prelude.{codes, neg_ℤ, option_map}
 use Rattle.s7_base.specs.declared.token.Token.{Token}
-use Rattle.stl_statements.specs.Constants.{begins_glued}
+use Rattle.stl_statement_grammar.specs.Constants.{begins_glued}
 use Rattle.digit_texts.specs.Digits.{kept_number}
-use Rattle.stl_statements.specs.PathForms.{AreMany, IsIndices, IsNextIndex, IsPath, IsStep, IsWhole}
-use Rattle.stl_statements.specs.PathForms as form
-use Rattle.stl_statements.specs.Paths.{closed, component_at, element_at, indices_at, indices_behind, minus_number, next_index_at, number_word, path_at, plain_number, step_at, whole_at}
-use Rattle.stl_statements.specs.Readers.{fitting, further, read_as, repeated}
-use Rattle.stl_statements.specs.Words.{is_joined, is_joined_word, is_sign, is_word_kind}
-use Rattle.stl_statements.specs.declared.mnemonic.Read.{Read}
-use Rattle.stl_statements.specs.declared.mnemonic.Read.TheVariants.{Fits, LeftOut, No}
+use Rattle.stl_statement_grammar.specs.PathForms.{AreMany, IsIndices, IsNextIndex, IsPath, IsStep, IsWhole}
+use Rattle.stl_statement_grammar.specs.PathForms as form
+use Rattle.stl_statement_grammar.specs.Paths.{after_indices, component_at, element_at, indices_at, indices_behind, minus_number, next_index_at, number_word, path_at, plain_number, step_at, whole_at}
+use Rattle.stl_statement_grammar.specs.Readers.{fitting, further, read_as, all_items}
+use Rattle.stl_statement_grammar.specs.Words.{is_joined, is_joined_word, is_sign, is_word_kind}
+use Rattle.stl_statement_grammar.specs.declared.mnemonic.Read.{Read}
+use Rattle.stl_statement_grammar.specs.declared.mnemonic.Read.TheVariants.{Fits, LeftOut, No}
 use Rattle.stl_tree.specs.declared.raw.PathStep.{PathStep}
 use Rattle.stl_tree.specs.declared.raw.PathStep.TheVariants.{Index, Name}
 use Rattle.stl_places.proofs.Fronts.{Front, FrontOf, and_then_at, and_then_front, and_then_read, as_front, fitting_front, further_front, further_read, or_front, refined}
@@ -26,19 +26,20 @@ use Rattle.stl_places.proofs.Repeated.{IsNone, item_there, no_item}
 abbrev TakesTokens : {A : Type 0} → (List Token → A → Type 0) → Type 0
 TakesTokens {A = A} P = (front : List Token) (a : A) → P front a → 1 ≤ length front
 
-many_bounded : {A : Type 0} (read : List Token → Read A) (P : List Token → A → Type 0) → ((tokens : List Token) → FrontOf tokens P (read tokens)) → TakesTokens P →
-    (n : ℕ) (tokens : List Token) → length tokens ≤ n → FrontOf tokens (AreMany P) (repeated read 0 tokens)
+many_bounded : {A : Type 0} (read : List Token → Read A) (P : List Token → A → Type 0)
+    → ((tokens : List Token) → FrontOf tokens P (read tokens)) → TakesTokens P
+    → (n : ℕ) (tokens : List Token) → length tokens ≤ n → FrontOf tokens (AreMany P) (all_items read 0 tokens)
 many_bounded read P reads takes n [] h = record { front = []; rest = []; is = refl; size_is = refl; holds = form.none }
 many_bounded read P reads takes zero (token ∷ rest) h = absurd (omega (arith, h))
 many_bounded {A = A} read P reads takes (suc n) (token ∷ rest) h = by (read (token ∷ rest)) refl (λ more fewer. many_bounded read P reads takes n more fewer)
   where
-    alone : IsNone (read (token ∷ rest)) → FrontOf (token ∷ rest) (AreMany P) (repeated read 0 (token ∷ rest))
+    alone : IsNone (read (token ∷ rest)) → FrontOf (token ∷ rest) (AreMany P) (all_items read 0 (token ∷ rest))
     alone none =
         subst (λ (r : Read (List A)). FrontOf (token ∷ rest) (AreMany P) r) (sym (no_item read (token ∷ rest) none))
         (record { front = []; rest = token ∷ rest; is = refl; size_is = refl; holds = form.none })
 
-    by : (r : Read A) → read (token ∷ rest) ≡ r → ((more : List Token) → length more ≤ n → FrontOf more (AreMany P) (repeated read 0 more)) →
-        FrontOf (token ∷ rest) (AreMany P) (repeated read 0 (token ∷ rest))
+    by : (r : Read A) → read (token ∷ rest) ≡ r → ((more : List Token) → length more ≤ n → FrontOf more (AreMany P) (all_items read 0 more)) →
+        FrontOf (token ∷ rest) (AreMany P) (all_items read 0 (token ∷ rest))
     by No e next = alone (subst (λ (r : Read A). IsNone r) (sym e) tt)
     by (LeftOut kind) e next = alone (subst (λ (r : Read A). IsNone r) (sym e) tt)
     by (Fits a size) e next =
@@ -48,10 +49,11 @@ many_bounded {A = A} read P reads takes (suc n) (token ∷ rest) h = by (read (t
         let one : 1 ≤ size = omega (arith, some, f.size_is) in
         let most : size ≤ length (token ∷ rest) = omega (arith, sum, f.size_is) in
         subst (λ (r : Read (List A)). FrontOf (token ∷ rest) (AreMany P) r) (sym (item_there read (token ∷ rest) a size e one most))
-        (and_then_at (token ∷ rest) P (AreMany P) (Fits a size) (λ b more. read_as (λ items. b ∷ items) (repeated read 0 more)) f
+        (and_then_at (token ∷ rest) P (AreMany P) (Fits a size) (λ b more. read_as (λ items. b ∷ items) (all_items read 0 more)) f
         (λ front more b at is.
-        as_front more (λ items. b ∷ items) (AreMany P) (λ others items. AreMany P (front ++ others) items) (λ others left items split are. form.more front others b items is are)
-        (repeated read 0 more) (next more (shorter front more b at is))))
+        as_front more (λ items. b ∷ items) (AreMany P) (λ others items. AreMany P (front ++ others) items)
+        (λ others left items split are. form.more front others b items is are)
+        (all_items read 0 more) (next more (shorter front more b at is))))
       where
         shorter : (front more : List Token) (b : A) → front ++ more ≡ token ∷ rest → P front b → length more ≤ n
         shorter front more b at is =
@@ -59,8 +61,9 @@ many_bounded {A = A} read P reads takes (suc n) (token ∷ rest) h = by (read (t
             let some : 1 ≤ length front = takes front b is in
             omega (arith, sum, some, h)
 
-pub many_front : {A : Type 0} (read : List Token → Read A) (P : List Token → A → Type 0) → ((tokens : List Token) → FrontOf tokens P (read tokens)) → TakesTokens P →
-    (tokens : List Token) → FrontOf tokens (AreMany P) (repeated read 0 tokens)
+pub many_front : {A : Type 0} (read : List Token → Read A) (P : List Token → A → Type 0)
+    → ((tokens : List Token) → FrontOf tokens P (read tokens)) → TakesTokens P
+    → (tokens : List Token) → FrontOf tokens (AreMany P) (all_items read 0 tokens)
 many_front read P reads takes tokens = let same : length tokens ≤ length tokens = omega arith in many_bounded read P reads takes (length tokens) tokens same
 
 -- each form is read, whatever stands behind it
@@ -68,17 +71,18 @@ abbrev ReadsForms : {A : Type 0} → (List Token → Read A) → (List Token →
 ReadsForms {A = A} read P = (front : List Token) (a : A) → P front a → (rest : List Token) → read (front ++ rest) ≡ Fits a (length front)
 
 -- items are read up to where none stands
-pub many_read : {A : Type 0} (read : List Token → Read A) (P : List Token → A → Type 0) → ReadsForms read P → TakesTokens P → (tokens : List Token) (items : List A) → AreMany P tokens items →
-    (rest : List Token) → IsNone (read rest) → repeated read 0 (tokens ++ rest) ≡ Fits items (length tokens)
+pub many_read : {A : Type 0} (read : List Token → Read A) (P : List Token → A → Type 0)
+    → ReadsForms read P → TakesTokens P → (tokens : List Token) (items : List A) → AreMany P tokens items
+    → (rest : List Token) → IsNone (read rest) → all_items read 0 (tokens ++ rest) ≡ Fits items (length tokens)
 many_read read P reads takes tokens items form.none rest none = no_item read rest none
 many_read {A = A} read P reads takes tokens items (form.more front others item more is are) rest none =
     let whole : (front ++ others) ++ rest ≡ front ++ (others ++ rest) = append_assoc front others rest in
     let some : 1 ≤ length front = takes front item is in
     let fits : length front ≤ length (front ++ (others ++ rest)) = omega (arith, length-append front (others ++ rest)) in
-    ap (λ (ts : List Token). repeated read 0 ts) whole
+    ap (λ (ts : List Token). all_items read 0 ts) whole
     ∙ item_there read (front ++ (others ++ rest)) item (length front) (reads front item is (others ++ rest)) some fits
-    ∙ ap (λ (ts : List Token). further (length front) (read_as (λ xs. item ∷ xs) (repeated read 0 ts))) (drop-append_seam front (others ++ rest))
-    ∙ further_read front others (read_as (λ xs. item ∷ xs) (repeated read 0 (others ++ rest))) (item ∷ more)
+    ∙ ap (λ (ts : List Token). further (length front) (read_as (λ xs. item ∷ xs) (all_items read 0 ts))) (drop-append_seam front (others ++ rest))
+    ∙ further_read front others (read_as (λ xs. item ∷ xs) (all_items read 0 (others ++ rest))) (item ∷ more)
     (ap (read_as (λ xs. item ∷ xs)) (many_read read P reads takes others more are rest none))
 
 -- Whole numbers
@@ -93,7 +97,8 @@ whole_front tokens = by tokens
         let m = mapped pos (number_word first) i e in
         record { front = first ∷ []; rest = rest; is = refl; size_is = refl; holds = subst (IsWhole (first ∷ [])) m.made (form.plain first m.a m.found) })
 
-    minus : (first second : Token) (rest : List Token) → is_sign (codes "-") first ≡ true → FrontOf (first ∷ second ∷ rest) IsWhole (fitting 2 (minus_number second))
+    minus : (first second : Token) (rest : List Token) → is_sign (codes "-") first ≡ true
+        → FrontOf (first ∷ second ∷ rest) IsWhole (fitting 2 (minus_number second))
     minus first second rest sign =
         fitting_front (first ∷ second ∷ rest) 2 IsWhole (minus_number second)
         (λ i e.
@@ -137,7 +142,8 @@ next_front (comma ∷ rest) = by (is_sign (codes ",") comma) refl
     by false sign = tt
     by true sign =
         further_front (comma ∷ []) rest IsNextIndex (whole_at rest)
-        (refined rest IsWhole (λ more i. IsNextIndex (comma ∷ more) i) (λ more left i split is. form.next comma more i sign is) (whole_at rest) (whole_front rest))
+        (refined rest IsWhole (λ more i. IsNextIndex (comma ∷ more) i)
+        (λ more left i split is. form.next comma more i sign is) (whole_at rest) (whole_front rest))
 
 next_takes : TakesTokens IsNextIndex
 next_takes front i (form.next comma rest k sign is) = omega arith
@@ -150,7 +156,7 @@ next_read front i (form.next comma rest k sign is) behind =
     size = let same : 1 + length rest ≡ length (comma ∷ rest) = omega arith in ap (Fits k) same
 
 closed_front : (front rest tokens : List Token) (index : ℤ) (others : List ℤ) → IsWhole front index → AreMany IsNextIndex rest others →
-    FrontOf tokens (λ more all. IsIndices (front ++ (rest ++ more)) all) (closed (index ∷ others) tokens)
+    FrontOf tokens (λ more all. IsIndices (front ++ (rest ++ more)) all) (after_indices (index ∷ others) tokens)
 closed_front front rest [] index others whole are = tt
 closed_front front rest (close ∷ left) index others whole are = by (is_sign (codes "]") close) refl
   where
@@ -163,7 +169,8 @@ indices_front : (tokens : List Token) → FrontOf tokens IsIndices (indices_at t
 indices_front tokens =
     and_then_front tokens IsWhole IsIndices (whole_at tokens) (λ index rest. indices_behind index rest) (whole_front tokens)
     (λ front rest index whole.
-    and_then_front rest (AreMany IsNextIndex) (λ more all. IsIndices (front ++ more) all) (repeated next_index_at 0 rest) (λ others left. closed (index ∷ others) left)
+    and_then_front rest (AreMany IsNextIndex) (λ more all. IsIndices (front ++ more) all)
+    (all_items next_index_at 0 rest) (λ others left. after_indices (index ∷ others) left)
     (many_front next_index_at IsNextIndex next_front next_takes rest)
     (λ more left others are. closed_front front more left index others whole are))
 
@@ -181,9 +188,9 @@ indices_read tokens all (form.indices front rest close index others whole are si
     ∙ and_then_read front (rest ++ (close ∷ left)) (whole_at (front ++ (rest ++ (close ∷ left)))) index (λ i more. indices_behind i more)
     (whole_read front index whole (rest ++ (close ∷ left)))
     ∙ further_read front (rest ++ (close ∷ [])) (indices_behind index (rest ++ (close ∷ left))) (index ∷ others)
-    (and_then_read rest (close ∷ left) (repeated next_index_at 0 (rest ++ (close ∷ left))) others (λ is more. closed (index ∷ is) more)
+    (and_then_read rest (close ∷ left) (all_items next_index_at 0 (rest ++ (close ∷ left))) others (λ is more. after_indices (index ∷ is) more)
     (many_read next_index_at IsNextIndex next_read next_takes rest others are (close ∷ left) (no_next close left sign))
-    ∙ further_read rest (close ∷ []) (closed (index ∷ others) (close ∷ left)) (index ∷ others) (if_true (is_sign (codes "]") close) _ No sign))
+    ∙ further_read rest (close ∷ []) (after_indices (index ∷ others) (close ∷ left)) (index ∷ others) (if_true (is_sign (codes "]") close) _ No sign))
 
 -- Steps
 
@@ -192,7 +199,8 @@ component_front [] = tt
 component_front (a ∷ []) = tt
 component_front (point ∷ word ∷ rest) = by (is_joined (codes ".") point && is_joined_word word) refl
   where
-    by : (b : Bool) → (is_joined (codes ".") point && is_joined_word word) ≡ b → FrontOf (point ∷ word ∷ rest) IsStep (if b then Fits (Name word.text) 2 else No)
+    by : (b : Bool) → (is_joined (codes ".") point && is_joined_word word) ≡ b
+        → FrontOf (point ∷ word ∷ rest) IsStep (if b then Fits (Name word.text) 2 else No)
     by true t =
         let p = and_parts (is_joined (codes ".") point) (is_joined_word word) t in
         record { front = point ∷ word ∷ []; rest = rest; is = refl; size_is = refl; holds = form.component point word p.0 p.1 }
@@ -206,7 +214,8 @@ element_front (first ∷ rest) = by (is_sign (codes "[") first) refl
     by false sign = tt
     by true sign =
         further_front (first ∷ []) rest IsStep (read_as Index (indices_at rest))
-        (as_front rest Index IsIndices (λ more step. IsStep (first ∷ more) step) (λ more left all split is. form.element first more all sign is) (indices_at rest) (indices_front rest))
+        (as_front rest Index IsIndices (λ more step. IsStep (first ∷ more) step)
+        (λ more left all split is. form.element first more all sign is) (indices_at rest) (indices_front rest))
 
 step_front : (tokens : List Token) → FrontOf tokens IsStep (step_at tokens)
 step_front tokens = or_front tokens IsStep (component_at tokens) (element_at tokens) (component_front tokens) (element_front tokens)
@@ -234,23 +243,27 @@ pub path_front : (tokens : List Token) → FrontOf tokens IsPath (path_at tokens
 path_front [] = tt
 path_front (word ∷ rest) = by (is_word_kind word.kind) refl
   where
-    by : (b : Bool) → is_word_kind word.kind ≡ b → FrontOf (word ∷ rest) IsPath (if b then further 1 (read_as (λ steps. Name word.text ∷ steps) (repeated step_at 0 rest)) else No)
+    by : (b : Bool) → is_word_kind word.kind ≡ b
+        → FrontOf (word ∷ rest) IsPath (if b then further 1 (read_as (λ steps. Name word.text ∷ steps) (all_items step_at 0 rest)) else No)
     by false kind = tt
     by true kind =
-        further_front (word ∷ []) rest IsPath (read_as (λ steps. Name word.text ∷ steps) (repeated step_at 0 rest))
-        (as_front rest (λ steps. Name word.text ∷ steps) (AreMany IsStep) (λ more steps. IsPath (word ∷ more) steps) (λ more left steps split are. form.path word more steps kind are)
-        (repeated step_at 0 rest) (many_front step_at IsStep step_front step_takes rest))
+        further_front (word ∷ []) rest IsPath (read_as (λ steps. Name word.text ∷ steps) (all_items step_at 0 rest))
+        (as_front rest (λ steps. Name word.text ∷ steps) (AreMany IsStep) (λ more steps. IsPath (word ∷ more) steps)
+        (λ more left steps split are. form.path word more steps kind are)
+        (all_items step_at 0 rest) (many_front step_at IsStep step_front step_takes rest))
 
 -- a path is read up to where no step stands
-pub path_read_before : (tokens : List Token) (steps : List PathStep) → IsPath tokens steps → (rest : List Token) → IsNone (step_at rest) → path_at (tokens ++ rest) ≡ Fits steps (length tokens)
+pub path_read_before : (tokens : List Token) (steps : List PathStep) → IsPath tokens steps
+    → (rest : List Token) → IsNone (step_at rest) → path_at (tokens ++ rest) ≡ Fits steps (length tokens)
 path_read_before tokens all (form.path word more steps kind are) rest none =
     if_true (is_word_kind word.kind) _ No kind
-    ∙ further_read (word ∷ []) more (read_as (λ xs. Name word.text ∷ xs) (repeated step_at 0 (more ++ rest))) (Name word.text ∷ steps)
+    ∙ further_read (word ∷ []) more (read_as (λ xs. Name word.text ∷ xs) (all_items step_at 0 (more ++ rest))) (Name word.text ∷ steps)
     (ap (read_as (λ xs. Name word.text ∷ xs)) (many_read step_at IsStep step_read step_takes more steps are rest none))
 
 pub path_read : (tokens : List Token) (steps : List PathStep) → IsPath tokens steps → path_at tokens ≡ Fits steps (length tokens)
 path_read tokens steps is = subst (λ (ts : List Token). path_at ts ≡ Fits steps (length tokens)) (append-nil tokens) (path_read_before tokens steps is [] tt)
 
 -- a path in front of some tokens that begin without a blank begins so too
-pub path_glued : (more behind tokens : List Token) (steps : List PathStep) → IsPath more steps → more ++ behind ≡ tokens → begins_glued tokens ≡ true → begins_glued more ≡ true
+pub path_glued : (more behind tokens : List Token) (steps : List PathStep) → IsPath more steps
+    → more ++ behind ≡ tokens → begins_glued tokens ≡ true → begins_glued more ≡ true
 path_glued more behind tokens all (form.path word rest steps kind are) at glued = ap begins_glued at ∙ glued

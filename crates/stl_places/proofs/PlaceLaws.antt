@@ -9,14 +9,14 @@ use Rattle.s7_base.specs.Tokens.{is_same_word}
 use Rattle.s7_base.specs.declared.token.Token.{Token}
 use Rattle.s7_base.specs.declared.word.Width.{Width}
 use Rattle.s7_base.specs.declared.word.Width.TheVariants as width
-use Rattle.stl_statements.specs.Constants.{begins_glued}
+use Rattle.stl_statement_grammar.specs.Constants.{begins_glued}
 use Rattle.digit_texts.specs.Digits.{kept_number}
-use Rattle.stl_statements.specs.PlaceForms.{IsBitBehind, IsNumbered, IsPlace, IsPlaceIn, alone, in_block, in_one, in_two, placed}
-use Rattle.stl_statements.specs.PlaceForms as form
-use Rattle.stl_statements.specs.Places.{Numbered, PlaceWord, bit_at, bit_behind, bit_number, block_place_at, db_words, digits_of, has_letters, letters_of, number_behind, numbered_at, place_at, place_behind, place_by, place_in, place_of, place_words, with_number, with_word}
-use Rattle.stl_statements.specs.Readers.{fitting, further, read_as}
-use Rattle.stl_statements.specs.Words.{is_joined, is_joined_word, is_word_kind}
-use Rattle.stl_statements.specs.declared.mnemonic.Read.TheVariants.{Fits, No}
+use Rattle.stl_statement_grammar.specs.PlaceForms.{IsBitBehind, IsNumbered, IsPlace, IsPlaceIn, alone, in_block, in_one, in_two, placed}
+use Rattle.stl_statement_grammar.specs.PlaceForms as form
+use Rattle.stl_statement_grammar.specs.Places.{Numbered, PlaceWord, bit_at, bit_behind, bit_number, block_place_at, db_words, digits_of, has_letters, letters_of, number_behind, numbered_at, place_at, place_behind, place_by, place_in, place_of, place_words, with_number, with_word}
+use Rattle.stl_statement_grammar.specs.Readers.{fitting, further, read_as}
+use Rattle.stl_statement_grammar.specs.Words.{is_joined, is_joined_word, is_word_kind}
+use Rattle.stl_statement_grammar.specs.declared.mnemonic.Read.TheVariants.{Fits, No}
 use Rattle.stl_tree.specs.declared.raw.RawPlace.{RawPlace}
 use Rattle.stl_places.proofs.Fronts.{Front, FrontOf, and_then_front, and_then_none, and_then_read, as_front, fitting_front, further_front, further_read, or_front, refined}
 use Rattle.stl_constants.proofs.Reading.{alike, if_true, mapped, or_no, or_this, same_letters, taken}
@@ -84,7 +84,8 @@ bit_front width.Dword tokens = record { front = []; rest = tokens; is = refl; si
 
 place_in_front : (table : List PlaceWord) (block : Option ℕ) (tokens : List Token) → FrontOf tokens (IsPlaceIn table block) (place_in table block tokens)
 place_in_front table block tokens =
-    and_then_front tokens IsNumberOf (IsPlaceIn table block) (numbered_at tokens) (λ found rest. place_by block (find (has_letters found.letters) table) found.number rest)
+    and_then_front tokens IsNumberOf (IsPlaceIn table block) (numbered_at tokens)
+    (λ found rest. place_by block (find (has_letters found.letters) table) found.number rest)
     (numbered_front tokens) (λ front rest found is. by front rest found is (find (has_letters found.letters) table) refl)
   where
     by : (front rest : List Token) (found : Numbered) → IsNumberOf front found → (o : Option PlaceWord) → find (has_letters found.letters) table ≡ o →
@@ -98,14 +99,16 @@ place_in_front table block tokens =
         (bit_behind word.width rest) (bit_front word.width rest)
 
 -- tokens of a place that stand in front of some that begin without a blank do so too
-place_glued : (table : List PlaceWord) (block : Option ℕ) (more behind tokens : List Token) (place : RawPlace) → IsPlaceIn table block more place → more ++ behind ≡ tokens →
-    begins_glued tokens ≡ true → begins_glued more ≡ true
+place_glued : (table : List PlaceWord) (block : Option ℕ) (more behind tokens : List Token) (place : RawPlace)
+    → IsPlaceIn table block more place → more ++ behind ≡ tokens
+    → begins_glued tokens ≡ true → begins_glued more ≡ true
 place_glued table block more behind tokens place (placed t b front rest letters word byte x is among same is_bit) at glued = by front rest letters byte is at
   where
     heads : (w : Token) (more : List Token) → w ∷ more ≡ tokens → w.glued ≡ true
     heads w more e = ap begins_glued e ∙ glued
 
-    by : (front rest : List Token) (letters : List ℕ) (n : ℕ) → IsNumbered front letters n → (front ++ rest) ++ behind ≡ tokens → begins_glued (front ++ rest) ≡ true
+    by : (front rest : List Token) (letters : List ℕ) (n : ℕ) → IsNumbered front letters n
+        → (front ++ rest) ++ behind ≡ tokens → begins_glued (front ++ rest) ≡ true
     by front rest letters n (in_one w k kind number) e = heads w (rest ++ behind) e
     by front rest letters n (in_two w u k kind none digits number) e = heads w (u ∷ (rest ++ behind)) e
 
@@ -115,16 +118,18 @@ block_front tokens =
     (λ found rest. if is_same_word found.letters (codes "DB") then place_behind found.number rest else No)
     (numbered_front tokens) (λ front rest found is. by front rest found is (is_same_word found.letters (codes "DB")) refl)
   where
-    pointed : (front : List Token) (found : Numbered) → IsNumberOf front found → is_same_word found.letters (codes "DB") ≡ true → (point : Token) (rest : List Token) → (b : Bool) →
-        (is_joined (codes ".") point && begins_glued rest) ≡ b →
-        FrontOf (point ∷ rest) (λ more place. IsPlace (front ++ more) place) (if b then further 1 (place_in db_words (Some found.number) rest) else No)
+    pointed : (front : List Token) (found : Numbered) → IsNumberOf front found
+        → is_same_word found.letters (codes "DB") ≡ true → (point : Token) (rest : List Token) → (b : Bool)
+        → (is_joined (codes ".") point && begins_glued rest) ≡ b
+        → FrontOf (point ∷ rest) (λ more place. IsPlace (front ++ more) place) (if b then further 1 (place_in db_words (Some found.number) rest) else No)
     pointed front found is db point rest false e = tt
     pointed front found is db point rest true e =
         let p = and_parts (is_joined (codes ".") point) (begins_glued rest) e in
         further_front (point ∷ []) rest (λ more place. IsPlace (front ++ more) place) (place_in db_words (Some found.number) rest)
         (refined rest (IsPlaceIn db_words (Some found.number)) (λ more place. IsPlace (front ++ (point ∷ more)) place)
         (λ more behind place at in_db.
-        in_block front found.letters found.number point more place is db p.0 (place_glued db_words (Some found.number) more behind rest place in_db at p.1) in_db)
+        in_block front found.letters found.number point more place is db p.0
+        (place_glued db_words (Some found.number) more behind rest place in_db at p.1) in_db)
         (place_in db_words (Some found.number) rest) (place_in_front db_words (Some found.number) rest))
 
     behind : (front : List Token) (found : Numbered) → IsNumberOf front found → is_same_word found.letters (codes "DB") ≡ true → (rest : List Token) →
@@ -140,7 +145,8 @@ block_front tokens =
 pub place_front : (tokens : List Token) → FrontOf tokens IsPlace (place_at tokens)
 place_front tokens =
     or_front tokens IsPlace (place_in place_words None tokens) (block_place_at tokens)
-    (refined tokens (IsPlaceIn place_words None) IsPlace (λ front rest place at is. alone front place is) (place_in place_words None tokens) (place_in_front place_words None tokens))
+    (refined tokens (IsPlaceIn place_words None) IsPlace (λ front rest place at is. alone front place is)
+    (place_in place_words None tokens) (place_in_front place_words None tokens))
     (block_front tokens)
 
 -- From a form to what is read of it
@@ -149,15 +155,18 @@ pub numbered_read : (front : List Token) (letters : List ℕ) (n : ℕ) → IsNu
     numbered_at (front ++ rest) ≡ Fits (record { letters = letters; number = n }) (length front)
 numbered_read front letters n (in_one word k kind number) rest = if_true (is_word_kind word.kind) _ No kind ∙ by (digits_of word.text) number
   where
-    by : (digits : List ℕ) → kept_number digits ≡ Some k → number_behind (letters_of word.text) digits rest ≡ Fits (record { letters = letters_of word.text; number = k }) 1
+    by : (digits : List ℕ) → kept_number digits ≡ Some k
+        → number_behind (letters_of word.text) digits rest ≡ Fits (record { letters = letters_of word.text; number = k }) 1
     by [] e = absurd cc
     by (d ∷ ds) e = ap (fitting 1) (ap (option_map (λ (n : ℕ). record { letters = letters_of word.text; number = n })) e)
 numbered_read front letters n (in_two word next k kind none digits number) rest =
     if_true (is_word_kind word.kind) _ No kind
     ∙ ap (λ (ds : List ℕ). number_behind (letters_of word.text) ds (next ∷ rest)) none
-    ∙ ap (fitting 2) (if_true (is_word_kind next.kind) _ None digits ∙ ap (option_map (λ (n : ℕ). record { letters = letters_of word.text; number = n })) number)
+    ∙ ap (fitting 2)
+    (if_true (is_word_kind next.kind) _ None digits ∙ ap (option_map (λ (n : ℕ). record { letters = letters_of word.text; number = n })) number)
 
-pub bit_read : (w : Width) (tokens : List Token) (x : ℕ) → IsBitBehind w tokens x → (behind : List Token) → bit_behind w (tokens ++ behind) ≡ Fits x (length tokens)
+pub bit_read : (w : Width) (tokens : List Token) (x : ℕ) → IsBitBehind w tokens x
+    → (behind : List Token) → bit_behind w (tokens ++ behind) ≡ Fits x (length tokens)
 bit_read w tokens x (form.bit point number k at word is) behind =
     ap (fitting 2) (if_true (is_joined (codes ".") point && is_joined_word number) _ None (and_from _ _ at word) ∙ is)
 bit_read w tokens x form.byte behind = refl
@@ -171,14 +180,16 @@ same_words a b = is_same_word b.word a.word
 both_named : (letters : List ℕ) (a b : PlaceWord) → has_letters letters a ≡ true → has_letters letters b ≡ true → same_words a b ≡ true
 both_named letters a b p q = alike letters a.word b.word p q
 
-place_in_read : (table : List PlaceWord) (block : Option ℕ) (tokens : List Token) (place : RawPlace) → are_apart same_words table ≡ true → IsPlaceIn table block tokens place →
-    (behind : List Token) → place_in table block (tokens ++ behind) ≡ Fits place (length tokens)
+place_in_read : (table : List PlaceWord) (block : Option ℕ) (tokens : List Token) (place : RawPlace)
+    → are_apart same_words table ≡ true → IsPlaceIn table block tokens place
+    → (behind : List Token) → place_in table block (tokens ++ behind) ≡ Fits place (length tokens)
 place_in_read table block tokens place apart (placed t b front rest letters word byte x is among same is_bit) behind =
     ap (place_in t b) (append_assoc front rest behind)
     ∙ and_then_read front (rest ++ behind) (numbered_at (front ++ (rest ++ behind))) (record { letters = letters; number = byte })
     (λ found more. place_by b (find (has_letters found.letters) t) found.number more) (numbered_read front letters byte is (rest ++ behind))
     ∙ further_read front rest (place_by b (find (has_letters letters) t) byte (rest ++ behind)) (place_of b word byte x)
-    (ap (λ (o : Option PlaceWord). place_by b o byte (rest ++ behind)) (found_apart (has_letters letters) same_words t word apart (both_named letters) among same)
+    (ap (λ (o : Option PlaceWord). place_by b o byte (rest ++ behind))
+    (found_apart (has_letters letters) same_words t word apart (both_named letters) among same)
     ∙ ap (read_as (place_of b word byte)) (bit_read word.width rest x is_bit behind))
 
 -- DB is no word of a place
@@ -200,7 +211,8 @@ pub glued_before : (tokens behind : List Token) → begins_glued tokens ≡ true
 glued_before [] behind h = absurd cc
 glued_before (first ∷ rest) behind h = h
 
-pub place_at_read : (tokens : List Token) (place : RawPlace) → IsPlace tokens place → (behind : List Token) → place_at (tokens ++ behind) ≡ Fits place (length tokens)
+pub place_at_read : (tokens : List Token) (place : RawPlace) → IsPlace tokens place
+    → (behind : List Token) → place_at (tokens ++ behind) ≡ Fits place (length tokens)
 place_at_read tokens place (alone ts p is) behind =
     or_this (place_in place_words None (ts ++ behind)) (block_place_at (ts ++ behind)) p (length ts) (place_in_read place_words None ts p refl is behind)
 place_at_read tokens place (in_block front letters n point rest p is db at glued in_db) behind =

@@ -13,15 +13,15 @@ use Rattle.std.specs.Str.{bytes_eq, str_to_ascii_lowercase}
 use Rattle.s7_base.specs.Tokens.{is_between, is_same_word}
 use Rattle.s7_base.specs.declared.token.Token.{Token}
 use Rattle.s7_base.specs.declared.word.Width.{Width}
-use Rattle.stl_statements.specs.ConstantForms.{IsAmong}
-use Rattle.stl_statements.specs.Constants.{constant_at, plain, plain_at, prefixes, marked_at, text_at}
+use Rattle.stl_statement_grammar.specs.ConstantForms.{IsAmong}
+use Rattle.stl_statement_grammar.specs.Constants.{constant_at, plain, plain_at, prefixes, marked_at, text_at}
 use Rattle.digit_texts.specs.Digits.{are_digits, number_up_to}
-use Rattle.stl_statements.specs.PlaceForms.{IsBitBehind, IsNumbered, IsPlace, IsPlaceIn, alone, in_block, in_one, in_two, placed}
-use Rattle.stl_statements.specs.PlaceForms as form
-use Rattle.stl_statements.specs.Places.{PlaceWord, digits_of, is_no_digit, letters_of, place_words}
-use Rattle.stl_statements.specs.Readers.{fitting, read_as}
-use Rattle.stl_statements.specs.Words.{is_sign, is_word, is_word_kind}
-use Rattle.stl_statements.specs.declared.mnemonic.Read.TheVariants.{No}
+use Rattle.stl_statement_grammar.specs.PlaceForms.{IsBitBehind, IsNumbered, IsPlace, IsPlaceIn, alone, in_block, in_one, in_two, placed}
+use Rattle.stl_statement_grammar.specs.PlaceForms as form
+use Rattle.stl_statement_grammar.specs.Places.{PlaceWord, digits_of, is_no_digit, letters_of, place_words}
+use Rattle.stl_statement_grammar.specs.Readers.{fitting, read_as}
+use Rattle.stl_statement_grammar.specs.Words.{is_sign, is_word, is_word_kind}
+use Rattle.stl_statement_grammar.specs.declared.mnemonic.Read.TheVariants.{No}
 use Rattle.stl_tree.specs.declared.raw.RawPlace.{RawPlace}
 use Rattle.stl_constants.proofs.ConstantLaws.{AreUnmarked, no_mark, unmarked_no_text, word_is}
 use Rattle.stl_constants.proofs.ConstantLaws as are
@@ -42,7 +42,8 @@ letters_low text =
     size : (text : List ℕ) → prefix_len is_no_digit (str_to_ascii_lowercase text) ≡ prefix_len is_no_digit text
     size [] = refl
     size (c ∷ cs) =
-        ap (λ (b : Bool). cond b (1 + prefix_len is_no_digit (str_to_ascii_lowercase cs)) 0) (digit_low c) ∙ ap (λ (n : ℕ). cond (is_no_digit c) (1 + n) 0) (size cs)
+        ap (λ (b : Bool). cond b (1 + prefix_len is_no_digit (str_to_ascii_lowercase cs)) 0) (digit_low c)
+        ∙ ap (λ (n : ℕ). cond (is_no_digit c) (1 + n) 0) (size cs)
 
 -- letters, in lower case, with which a place begins
 abbrev pub is_begin : List ℕ → Bool
@@ -71,7 +72,8 @@ points [] = true
 points (first ∷ rest) = is_sign (codes ".") first
 
 -- the letters of a word are those of its text in lower case
-pub register_letters : (first : Token) (word : List ℕ) → is_word word first ≡ true → is_begin (letters_of (str_to_ascii_lowercase word)) ≡ false → begins_place (letters_of first.text) ≡ false
+pub register_letters : (first : Token) (word : List ℕ) → is_word word first ≡ true
+    → is_begin (letters_of (str_to_ascii_lowercase word)) ≡ false → begins_place (letters_of first.text) ≡ false
 register_letters first word is none =
     let p = and_parts (is_word_kind first.kind) (is_same_word first.text word) is in
     ap is_begin (letters_low first.text ∙ ap (λ (low : List ℕ). letters_of low) (same_letters first.text word p.1)) ∙ none
@@ -97,7 +99,8 @@ lettered (c ∷ cs) e = by (is_between 48 57 c) refl
         absurd cc
     by false t = record { no_digits = and_left _ _ t; no_number = if_false (is_between 48 57 c && nat_le (0 * 10 + (c - 48)) 32767) _ None (and_left _ _ t) }
 
-begun : (front rest : List Token) (letters : List ℕ) (n : ℕ) → IsNumbered front letters n → begins_place letters ≡ true → points rest ≡ true → Begun (front ++ rest)
+begun : (front rest : List Token) (letters : List ℕ) (n : ℕ) → IsNumbered front letters n
+    → begins_place letters ≡ true → points rest ≡ true → Begun (front ++ rest)
 begun front rest letters n (in_one word k kind number) known at =
     record { first = word; rest = rest; is = refl; kind = kind; known = known; unmarked = by rest at }
   where
@@ -119,7 +122,8 @@ itself xs = (bytes_eq-Decides xs xs).1 refl
 word_known : (word : PlaceWord) → IsAmong word place_words → begins_place word.word ≡ true
 word_known word among =
     or_left (list_any (λ (row : PlaceWord). bytes_eq (str_to_ascii_lowercase word.word) (str_to_ascii_lowercase row.word)) place_words) _
-    (any_at (λ (row : PlaceWord). bytes_eq (str_to_ascii_lowercase word.word) (str_to_ascii_lowercase row.word)) place_words word among (itself (str_to_ascii_lowercase word.word)))
+    (any_at (λ (row : PlaceWord). bytes_eq (str_to_ascii_lowercase word.word) (str_to_ascii_lowercase row.word)) place_words word among
+    (itself (str_to_ascii_lowercase word.word)))
 
 placed_begun : (tokens : List Token) (place : RawPlace) → IsPlaceIn place_words None tokens place → Begun tokens
 placed_begun tokens place (placed table b front rest letters word byte x is among same is_bit) =
@@ -179,8 +183,11 @@ place_no_word tokens place word is none =
     subst (λ (ts : List Token). word_is word ts ≡ false) b.is (and_right _ _ (other_text b.first.text word b.known none))
 
 -- nor one whose letters are none of a place
-pub place_no_register : (tokens : List Token) (place : RawPlace) (word : List ℕ) → IsPlace tokens place → is_begin (letters_of (str_to_ascii_lowercase word)) ≡ false → word_is word tokens ≡ false
-place_no_register tokens place word is none = let b = place_begun tokens place is in subst (λ (ts : List Token). word_is word ts ≡ false) b.is (by b.first b.known (is_word word b.first) refl)
+pub place_no_register : (tokens : List Token) (place : RawPlace) (word : List ℕ) → IsPlace tokens place
+    → is_begin (letters_of (str_to_ascii_lowercase word)) ≡ false → word_is word tokens ≡ false
+place_no_register tokens place word is none =
+    let b = place_begun tokens place is in
+    subst (λ (ts : List Token). word_is word ts ≡ false) b.is (by b.first b.known (is_word word b.first) refl)
   where
     by : (first : Token) → begins_place (letters_of first.text) ≡ true → (b : Bool) → is_word word first ≡ b → b ≡ false
     by first known true e = let clash : true ≡ false = sym known ∙ register_letters first word e none in absurd cc
@@ -198,12 +205,15 @@ place_no_constant tokens place is =
     let b = place_begun tokens place is in
     subst (λ (ts : List Token). constant_at ts ≡ No) b.is (by b.first b.rest b.kind (lettered b.first.text b.known).no_number b.unmarked)
   where
-    by : (first : Token) (rest : List Token) → is_word_kind first.kind ≡ true → number_up_to 32767 first.text ≡ None → AreUnmarked (first ∷ rest) → constant_at (first ∷ rest) ≡ No
+    by : (first : Token) (rest : List Token) → is_word_kind first.kind ≡ true
+        → number_up_to 32767 first.text ≡ None → AreUnmarked (first ∷ rest) → constant_at (first ∷ rest) ≡ No
     by first rest kind none unmarked =
         let plain_is : plain_at (first ∷ rest) ≡ No =
         ap (read_as plain)
         (if_false (is_sign (codes "-") first) _ _ (no_sign (codes "-") first kind) ∙ ap (fitting 1) (if_true (is_word_kind first.kind) _ None kind ∙ none)) in
-        or_no (text_at (first ∷ rest)) _ (unmarked_no_text (first ∷ rest) unmarked) ∙ or_no (marked_at prefixes (first ∷ rest)) _ (no_mark prefixes (first ∷ rest) unmarked) ∙ plain_is
+        or_no (text_at (first ∷ rest)) _ (unmarked_no_text (first ∷ rest) unmarked)
+        ∙ or_no (marked_at prefixes (first ∷ rest)) _ (no_mark prefixes (first ∷ rest) unmarked)
+        ∙ plain_is
 
 -- a place is made of some tokens
 pub place_there : (tokens : List Token) (place : RawPlace) → IsPlace tokens place → tokens ≡ [] → ⊥

@@ -8,19 +8,19 @@ use Rattle.s7_base.specs.Tokens.{is_between}
 use Rattle.s7_base.specs.declared.token.Token.{Token}
 use Rattle.s7_base.specs.declared.word.Width.{Width}
 use Rattle.s7_base.specs.declared.word.Width.TheVariants as width
-use Rattle.stl_statements.specs.ConstantForms.{IsAmong}
-use Rattle.stl_statements.specs.Constants.{begins_glued, name_behind}
+use Rattle.stl_statement_grammar.specs.ConstantForms.{IsAmong}
+use Rattle.stl_statement_grammar.specs.Constants.{begins_glued, name_behind}
 use Rattle.digit_texts.specs.Digits.{are_digits, kept_number}
-use Rattle.stl_statements.specs.Paths.{number_word}
-use Rattle.stl_statements.specs.PlaceForms.{IsBitBehind, IsPlace}
-use Rattle.stl_statements.specs.Places.{PlaceWord, bit_at, is_no_digit, letters_of, place_at, place_words}
-use Rattle.stl_statements.specs.PointerForms.{IsBehindHash, IsCrossing, IsIndirect, IsMemory, IsOffset, IsOffsetConstant, IsPointer, IsPointerConstant, IsRegister}
-use Rattle.stl_statements.specs.PointerForms as form
-use Rattle.stl_statements.specs.Pointers.{behind_hash, closed, closing, crossing_at, crossing_by, has_word, held_by, indirect_at, indirect_by, is_held, memory_at, offset_at, offset_behind, offset_by, pointer, pointer_at, pointer_behind, pointer_to, pointer_with, register_at, register_named, register_with, width_named}
-use Rattle.stl_statements.specs.Readers.{fitting, further, or_else, read_as}
-use Rattle.stl_statements.specs.Words.{is_joined, is_sign, is_word, is_word_kind}
-use Rattle.stl_statements.specs.declared.mnemonic.Read.{Read}
-use Rattle.stl_statements.specs.declared.mnemonic.Read.TheVariants.{Fits, LeftOut, No}
+use Rattle.stl_statement_grammar.specs.Paths.{number_word}
+use Rattle.stl_statement_grammar.specs.PlaceForms.{IsBitBehind, IsPlace}
+use Rattle.stl_statement_grammar.specs.Places.{PlaceWord, bit_at, is_no_digit, letters_of, place_at, place_words}
+use Rattle.stl_statement_grammar.specs.PointerForms.{IsBehindHash, IsCrossing, IsIndirect, IsMemory, IsOffset, IsOffsetConstant, IsPointer, IsPointerConstant, IsRegister}
+use Rattle.stl_statement_grammar.specs.PointerForms as form
+use Rattle.stl_statement_grammar.specs.Pointers.{behind_hash, with_closing, closing, crossing_at, crossing_by, has_word, held_by, indirect_at, indirect_by, is_held, memory_at, offset_at, offset_behind, offset_by, pointer, pointer_at, pointer_behind, pointer_to, pointer_with, register_at, register_named, register_with, width_named}
+use Rattle.stl_statement_grammar.specs.Readers.{fitting, further, or_else, read_as}
+use Rattle.stl_statement_grammar.specs.Words.{is_joined, is_sign, is_word, is_word_kind}
+use Rattle.stl_statement_grammar.specs.declared.mnemonic.Read.{Read}
+use Rattle.stl_statement_grammar.specs.declared.mnemonic.Read.TheVariants.{Fits, LeftOut, No}
 use Rattle.stl_tree.specs.declared.program.Ar.{Ar}
 use Rattle.stl_tree.specs.declared.program.Ar.TheVariants as ar
 use Rattle.stl_tree.specs.declared.raw.RawOperand.{RawOperand}
@@ -77,8 +77,9 @@ pointer_front tokens =
         fitting_front tokens size IsPointer (pointer_to place)
         (λ p to. record { front = f.front; rest = f.rest; is = f.is; size_is = f.size_is; holds = form.in_area f.front place p f.holds to })
 
-hash_front : (IsSuch : List Token → RawPointer → Type 0) (read : List Token → Read RawPointer) → ((tokens : List Token) → FrontOf tokens IsSuch (read tokens)) →
-    ((tokens : List Token) (p : RawPointer) → IsSuch tokens p → tokens ≡ [] → ⊥) → (tokens : List Token) → FrontOf tokens (IsBehindHash IsSuch) (behind_hash read tokens)
+hash_front : (IsSuch : List Token → RawPointer → Type 0) (read : List Token → Read RawPointer) → ((tokens : List Token) → FrontOf tokens IsSuch (read tokens))
+    → ((tokens : List Token) (p : RawPointer) → IsSuch tokens p → tokens ≡ [] → ⊥)
+    → (tokens : List Token) → FrontOf tokens (IsBehindHash IsSuch) (behind_hash read tokens)
 hash_front IsSuch read reads there [] = tt
 hash_front IsSuch read reads there (word ∷ []) = tt
 hash_front IsSuch read reads there (word ∷ hash ∷ rest) = by (is_word (codes "P") word && is_joined (codes "#") hash && begins_glued rest) refl
@@ -112,9 +113,11 @@ record MadeOf {A : Type 0} (Is : List Token → A → Type 0) (make : A → RawO
   made : make a ≡ operand
 
 -- with the end of its bracket
-closed_front : {A : Type 0} (Is : List Token → A → Type 0) (make : A → RawOperand) (Q : List Token → RawOperand → Type 0) (tokens : List Token) (r : Read RawOperand) →
-    ((front : List Token) (close : Token) (a : A) → Is front a → is_sign (codes "]") close ≡ true → Q (front ++ (close ∷ [])) (make a)) → FrontOf tokens (MadeOf Is make) r →
-    FrontOf tokens Q (closed tokens r)
+closed_front : {A : Type 0} (Is : List Token → A → Type 0) (make : A → RawOperand)
+    (Q : List Token → RawOperand → Type 0) (tokens : List Token) (r : Read RawOperand)
+    → ((front : List Token) (close : Token) (a : A) → Is front a → is_sign (codes "]") close ≡ true → Q (front ++ (close ∷ [])) (make a))
+    → FrontOf tokens (MadeOf Is make) r
+    → FrontOf tokens Q (with_closing tokens r)
 closed_front Is make Q tokens r done f = and_then_front tokens (MadeOf Is make) Q r closing f by
   where
     by : (front rest : List Token) (operand : RawOperand) → MadeOf Is make front operand → FrontOf rest (λ more o. Q (front ++ more) o) (closing operand rest)
@@ -157,13 +160,14 @@ register_front make (a ∷ []) = tt
 register_front make (word ∷ comma ∷ rest) = by (register_named word) refl
   where
     at : (r : Ar) → register_named word ≡ Some r → (b : Bool) → is_sign (codes ",") comma ≡ b →
-        FrontOf (word ∷ comma ∷ rest) (IsRegister make) (if b then further 2 (closed rest (read_as (make r) (offset_at rest))) else No)
+        FrontOf (word ∷ comma ∷ rest) (IsRegister make) (if b then further 2 (with_closing rest (read_as (make r) (offset_at rest))) else No)
     at r named false sign = tt
     at r named true sign =
-        further_front (word ∷ comma ∷ []) rest (IsRegister make) (closed rest (read_as (make r) (offset_at rest)))
+        further_front (word ∷ comma ∷ []) rest (IsRegister make) (with_closing rest (read_as (make r) (offset_at rest)))
         (closed_front IsOffsetConstant (make r) (λ more o. IsRegister make (word ∷ comma ∷ more) o) rest (read_as (make r) (offset_at rest))
         (λ front close p is closes. form.register word comma front close r p named sign is closes)
-        (as_front rest (make r) IsOffsetConstant (MadeOf IsOffsetConstant (make r)) (λ front behind p split is. record { a = p; is = is; made = refl }) (offset_at rest) (offset_constant_front rest)))
+        (as_front rest (make r) IsOffsetConstant (MadeOf IsOffsetConstant (make r))
+        (λ front behind p split is. record { a = p; is = is; made = refl }) (offset_at rest) (offset_constant_front rest)))
 
     by : (o : Option Ar) → register_named word ≡ o → FrontOf (word ∷ comma ∷ rest) (IsRegister make) (register_with make o comma rest)
     by None named = tt
@@ -186,7 +190,8 @@ indirect_front (word ∷ before ∷ rest) = by (is_sign (codes "[") before) refl
         further_front (word ∷ before ∷ []) rest IsIndirect (or_else (memory_at memory width.Dword rest) (register_at register rest))
         (or_front rest (λ more o. IsIndirect (word ∷ before ∷ more) o) (memory_at memory width.Dword rest) (register_at register rest)
         (refined rest (IsMemory memory width.Dword) (λ more o. IsIndirect (word ∷ before ∷ more) o)
-        (λ front behind o at is. form.by_memory word before front row o among named sign is) (memory_at memory width.Dword rest) (memory_front memory width.Dword rest))
+        (λ front behind o at is. form.by_memory word before front row o among named sign is)
+        (memory_at memory width.Dword rest) (memory_front memory width.Dword rest))
         (refined rest (IsRegister register) (λ more o. IsIndirect (word ∷ before ∷ more) o)
         (λ front behind o at is. form.by_register word before front row o among named sign is) (register_at register rest) (register_front register rest)))
 
@@ -245,22 +250,27 @@ number_letters word n e =
 pointer_read : (tokens : List Token) (p : RawPointer) → IsPointer tokens p → (behind : List Token) → pointer_behind (tokens ++ behind) ≡ Fits p (length tokens)
 pointer_read tokens p (form.in_area ts place q is to) behind =
     or_this (pointer_with (place_at (ts ++ behind))) _ q (length ts) (ap pointer_with (place_at_read ts place is behind) ∙ ap (fitting (length ts)) to)
-pointer_read tokens p (form.alone ts q is) behind = or_no (pointer_with (place_at (ts ++ behind))) _ (ap pointer_with (no_place ts q is)) ∙ offset_read ts q is behind
+pointer_read tokens p (form.alone ts q is) behind =
+    or_no (pointer_with (place_at (ts ++ behind))) _ (ap pointer_with (no_place ts q is)) ∙ offset_read ts q is behind
   where
     no_place : (ts : List Token) (q : RawPointer) → IsOffset ts q → place_at (ts ++ behind) ≡ No
     no_place ts q (form.offset word rest byte bit number is) = no_place_begins word (rest ++ behind) (number_letters word byte number).1
 
-hash_read : (IsSuch : List Token → RawPointer → Type 0) (read : List Token → Read RawPointer) (tokens : List Token) (p : RawPointer) →
-    ((tokens : List Token) (p : RawPointer) → IsSuch tokens p → (behind : List Token) → read (tokens ++ behind) ≡ Fits p (length tokens)) → IsBehindHash IsSuch tokens p →
-    (behind : List Token) → behind_hash read (tokens ++ behind) ≡ Fits p (length tokens)
+hash_read : (IsSuch : List Token → RawPointer → Type 0) (read : List Token → Read RawPointer) (tokens : List Token) (p : RawPointer)
+    → ((tokens : List Token) (p : RawPointer) → IsSuch tokens p → (behind : List Token) → read (tokens ++ behind) ≡ Fits p (length tokens))
+    → IsBehindHash IsSuch tokens p
+    → (behind : List Token) → behind_hash read (tokens ++ behind) ≡ Fits p (length tokens)
 hash_read IsSuch read tokens p reads (form.behind word hash rest q is joined glued such) behind =
-    if_true (is_word (codes "P") word && is_joined (codes "#") hash && begins_glued (rest ++ behind)) _ No (and_from _ _ (and_from _ _ is joined) (glued_before rest behind glued))
+    if_true (is_word (codes "P") word && is_joined (codes "#") hash && begins_glued (rest ++ behind)) _ No
+    (and_from _ _ (and_from _ _ is joined) (glued_before rest behind glued))
     ∙ further_read (word ∷ hash ∷ []) rest (read (rest ++ behind)) q (reads rest q such behind)
 
-offset_constant_read : (tokens : List Token) (p : RawPointer) → IsOffsetConstant tokens p → (behind : List Token) → offset_at (tokens ++ behind) ≡ Fits p (length tokens)
+offset_constant_read : (tokens : List Token) (p : RawPointer) → IsOffsetConstant tokens p
+    → (behind : List Token) → offset_at (tokens ++ behind) ≡ Fits p (length tokens)
 offset_constant_read tokens p is behind = hash_read IsOffset offset_behind tokens p offset_read is behind
 
-alone : {A : Type 0} (read : List Token → Read A) (tokens : List Token) (a : A) → read (tokens ++ []) ≡ Fits a (length tokens) → read tokens ≡ Fits a (length tokens)
+alone : {A : Type 0} (read : List Token → Read A) (tokens : List Token) (a : A)
+    → read (tokens ++ []) ≡ Fits a (length tokens) → read tokens ≡ Fits a (length tokens)
 alone read tokens a e = subst (λ (ts : List Token). read ts ≡ Fits a (length tokens)) (append-nil tokens) e
 
 pub pointer_at_read : (tokens : List Token) (p : RawPointer) → IsPointerConstant tokens p → pointer_at tokens ≡ Fits p (length tokens)
@@ -270,8 +280,9 @@ pub offset_at_read : (tokens : List Token) (p : RawPointer) → IsOffsetConstant
 offset_at_read tokens p is = alone offset_at tokens p (offset_constant_read tokens p is [])
 
 -- the end of the bracket behind what was read
-closed_read : (front : List Token) (close : Token) (r : Read RawOperand) (operand : RawOperand) → r ≡ Fits operand (length front) → is_sign (codes "]") close ≡ true →
-    closed (front ++ (close ∷ [])) r ≡ Fits operand (length (front ++ (close ∷ [])))
+closed_read : (front : List Token) (close : Token) (r : Read RawOperand) (operand : RawOperand)
+    → r ≡ Fits operand (length front) → is_sign (codes "]") close ≡ true
+    → with_closing (front ++ (close ∷ [])) r ≡ Fits operand (length (front ++ (close ∷ [])))
 closed_read front close r operand e sign =
     and_then_read front (close ∷ []) r operand closing e
     ∙ further_read front (close ∷ []) (closing operand (close ∷ [])) operand (if_true (is_sign (codes "]") close) _ No sign)
@@ -288,7 +299,7 @@ register_read make tokens operand (form.register word comma front close r p name
     let rest = front ++ (close ∷ []) in
     ap (λ (o : Option Ar). register_with make o comma rest) named
     ∙ if_true (is_sign (codes ",") comma) _ No sign
-    ∙ further_read (word ∷ comma ∷ []) rest (closed rest (read_as (make r) (offset_at rest))) (make r p)
+    ∙ further_read (word ∷ comma ∷ []) rest (with_closing rest (read_as (make r) (offset_at rest))) (make r p)
     (closed_read front close (read_as (make r) (offset_at rest)) (make r p) (ap (read_as (make r)) (offset_constant_read front p is (close ∷ []))) closes)
 
 -- an address register is a word with which no place begins
@@ -298,8 +309,9 @@ register_word word r e = by (is_word (codes "AR1") word) refl (is_word (codes "A
     kind : (name : List ℕ) → is_word name word ≡ true → is_word_kind word.kind ≡ true
     kind name is = (and_parts (is_word_kind word.kind) _ is).0
 
-    by : (one : Bool) → is_word (codes "AR1") word ≡ one → (two : Bool) → is_word (codes "AR2") word ≡ two →
-        (if one then Some ar.One else if two then Some ar.Two else None) ≡ Some r → (is_word_kind word.kind ≡ true) × (begins_place (letters_of word.text) ≡ false)
+    by : (one : Bool) → is_word (codes "AR1") word ≡ one → (two : Bool) → is_word (codes "AR2") word ≡ two
+        → (if one then Some ar.One else if two then Some ar.Two else None) ≡ Some r
+        → (is_word_kind word.kind ≡ true) × (begins_place (letters_of word.text) ≡ false)
     by true is two other e = (kind (codes "AR1") is, register_letters word (codes "AR1") is refl)
     by false other true is e = (kind (codes "AR2") is, register_letters word (codes "AR2") is refl)
     by false other false none e = absurd cc
@@ -308,7 +320,8 @@ register_no_memory : (make : Ar → RawPointer → RawOperand) (tokens : List To
     (other : RawPlace → RawOperand) (w : Width) → memory_at other w tokens ≡ No
 register_no_memory make tokens operand (form.register word comma front close r p named sign is closes) other w =
     let all = word ∷ comma ∷ (front ++ (close ∷ [])) in
-    ap (λ (read : Read RawPlace). closed all (held_by other w read)) (no_place_begins word (comma ∷ (front ++ (close ∷ []))) (register_word word r named).1)
+    ap (λ (read : Read RawPlace). with_closing all (held_by other w read))
+    (no_place_begins word (comma ∷ (front ++ (close ∷ []))) (register_word word r named).1)
 
 row_found : (word : Token) (row : PlaceWord) → IsAmong row place_words → has_word word row ≡ true → find (has_word word) place_words ≡ Some row
 row_found word row among named = found_apart (has_word word) same_words place_words row refl both among named

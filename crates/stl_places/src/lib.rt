@@ -1,10 +1,10 @@
 //! Reads what names a place: paths of names, places of memory, pointer constants, and operands that are found
 //! by a pointer.
 //!
-//! Stands on `stl_constants` for words, on `digit_texts` for numbers, and on `stl_statements`, which has the forms
-//! of places as definitions. Each call gives what its definition gives for the same tokens, also where that is
-//! that nothing fits; those that keep a name may run out of memory. `proofs/` has for the crates above that
-//! paths, places and pointers are read exactly where one of their forms stands, and with what these begin.
+//! Uses `stl_constants` for words, `digit_texts` for numbers, and `stl_statement_grammar`, which has the forms of
+//! places as definitions. Each call gives what its definition gives for the same tokens, also where nothing
+//! fits; those that keep a name may run out of memory. `proofs/` has for other crates that paths, places and
+//! pointers are read exactly where one of their forms is written, and with what these begin.
 #![tactic(auto)]
 
 pub use path::{name_of, named_at, number_word, path_at, whole_at};

@@ -1,8 +1,8 @@
 //! Reads paths and names.
 ghost use Rattle.std.specs.Prelude.{◌≡◌, ◌≤◌, ◌<◌, ◌-◌, ◌^◌, ◌∷◌, IfOk, length};
-ghost use Rattle.stl_statements.specs.Paths.{closed, component_at, element_at, in_block_behind, indices_at, indices_behind, local_behind, minus_number, named_at, named_behind, next_index_at, number_word, path_at, plain_number, step_at, whole_at};
-ghost use Rattle.stl_statements.specs.Readers.{TakesSome, read_as, repeated};
-ghost use Rattle.stl_statements.specs.declared.mnemonic.Read.TheVariants.{Fits};
+ghost use Rattle.stl_statement_grammar.specs.Paths.{after_indices, component_at, element_at, in_block_behind, indices_at, indices_behind, local_behind, minus_number, named_at, named_behind, next_index_at, number_word, path_at, plain_number, step_at, whole_at};
+ghost use Rattle.stl_statement_grammar.specs.Readers.{TakesSome, read_as, all_items};
+ghost use Rattle.stl_statement_grammar.specs.declared.mnemonic.Read.TheVariants.{Fits};
 ghost use Rattle.stl_tree.specs.declared.raw.PathStep.TheVariants as step;
 
 use digit_texts::kept_number;
@@ -11,7 +11,7 @@ use std::alloc::Global;
 use stl_constants::{
     begins_glued, fitting, is_joined, is_joined_word, is_quoted, is_sign, is_word_kind,
 };
-use stl_statements::Read;
+use stl_statement_grammar::Read;
 use stl_tree::{PathStep, RawOperand};
 
 /// A word that is a number of any size.
@@ -25,7 +25,7 @@ pub fn number_word(token: &Token) -> Option<u32>
     }
 }
 
-/// A number behind a minus, with no blank between them.
+/// A number after a minus, with no blank between them.
 fn minus_number(token: &Token) -> Option<i64>
     ensures { result ≡ minus_number token.now }
 {
@@ -69,9 +69,9 @@ fn next_index_at(tokens: &[Token]) -> Read<i64>
     }
 }
 
-/// An index and those behind it, with how many tokens these take.
+/// An index and those after it, with the number of tokens of these.
 fn more_indices(alloc: Global, first: i64, tokens: &[Token]) -> Result<(List<i64>, usize), NoMemory>
-    ensures value { IfOk result (λ all. read_as (λ more. first ∷ more) (repeated next_index_at 0 tokens.now) ≡ Fits all.0 all.1) }
+    ensures value { IfOk result (λ all. read_as (λ more. first ∷ more) (all_items next_index_at 0 tokens.now) ≡ Fits all.0 all.1) }
     ensures within { IfOk result (λ all. all.1 ≤ length tokens.now) }
 {
     let mut indices = List::new(alloc);
@@ -86,7 +86,7 @@ fn more_indices(alloc: Global, first: i64, tokens: &[Token]) -> Result<(List<i64
     Ok((indices, taken))
 }
 
-/// Behind an index: those after it, and the bracket that closes them.
+/// The indices after a first one, and the bracket that closes them.
 fn indices_behind(alloc: Global, index: i64, tokens: &[Token]) -> Result<Read<List<i64>>, NoMemory>
     ensures value { IfOk result (λ read. read ≡ indices_behind index tokens.now) }
     ensures within { IfOk result (TakesSome (length tokens.now)) }
@@ -98,7 +98,7 @@ fn indices_behind(alloc: Global, index: i64, tokens: &[Token]) -> Result<Read<Li
     }
 }
 
-/// Behind a bracket: one index or several, and the bracket that closes them.
+/// The indices after a bracket, one or several, and the bracket that closes them.
 fn indices_at(alloc: Global, tokens: &[Token]) -> Result<Read<List<i64>>, NoMemory>
     ensures value { IfOk result (λ read. read ≡ indices_at tokens.now) }
     ensures within { IfOk result (TakesSome (length tokens.now)) }
@@ -159,13 +159,13 @@ fn step_at(alloc: Global, tokens: &[Token]) -> Result<Read<PathStep>, NoMemory>
     }
 }
 
-/// A name and the steps behind it, with how many tokens these take.
+/// A name and the steps after it, with the number of tokens of these.
 fn steps_behind(
     alloc: Global,
     name: List<u8>,
     tokens: &[Token],
 ) -> Result<(List<PathStep>, usize), NoMemory>
-    ensures value { IfOk result (λ all. read_as (λ more. step.Name name ∷ more) (repeated step_at 0 tokens.now) ≡ Fits all.0 all.1) }
+    ensures value { IfOk result (λ all. read_as (λ more. step.Name name ∷ more) (all_items step_at 0 tokens.now) ≡ Fits all.0 all.1) }
     ensures within { IfOk result (λ all. all.1 ≤ length tokens.now) }
 {
     let mut steps = List::new(alloc);
@@ -180,7 +180,7 @@ fn steps_behind(
     Ok((steps, taken))
 }
 
-/// A path: a name, and all steps behind it.
+/// A path: a name, and all steps after it.
 pub fn path_at(alloc: Global, tokens: &[Token]) -> Result<Read<List<PathStep>>, NoMemory>
     ensures value { IfOk result (λ read. read ≡ path_at tokens.now) }
     ensures within { IfOk result (TakesSome (length tokens.now)) }
@@ -194,7 +194,7 @@ pub fn path_at(alloc: Global, tokens: &[Token]) -> Result<Read<List<PathStep>>, 
     }
 }
 
-/// Behind the name of a data block: a point and a path, with no blank before either.
+/// A path in a data block, after the name of the block: a point and the path, with no blank before either.
 fn in_block_behind(
     alloc: Global,
     name: &Token,
@@ -244,7 +244,7 @@ fn local_behind(alloc: Global, tokens: &[Token]) -> Result<Read<RawOperand>, NoM
     }
 }
 
-/// What is named where a written place may stand.
+/// The name at a place where a place of memory may be written.
 pub fn named_at(alloc: Global, tokens: &[Token]) -> Result<Read<RawOperand>, NoMemory>
     ensures { IfOk result (λ read. read ≡ named_at tokens.now) }
 {

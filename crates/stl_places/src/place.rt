@@ -2,21 +2,21 @@
 ghost use Rattle.std.specs.Prelude.{◌≡◌, ◌≤◌, ◌^◌, ℕ, Some, map, nat_le, not, option_map};
 ghost use Rattle.std.specs.List.{find, prefix_len};
 ghost use Rattle.memory_areas.specs.Access.{is_unaligned};
-ghost use Rattle.stl_statements.specs.Places.{bit_at, bit_behind, bit_number, block_place_at, db_words, digits_of, has_letters, is_no_digit, letters_of, number_behind, numbered_at, place_at, place_behind, place_by, place_in, place_words, with_number, with_word};
-ghost use Rattle.stl_statements.specs.Pointers.{has_word};
-ghost use Rattle.stl_statements.specs.Readers.{IsWithin, further, read_as};
-ghost use Rattle.stl_statements.specs.Statements.{is_in_area};
-ghost use Rattle.stl_places.specs.Numbered.{lettered};
-ghost use Rattle.stl_places.specs.inner.Rows.{named};
+ghost use Rattle.stl_statement_grammar.specs.Places.{bit_at, bit_behind, bit_number, block_place_at, db_words, digits_of, has_letters, is_no_digit, letters_of, number_behind, numbered_at, place_at, place_behind, place_by, place_in, place_words, with_number, with_word};
+ghost use Rattle.stl_statement_grammar.specs.Pointers.{has_word};
+ghost use Rattle.stl_statement_grammar.specs.Readers.{IsWithin, further, read_as};
+ghost use Rattle.stl_statement_grammar.specs.Statements.{is_in_area};
+ghost use Rattle.stl_places.specs.Numbered.{numbered_of};
+ghost use Rattle.stl_places.specs.inner.Rows.{place_word_of};
 
 use digit_texts::kept_number;
 use memory_areas::{AreaName, is_byte_in};
 use s7_base::{Token, Width, front_of, is_same_word, rest_after};
 use stl_constants::{begins_glued, fitting, is_joined, is_joined_word, is_word_kind};
-use stl_statements::Read;
+use stl_statement_grammar::Read;
 use stl_tree::RawPlace;
 
-/// Letters with a number behind them.
+/// Letters with a number after them.
 #[derive(Clone, Copy)]
 pub struct Numbered<'a> {
     pub letters: &'a [u8],
@@ -161,21 +161,21 @@ fn is_no_digit(b: u8) -> bool
     !b.is_ascii_digit()
 }
 
-/// How many bytes of a word stand before its first digit.
+/// How many bytes of a word come before its first digit.
 fn letters_size(text: &[u8]) -> usize
     ensures { result ≡ prefix_len is_no_digit text.now }
 {
     text.iter().take_while(|b| is_no_digit(**b)).count()
 }
 
-/// What stands before the first digit of a word.
+/// The bytes of a word before its first digit.
 fn letters_of(text: &[u8]) -> &[u8]
     ensures { result.now ≡ letters_of text.now }
 {
     front_of(text, letters_size(text))
 }
 
-/// What stands from there on.
+/// The bytes of a word from its first digit on.
 fn digits_of(text: &[u8]) -> &[u8]
     ensures { result.now ≡ digits_of text.now }
 {
@@ -183,7 +183,7 @@ fn digits_of(text: &[u8]) -> &[u8]
 }
 
 fn with_number<'a>(letters: &'a [u8], digits: &[u8]) -> Option<Numbered<'a>>
-    ensures { option_map lettered result ≡ with_number letters.now digits.now }
+    ensures { option_map numbered_of result ≡ with_number letters.now digits.now }
 {
     match kept_number(digits) {
         Some(number) => Some(Numbered { letters, number }),
@@ -192,7 +192,7 @@ fn with_number<'a>(letters: &'a [u8], digits: &[u8]) -> Option<Numbered<'a>>
 }
 
 fn with_word<'a>(letters: &'a [u8], token: &Token) -> Option<Numbered<'a>>
-    ensures { option_map lettered result ≡ with_word letters.now token.now }
+    ensures { option_map numbered_of result ≡ with_word letters.now token.now }
 {
     if is_word_kind(token) {
         with_number(letters, token.text.as_slice())
@@ -201,9 +201,9 @@ fn with_word<'a>(letters: &'a [u8], token: &Token) -> Option<Numbered<'a>>
     }
 }
 
-/// Letters with the digits behind them in their word, or with the number in the next one.
+/// Letters with the digits after them in their word, or with the number in the next one.
 fn number_behind<'a>(letters: &'a [u8], digits: &[u8], rest: &[Token]) -> Read<Numbered<'a>>
-    ensures value { read_as lettered result ≡ number_behind letters.now digits.now rest.now }
+    ensures value { read_as numbered_of result ≡ number_behind letters.now digits.now rest.now }
     ensures within { IsWithin 2 result }
 {
     match digits {
@@ -217,7 +217,7 @@ fn number_behind<'a>(letters: &'a [u8], digits: &[u8], rest: &[Token]) -> Read<N
 
 /// Letters and a number: `MB5` or `MB 5`.
 pub fn numbered_at(tokens: &[Token]) -> Read<Numbered<'_>>
-    ensures value { read_as lettered result ≡ numbered_at tokens.now }
+    ensures value { read_as numbered_of result ≡ numbered_at tokens.now }
     ensures within { IsWithin 2 result }
 {
     match tokens {
@@ -230,33 +230,33 @@ pub fn numbered_at(tokens: &[Token]) -> Read<Numbered<'_>>
 }
 
 fn has_letters(letters: &[u8], row: &PlaceWord) -> bool
-    ensures { result ≡ has_letters letters.now (named row.now) }
+    ensures { result ≡ has_letters letters.now (place_word_of row.now) }
 {
     is_same_word(letters, row.word)
 }
 
 fn word_found(letters: &[u8], table: &[PlaceWord]) -> Option<PlaceWord>
-    ensures { result ≡ find (λ row. has_letters letters.now (named row)) table.now }
+    ensures { result ≡ find (λ row. has_letters letters.now (place_word_of row)) table.now }
 {
     table.iter().copied().find(|row| has_letters(letters, row))
 }
 
 /// The word of a table with these letters.
 fn first_word(letters: &[u8], table: &[PlaceWord]) -> Option<PlaceWord>
-    ensures { option_map named result ≡ find (has_letters letters.now) (map named table.now) }
+    ensures { option_map place_word_of result ≡ find (has_letters letters.now) (map place_word_of table.now) }
 {
     word_found(letters, table)
 }
 
 fn place_words() -> &'static [PlaceWord]
-    ensures { map named result.now ≡ place_words }
+    ensures { map place_word_of result.now ≡ place_words }
 {
     &PLACE_WORDS
 }
 
 /// The word of an area and a width that a token is.
 pub fn word_in(token: &Token) -> Option<PlaceWord>
-    ensures { option_map named result ≡ find (has_word token.now) place_words }
+    ensures { option_map place_word_of result ≡ find (has_word token.now) place_words }
 {
     if is_word_kind(token) {
         first_word(token.text.as_slice(), place_words())
@@ -267,12 +267,12 @@ pub fn word_in(token: &Token) -> Option<PlaceWord>
 
 /// The words of DB.
 fn db_words() -> &'static [PlaceWord]
-    ensures { map named result.now ≡ db_words }
+    ensures { map place_word_of result.now ≡ db_words }
 {
     front_of(&PLACE_WORDS, 4)
 }
 
-/// A point and the number of a bit, with no blank before either.
+/// The number of a bit: a point and a number, with no blank before either.
 fn bit_number(point: &Token, bit: &Token) -> Option<u32>
     ensures { result ≡ bit_number point.now bit.now }
 {
@@ -283,7 +283,7 @@ fn bit_number(point: &Token, bit: &Token) -> Option<u32>
     }
 }
 
-/// The same as what stands at the front.
+/// The number of a bit at the front of tokens: a point and a number, with no blank before either.
 pub fn bit_at(tokens: &[Token]) -> Read<u32>
     ensures value { result ≡ bit_at tokens.now }
     ensures within { IsWithin 2 result }
@@ -294,7 +294,7 @@ pub fn bit_at(tokens: &[Token]) -> Read<u32>
     }
 }
 
-/// What stands behind the number of a byte.
+/// The number of a bit after that of a byte; 0 for a byte or more.
 fn bit_behind(width: Width, tokens: &[Token]) -> Read<u32>
     ensures value { result ≡ bit_behind width tokens.now }
     ensures within { IsWithin 2 result }
@@ -305,9 +305,9 @@ fn bit_behind(width: Width, tokens: &[Token]) -> Read<u32>
     }
 }
 
-/// A place by its word, with what stands behind the number of its byte.
+/// A place by its word, the number of its byte and what follows it.
 fn place_by(block: Option<u32>, word: PlaceWord, byte: u32, tokens: &[Token]) -> Read<RawPlace>
-    ensures value { result ≡ place_by block (Some (named word)) byte tokens.now }
+    ensures value { result ≡ place_by block (Some (place_word_of word)) byte tokens.now }
     ensures within { IsWithin 2 result }
 {
     match bit_behind(word.width, tokens) {
@@ -326,7 +326,7 @@ fn place_by(block: Option<u32>, word: PlaceWord, byte: u32, tokens: &[Token]) ->
     }
 }
 
-/// What was read behind so many tokens, with these.
+/// What was read after this many tokens, with these included.
 pub fn further<T>(before: usize, read: Read<T>) -> Read<T>
     requires before { before ≤ 2 ^ 62 }
     requires within { IsWithin (2 ^ 62) read }
@@ -339,9 +339,9 @@ pub fn further<T>(before: usize, read: Read<T>) -> Read<T>
     }
 }
 
-/// A place with a word of a table; behind the number of a block it is in that block.
+/// A place with a word of a table; in a data block where its number comes before it.
 fn place_in(table: &[PlaceWord], block: Option<u32>, tokens: &[Token]) -> Read<RawPlace>
-    ensures value { result ≡ place_in (map named table.now) block tokens.now }
+    ensures value { result ≡ place_in (map place_word_of table.now) block tokens.now }
     ensures within { IsWithin 4 result }
 {
     match numbered_at(tokens) {
@@ -357,7 +357,7 @@ fn place_in(table: &[PlaceWord], block: Option<u32>, tokens: &[Token]) -> Read<R
     }
 }
 
-/// Behind the number of a data block: a point, and a place of DB with no blank before either.
+/// A place of DB after the number of its data block: a point and the place, with no blank before either.
 fn place_behind(block: u32, tokens: &[Token]) -> Read<RawPlace>
     ensures value { result ≡ place_behind block tokens.now }
     ensures within { IsWithin 5 result }
@@ -399,7 +399,7 @@ pub fn place_at(tokens: &[Token]) -> Read<RawPlace>
     }
 }
 
-/// The place lies in its area, with a bit number that its width has.
+/// Whether the place lies in its area, with a bit number that its width has.
 pub fn is_in_area(place: RawPlace) -> bool
     ensures { result ≡ is_in_area place }
 {

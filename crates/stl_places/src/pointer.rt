@@ -1,34 +1,34 @@
 //! Reads pointer constants, and operands that are found by a pointer.
 ghost use Rattle.std.specs.Prelude.{◌≡◌, ◌&&◌, ◌==◌, if◌then◌else◌, Some, None, codes};
 ghost use Rattle.memory_areas.specs.Access.{bytes_wide};
-ghost use Rattle.stl_statements.specs.Constants.{begins_glued};
-ghost use Rattle.stl_statements.specs.Places.{place_at};
-ghost use Rattle.stl_statements.specs.Pointers.{closed, crossing_at, crossing_by, indirect_at, indirect_by, is_held, is_in_reach, memory_at, offset_at, offset_behind, offset_of, pointer_at, pointer_behind, pointer_to, pointer_with, register_at, register_named, value_of, width_named};
-ghost use Rattle.stl_statements.specs.Readers.{IsWithin, read_as};
-ghost use Rattle.stl_statements.specs.Words.{is_joined, is_word};
+ghost use Rattle.stl_statement_grammar.specs.Constants.{begins_glued};
+ghost use Rattle.stl_statement_grammar.specs.Places.{place_at};
+ghost use Rattle.stl_statement_grammar.specs.Pointers.{with_closing, crossing_at, crossing_by, indirect_at, indirect_by, is_held, is_in_reach, memory_at, offset_at, offset_behind, offset_of, pointer_at, pointer_behind, pointer_to, pointer_with, register_at, register_named, value_of, width_named};
+ghost use Rattle.stl_statement_grammar.specs.Readers.{IsWithin, read_as};
+ghost use Rattle.stl_statement_grammar.specs.Words.{is_joined, is_word};
 ghost use Rattle.stl_tree.specs.declared.program.Ar.{Ar};
 ghost use Rattle.stl_tree.specs.declared.raw.RawOperand.{RawOperand};
 ghost use Rattle.stl_tree.specs.declared.raw.RawOperand.TheVariants as operand;
 ghost use Rattle.stl_tree.specs.declared.raw.RawPlace.{RawPlace};
 ghost use Rattle.stl_tree.specs.declared.raw.RawPointer.{RawPointer};
-ghost use Rattle.stl_places.specs.inner.Rows.{named};
+ghost use Rattle.stl_places.specs.inner.Rows.{place_word_of};
 
 use crate::path::number_word;
 use crate::place::{PlaceWord, bit_at, further, place_at, word_in};
 use memory_areas::AreaName;
 use s7_base::{Token, Width, rest_after};
 use stl_constants::{begins_glued, is_joined, is_sign, is_word};
-use stl_statements::Read;
+use stl_statement_grammar::Read;
 use stl_tree::{Ar, RawOperand, RawPlace, RawPointer, may_hold_pointers};
 
-/// Byte and bit are ones that a pointer has.
+/// Whether byte and bit are ones that a pointer has: a byte up to 65,535, a bit up to 7.
 fn is_in_reach(pointer: RawPointer) -> bool
     ensures { result ≡ is_in_reach pointer }
 {
     pointer.byte <= 65_535 && pointer.bit <= 7
 }
 
-/// Byte and bit in their places, where a pointer has them.
+/// The pattern of an offset: byte and bit in their places, where a pointer has them.
 pub fn offset_value(pointer: RawPointer) -> Option<u32>
     ensures { result ≡ (if is_in_reach pointer then Some (offset_of pointer) else None) }
 {
@@ -39,7 +39,7 @@ pub fn offset_value(pointer: RawPointer) -> Option<u32>
     }
 }
 
-/// The same with the area code.
+/// The pattern of a pointer: area code, byte and bit in their places, where a pointer has them.
 pub fn pointer_value(pointer: RawPointer) -> Option<u32>
     ensures { result ≡ (if is_in_reach pointer then Some (value_of pointer) else None) }
 {
@@ -50,7 +50,7 @@ pub fn pointer_value(pointer: RawPointer) -> Option<u32>
     }
 }
 
-/// A byte, a point and a bit: an offset has no area.
+/// An offset after `P#`: a byte, a point and a bit, without an area.
 fn offset_behind(tokens: &[Token]) -> Read<RawPointer>
     ensures value { result ≡ offset_behind tokens.now }
     ensures within { IsWithin 3 result }
@@ -66,7 +66,7 @@ fn offset_behind(tokens: &[Token]) -> Read<RawPointer>
     }
 }
 
-/// The pointer to a bit, which has no data block named before it.
+/// The pointer to a bit without a data block before it.
 fn pointer_to(place: RawPlace) -> Option<RawPointer>
     ensures { result ≡ pointer_to place }
 {
@@ -93,7 +93,7 @@ fn area_pointer_at(tokens: &[Token]) -> Read<RawPointer>
     }
 }
 
-/// A bit of an area, or an offset.
+/// A pointer after `P#`: a bit of an area, or an offset.
 fn pointer_behind(tokens: &[Token]) -> Read<RawPointer>
     ensures value { result ≡ pointer_behind tokens.now }
     ensures within { IsWithin 7 result }
@@ -104,7 +104,7 @@ fn pointer_behind(tokens: &[Token]) -> Read<RawPointer>
     }
 }
 
-/// `P#`, and behind it something with no blank before it.
+/// Whether the tokens are `P#` and more tokens, with no blank before these.
 fn is_behind_hash(word: &Token, hash: &Token, rest: &[Token]) -> bool
     ensures { result ≡ (is_word (codes "P") word.now && is_joined (codes "#") hash.now && begins_glued rest.now) }
 {
@@ -147,14 +147,14 @@ fn is_as_wide(width: Width, other: Width) -> bool
     }
 }
 
-/// A pointer, or the number of a data block, of this width may stand at the place.
+/// Whether a pointer, or the number of a data block, of this width may be stored at the place.
 fn is_held(width: Width, place: RawPlace) -> bool
     ensures { result ≡ is_held width place }
 {
     place.block.is_none() && may_hold_pointers(place.area) && is_as_wide(place.width, width)
 }
 
-/// Such a place and the end of its bracket: `MD 4]`.
+/// The place of a pointer, or of the number of a data block, and the end of its bracket: `MD 4]`.
 pub fn memory_at(width: Width, tokens: &[Token]) -> Read<RawPlace>
     ensures value { (make : RawPlace → RawOperand) → read_as make result ≡ memory_at make width tokens.now }
     ensures within { IsWithin 8 result }
@@ -182,7 +182,7 @@ fn register_named(word: &Token) -> Option<Ar>
 
 /// An offset and the end of its bracket.
 fn closed_offset_at(tokens: &[Token]) -> Read<RawPointer>
-    ensures value { (make : RawPointer → RawOperand) → read_as make result ≡ closed tokens.now (read_as make (offset_at tokens.now)) }
+    ensures value { (make : RawPointer → RawOperand) → read_as make result ≡ with_closing tokens.now (read_as make (offset_at tokens.now)) }
     ensures within { IsWithin 6 result }
 {
     match offset_at(tokens) {
@@ -213,9 +213,9 @@ fn register_at(tokens: &[Token]) -> Read<(Ar, RawPointer)>
     }
 }
 
-/// In a bracket: the place of a pointer, or a register and an offset.
+/// The pointer in a bracket: its place, or a register and an offset.
 fn indirect_by(word: PlaceWord, tokens: &[Token]) -> Read<RawOperand>
-    ensures value { result ≡ indirect_by (Some (named word)) tokens.now }
+    ensures value { result ≡ indirect_by (Some (place_word_of word)) tokens.now }
     ensures within { IsWithin 8 result }
 {
     match memory_at(Width::Dword, tokens) {
@@ -254,7 +254,7 @@ pub fn indirect_at(tokens: &[Token]) -> Read<RawOperand>
     }
 }
 
-/// The word of a width before a pointer that has its area.
+/// The width of a word before a pointer that has its area.
 fn width_named(word: &Token) -> Option<Width>
     ensures { result ≡ width_named word.now }
 {
@@ -282,7 +282,7 @@ fn crossing(width: Width, tokens: &[Token]) -> Read<RawOperand>
     }
 }
 
-/// Behind the word of a width: a bracket with a register and an offset.
+/// An operand after the word of its width: a bracket with a register and an offset.
 fn wide_crossing(width: Option<Width>, tokens: &[Token]) -> Read<RawOperand>
     ensures { result ≡ crossing_by width tokens.now }
 {
@@ -294,7 +294,7 @@ fn wide_crossing(width: Option<Width>, tokens: &[Token]) -> Read<RawOperand>
     }
 }
 
-/// An operand that a pointer has the area of: a bit, or with its width before the bracket.
+/// An operand whose area is in its pointer: a bit, or with its width before the bracket.
 pub fn crossing_at(tokens: &[Token]) -> Read<RawOperand>
     ensures { result ≡ crossing_at tokens.now }
 {

@@ -6,15 +6,16 @@ use Rattle.s7_base.specs.declared.token.Token.{Token}
 use Rattle.stl_grammar.proofs.Skipping.{skipped}
 use Rattle.stl_grammar.specs.Items.{item_at, items_from, prepend_item, with_found}
 use Rattle.stl_grammar.specs.RawPrograms.{nothing_read, raw_by, with_item}
-use Rattle.stl_grammar.specs.declared.item.Found.{Found}
-use Rattle.stl_grammar.specs.declared.item.Found.TheVariants.{Fits}
+use Rattle.stl_grammar.specs.declared.item.NextItem.{NextItem}
+use Rattle.stl_grammar.specs.declared.item.NextItem.TheVariants.{Fits}
 use Rattle.stl_grammar.specs.declared.item.Item.{Item}
 use Rattle.stl_grammar.specs.declared.item.Reading.{Reading}
 use Rattle.stl_grammar.specs.declared.item.Where.{Where}
 use Rattle.stl_tree.specs.declared.raw.RawProgram.{RawProgram}
 use Rattle.stl_reader.specs.inner.Finding.{HasFirst, read_behind}
 
-prepended : (reading : Reading) (item : Item) (behind : Result (List Item) Rejection) → read_behind (with_item reading item) behind ≡ read_behind reading (prepend_item item behind)
+prepended : (reading : Reading) (item : Item) (behind : Result (List Item) Rejection)
+    → read_behind (with_item reading item) behind ≡ read_behind reading (prepend_item item behind)
 prepended reading item (Ok items) = refl
 prepended reading item (Err refused) = refl
 
@@ -26,7 +27,7 @@ item_taken end reading place next [] item size whole found some e = absurd some
 item_taken end reading place next (first ∷ rest) item size whole found some e =
     ap (λ (r : Result (List Item) Rejection). read_behind (with_item reading item) r) (sym (skipped end size next rest))
     ∙ prepended reading item (items_from end size next rest)
-    ∙ ap (λ (f : Found). read_behind reading (with_found f (λ taken after. items_from end taken after rest))) found
+    ∙ ap (λ (f : NextItem). read_behind reading (with_found f (λ taken after. items_from end taken after rest))) found
     ∙ e
 
 -- a text is what is read behind nothing

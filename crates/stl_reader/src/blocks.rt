@@ -3,7 +3,7 @@ ghost use Rattle.std.specs.Prelude.{◌≡◌, None, Some, IfOk, OnOk};
 ghost use Rattle.s7_base.specs.Answers.{Answers};
 ghost use Rattle.s7_base.specs.Tokens.{line_at_end};
 ghost use Rattle.stl_grammar.specs.Items.{items_of};
-ghost use Rattle.stl_grammar.specs.RawPrograms.{data_headed, headed, nothing_read, opened, raw_read, with_item, raw_program, raw_text};
+ghost use Rattle.stl_grammar.specs.RawPrograms.{data_headed, block_from_heading, nothing_read, with_heading, raw_read, with_item, raw_program, raw_text};
 ghost use Rattle.stl_grammar.specs.declared.item.Item.TheVariants as item;
 ghost use Rattle.stl_reader.specs.inner.Finding.{read_behind};
 ghost use Rattle.stl_reader.specs.inner.Following.{with_last, with_last_db};
@@ -14,22 +14,22 @@ use std::alloc::Global;
 use std::collections::LinkedList;
 use std::mem::replace;
 use stl_declarations::{put_closed, put_type};
-use stl_grammar::{Found, Item, Reading, Section, Where};
+use stl_grammar::{Item, NextItem, Reading, Section, Where};
 use stl_lexer::tokens;
 use stl_tree::{
     BlockKind, ElemType, RawBlock, RawData, RawDataKind, RawInitial, RawInstr, RawName, RawProgram,
     SymbolLine,
 };
 
-/// A block of which the heading alone is known.
-fn headed(
+/// A block of which only the heading is known.
+fn block_from_heading(
     alloc: Global,
     line: Line,
     kind: BlockKind,
     name: RawName,
     result_type: Option<ElemType>,
 ) -> RawBlock
-    ensures { result ≡ headed line kind name result_type }
+    ensures { result ≡ block_from_heading line kind name result_type }
 {
     RawBlock {
         kind,
@@ -46,7 +46,7 @@ fn headed(
     }
 }
 
-/// A data block of which the heading alone is known.
+/// A data block of which only the heading is known.
 fn data_headed(alloc: Global, line: Line, name: RawName) -> RawData
     ensures { result ≡ data_headed line name }
 {
@@ -58,7 +58,7 @@ fn data_headed(alloc: Global, line: Line, name: RawName) -> RawData
     }
 }
 
-/// The last block is done, and another follows it or none.
+/// Ends the last block; another follows it, or none.
 fn follow_block(reading: &mut Reading, next: Option<RawBlock>) -> Result<(), NoMemory>
     ensures { OnOk result (reading.new ≡ with_last next reading.old) }
 {
@@ -68,7 +68,7 @@ fn follow_block(reading: &mut Reading, next: Option<RawBlock>) -> Result<(), NoM
     }
 }
 
-/// The last data block is done, and another follows it or none.
+/// Ends the last data block; another follows it, or none.
 fn follow_data(reading: &mut Reading, next: Option<RawData>) -> Result<(), NoMemory>
     ensures { OnOk result (reading.new ≡ with_last_db next reading.old) }
 {
@@ -78,7 +78,7 @@ fn follow_data(reading: &mut Reading, next: Option<RawData>) -> Result<(), NoMem
     }
 }
 
-/// The heading of a data block.
+/// Opens a data block.
 fn open_data(reading: &mut Reading, db: RawData) -> Result<(), NoMemory>
     ensures { OnOk result (reading.new ≡ with_last_db (Some db) (with_last None reading.old)) }
 {
@@ -86,7 +86,7 @@ fn open_data(reading: &mut Reading, db: RawData) -> Result<(), NoMemory>
     follow_block(reading, None)
 }
 
-/// The heading of a block of another kind.
+/// Opens a block of another kind.
 fn open_block(reading: &mut Reading, block: RawBlock) -> Result<(), NoMemory>
     ensures { OnOk result (reading.new ≡ with_last_db None (with_last (Some block) reading.old)) }
 {
@@ -94,7 +94,7 @@ fn open_block(reading: &mut Reading, block: RawBlock) -> Result<(), NoMemory>
     follow_data(reading, None)
 }
 
-/// The heading of one more block.
+/// Adds the heading of a block.
 fn put_opened(
     alloc: Global,
     reading: &mut Reading,
@@ -103,31 +103,34 @@ fn put_opened(
     name: RawName,
     result_type: Option<ElemType>,
 ) -> Result<(), NoMemory>
-    ensures { OnOk result (reading.new ≡ opened line kind name result_type reading.old) }
+    ensures { OnOk result (reading.new ≡ with_heading line kind name result_type reading.old) }
 {
     match kind {
         BlockKind::Db => open_data(reading, data_headed(alloc, line, name)),
         BlockKind::Ob | BlockKind::Fc | BlockKind::Fb => {
-            open_block(reading, headed(alloc, line, kind, name, result_type))
+            open_block(
+                reading,
+                block_from_heading(alloc, line, kind, name, result_type),
+            )
         }
     }
 }
 
-/// The word that opens a section.
+/// Opens a section.
 fn put_section(reading: &mut Reading, section: Section)
     ensures { reading.new ≡ with_item reading.old (item.Starts section) }
 {
     reading.section = section;
 }
 
-/// One more line of the symbol table.
+/// Adds a line of the symbol table.
 fn put_symbol(reading: &mut Reading, line: SymbolLine) -> Result<(), NoMemory>
     ensures { OnOk result (reading.new ≡ with_item reading.old (item.Symbol line)) }
 {
     reading.symbols.push(line)
 }
 
-/// One more instruction of the last block.
+/// Adds an instruction to the last block.
 fn put_instr(reading: &mut Reading, instr: RawInstr) -> Result<(), NoMemory>
     ensures { OnOk result (reading.new ≡ with_item reading.old (item.Instr instr)) }
 {
@@ -137,7 +140,7 @@ fn put_instr(reading: &mut Reading, instr: RawInstr) -> Result<(), NoMemory>
     }
 }
 
-/// One more initial value of the last data block.
+/// Adds an initial value to the last data block.
 fn put_initial(reading: &mut Reading, value: RawInitial) -> Result<(), NoMemory>
     ensures { OnOk result (reading.new ≡ with_item reading.old (item.Initial value)) }
 {
@@ -147,7 +150,7 @@ fn put_initial(reading: &mut Reading, value: RawInitial) -> Result<(), NoMemory>
     }
 }
 
-/// The end word of the last block.
+/// Adds the end word of the last block.
 fn put_end(reading: &mut Reading, line: Line)
     ensures { reading.new ≡ with_item reading.old (item.Ends line) }
 {
@@ -156,7 +159,7 @@ fn put_end(reading: &mut Reading, line: Line)
     }
 }
 
-/// The text so far, and one item more.
+/// Adds an item to the text so far.
 fn put_item(alloc: Global, reading: &mut Reading, item: Item) -> Result<(), NoMemory>
     ensures { OnOk result (reading.new ≡ with_item reading.old item) }
 {
@@ -208,13 +211,13 @@ fn read_items(
     let mut rest = tokens;
     loop {
         match item_at(alloc, end, place, rest)? {
-            Found::Fits(item, size, next) => {
+            NextItem::Fits(item, size, next) => {
                 put_item(alloc, reading, item)?;
                 place = next;
                 rest = rest_after(rest_after(rest, 1), size);
             }
-            Found::Misfit(line, reason) => return Err(Rejection::Refused(line, reason)),
-            Found::Ended => return Ok(finish(alloc, reading)?),
+            NextItem::Misfit(line, reason) => return Err(Rejection::Refused(line, reason)),
+            NextItem::Ended => return Ok(finish(alloc, reading)?),
         }
     }
 }

@@ -6,7 +6,7 @@ use digit_texts::are_digits;
 use s7_base::Token;
 use stl_constants::{is_numbered, is_quoted, is_sign, is_word, is_word_kind};
 
-/// The text ends before the name of a block of this kind, or behind the word of its kind.
+/// Whether the text ends before the name of a block of this kind, or after the word of its kind.
 fn ends_in_name(kind: &str, tokens: &[Token]) -> bool
     ensures { result ≡ ends_in_name kind.now tokens.now }
 {
@@ -17,7 +17,7 @@ fn ends_in_name(kind: &str, tokens: &[Token]) -> bool
     }
 }
 
-/// The text ends before the type of a function, behind its name or behind the colon.
+/// Whether the text ends before the type of a function, after its name or after the colon.
 fn ends_before_type(tokens: &[Token]) -> bool
     ensures { result ≡ ends_before_type tokens.now }
 {
@@ -39,7 +39,7 @@ fn ends_behind_number(tokens: &[Token]) -> bool
     }
 }
 
-/// A block's name stands here, and the text ends before the type.
+/// Whether the name of a block is followed by the end of the text, before the type.
 fn ends_behind_name(kind: &str, tokens: &[Token]) -> bool
     ensures { result ≡ ends_behind_name kind.now tokens.now }
 {
@@ -52,21 +52,21 @@ fn ends_behind_name(kind: &str, tokens: &[Token]) -> bool
     }
 }
 
-/// A heading with this word, and the text ends in the name of its block.
+/// Whether this is a heading with this word, and the text ends in the name of its block.
 fn ends_heading(heading: &str, kind: &str, first: &Token, rest: &[Token]) -> bool
     ensures { result ≡ ends_heading heading.now kind.now first.now rest.now }
 {
     is_word(first, heading) && ends_in_name(kind, rest)
 }
 
-/// The heading of a function, and the text ends in its name or before its type.
+/// Whether this is the heading of a function, and the text ends in its name or before its type.
 fn ends_function(first: &Token, rest: &[Token]) -> bool
     ensures { result ≡ ends_function first.now rest.now }
 {
     is_word(first, "FUNCTION") && (ends_in_name("FC", rest) || ends_behind_name("FC", rest))
 }
 
-/// The heading of another block, and the text ends in its name.
+/// Whether this is the heading of a block that is no function, and the text ends in its name.
 fn ends_other(first: &Token, rest: &[Token]) -> bool
     ensures { result ≡ ends_other first.now rest.now }
 {
@@ -75,7 +75,7 @@ fn ends_other(first: &Token, rest: &[Token]) -> bool
         || ends_heading("DATA_BLOCK", "DB", first, rest)
 }
 
-/// The end of the text cuts off the heading at the front.
+/// Whether the end of the text cuts off the heading at the front.
 pub fn is_heading_cut_off(tokens: &[Token]) -> bool
     ensures { result ≡ is_heading_cut_off tokens.now }
 {

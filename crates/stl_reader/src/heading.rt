@@ -1,19 +1,19 @@
-//! Headings of blocks, and the lines behind them that are skipped.
+//! Headings of blocks, and the lines after them that are skipped.
 ghost use Rattle.std.specs.Prelude.{◌≡◌, ◌-◌, ◌≤◌, length, IfOk};
 ghost use Rattle.stl_grammar.specs.Items.{is_data};
-ghost use Rattle.stl_grammar.specs.Headings.{number_behind, number_within, number_named, name_at, line_of, heading_kind, kind_word, opened, opened_by, is_behind, is_on, size_on, has_colon, is_skipped};
+ghost use Rattle.stl_grammar.specs.Headings.{number_behind, number_within, number_named, name_at, line_of, heading_kind, kind_word, block_heading, opened_by, is_behind, is_on, size_on, has_colon, is_skipped};
 
 use crate::words::{is_attribute, is_title};
 use digit_texts::kept_number;
 use s7_base::{Line, List, NoMemory, Reason, Token, rest_after};
 use std::alloc::Global;
 use stl_constants::{fitting, is_numbered, is_quoted, is_sign, is_word};
-use stl_grammar::{Found, Item, Where};
+use stl_grammar::{Item, NextItem, Where};
 use stl_places::number_word;
-use stl_statements::Read;
+use stl_statement_grammar::Read;
 use stl_tree::{BlockKind, RawName};
 
-/// The number in a word behind the word of a kind.
+/// The number in a word after the word of a kind.
 fn number_behind(tokens: &[Token]) -> Option<u32>
     ensures { result ≡ number_behind tokens.now }
 {
@@ -45,14 +45,14 @@ fn number_named(kind: &str, first: &Token, rest: &[Token]) -> Read<RawName>
     }
 }
 
-/// A list of the same bytes.
-pub fn copied(alloc: Global, bytes: &[u8]) -> Result<List<u8>, NoMemory>
+/// A copy of a list of bytes.
+pub fn copy_of_bytes(alloc: Global, bytes: &[u8]) -> Result<List<u8>, NoMemory>
     ensures { IfOk result (λ list. list ≡ bytes.now) }
 {
     Ok(List::from_vec(Vec::from_slice(alloc, bytes)?))
 }
 
-/// What stands where a block of this kind may be named.
+/// The name at a place where a block of this kind is named.
 fn name_at(alloc: Global, kind: &str, tokens: &[Token]) -> Result<Read<RawName>, NoMemory>
     ensures { IfOk result (λ found. found ≡ name_at kind.now tokens.now) }
 {
@@ -60,13 +60,13 @@ fn name_at(alloc: Global, kind: &str, tokens: &[Token]) -> Result<Read<RawName>,
         return Ok(Read::No);
     };
     if is_quoted(first) {
-        let name = copied(alloc, first.text.as_slice())?;
+        let name = copy_of_bytes(alloc, first.text.as_slice())?;
         return Ok(Read::Fits(RawName::Name(name), 1));
     }
     Ok(number_named(kind, first, rest))
 }
 
-/// A block of this kind is a data block.
+/// Whether a block of this kind is a data block.
 pub fn is_data(kind: BlockKind) -> bool
     ensures { result ≡ is_data kind }
 {
@@ -108,37 +108,37 @@ fn line_of(line: Line, tokens: &[Token]) -> Line
     }
 }
 
-/// The heading of a block by its name, or why none stands there.
-fn opened(
+/// The heading of a block by its name, or why there is none.
+fn block_heading(
     reason: Reason,
     kind: BlockKind,
     first: &Token,
     rest: &[Token],
     name: Read<RawName>,
-) -> Found
-    ensures { result ≡ opened reason kind first.now rest.now name }
+) -> NextItem
+    ensures { result ≡ block_heading reason kind first.now rest.now name }
 {
     match name {
         Read::Fits(name, size) => {
             let line = line_of(first.line, rest_after(rest, size.saturating_sub(1)));
-            Found::Fits(
+            NextItem::Fits(
                 Item::Opens(first.line, kind, name, None),
                 size,
                 Where::Heading(kind, line),
             )
         }
-        Read::LeftOut(_) | Read::No => Found::Misfit(first.line, reason),
+        Read::LeftOut(_) | Read::No => NextItem::Misfit(first.line, reason),
     }
 }
 
-/// What stands where a heading or else something else may stand, and why a heading is refused.
+/// The heading at a place where other items may come too, or why a heading is refused.
 pub fn heading_at(
     alloc: Global,
     reason: Reason,
-    other: Found,
+    other: NextItem,
     first: &Token,
     rest: &[Token],
-) -> Result<Found, NoMemory>
+) -> Result<NextItem, NoMemory>
     ensures { IfOk result (λ found. found ≡ opened_by reason (heading_kind first.now) other first.now rest.now) }
 {
     match heading_kind(first) {
@@ -146,7 +146,7 @@ pub fn heading_at(
             // Given up first: what is owned at a `?` costs the prover.
             drop(other);
             let name = name_at(alloc, kind_word(kind), rest)?;
-            Ok(opened(reason, kind, first, rest, name))
+            Ok(block_heading(reason, kind, first, rest, name))
         }
         None => Ok(other),
     }
@@ -164,7 +164,7 @@ pub fn is_on(line: Line, token: &Token) -> bool
     token.line.0 == line.0
 }
 
-/// How many tokens at the front stand on the line.
+/// How many tokens at the front are on the line.
 pub fn size_on(line: Line, tokens: &[Token]) -> usize
     ensures size { result ≡ size_on line tokens.now }
     ensures within { result ≤ length tokens.now }
@@ -181,7 +181,7 @@ fn has_colon(line: Line, tokens: &[Token]) -> bool
     }
 }
 
-/// A line that is skipped begins here, behind another line.
+/// Whether a line begins here that is skipped, after another line.
 pub fn is_skipped(line: Line, first: &Token, rest: &[Token]) -> bool
     ensures { result ≡ is_skipped line first.now rest.now }
 {

@@ -1,8 +1,8 @@
-//! What stands among the declarations of a block.
+//! The items among the declarations of a block.
 ghost use Rattle.std.specs.Prelude.{◌≡◌, ◌∷◌, IfOk};
-ghost use Rattle.stl_grammar.specs.Items.{closing_at, declaration_found, declared, inside_at, section_end_found, struct_found};
+ghost use Rattle.stl_grammar.specs.Items.{closing_at, declaration_found, declaration_item, inside_at, section_end_found, struct_found};
 
-use crate::heading::copied;
+use crate::heading::copy_of_bytes;
 use crate::misfit::{left_out_reason, undeclared_reason};
 use s7_base::{Line, List, NoMemory, Reason, Token};
 use std::alloc::Global;
@@ -10,11 +10,11 @@ use std::collections::LinkedList;
 use stl_declarations::{
     begins_with_sign, declaration_at, ending_at, ends_level, left_of, open_level,
 };
-use stl_grammar::{Found, Item, Level, Section, Where, Written};
-use stl_statements::Read;
+use stl_grammar::{Item, Level, NextItem, Section, Where, Written};
+use stl_statement_grammar::Read;
 use stl_tree::{BlockKind, InitialItem};
 
-/// The end of the innermost STRUCT, which stands on a line, by what was read behind its word.
+/// The end of the innermost STRUCT, which is on a line, by what was read after its word.
 fn struct_found(
     kind: BlockKind,
     section: Section,
@@ -22,38 +22,38 @@ fn struct_found(
     levels: LinkedList<Level>,
     tokens: &[Token],
     read: Read<List<InitialItem>>,
-) -> Found
+) -> NextItem
     ensures { result ≡ struct_found kind section line levels tokens.now read }
 {
     match read {
         Read::Fits(items, size) => {
-            Found::Fits(
+            NextItem::Fits(
                 Item::Closes(items),
                 size,
                 Where::Inside(kind, section, levels),
             )
         }
-        Read::LeftOut(left) => Found::Misfit(line, left_out_reason(tokens, left)),
-        Read::No => Found::Misfit(line, Reason::BadStatement),
+        Read::LeftOut(left) => NextItem::Misfit(line, left_out_reason(tokens, left)),
+        Read::No => NextItem::Misfit(line, Reason::BadStatement),
     }
 }
 
-/// The end of a section, given its word and what stands behind it.
-fn section_end_found(kind: BlockKind, section: Section, first: &Token, rest: &[Token]) -> Found
+/// The end of a section, given its word and what follows it.
+fn section_end_found(kind: BlockKind, section: Section, first: &Token, rest: &[Token]) -> NextItem
     ensures { result ≡ section_end_found kind section first.now rest.now }
 {
     match section {
         Section::Own if begins_with_sign(";", rest) => {
-            Found::Fits(Item::Mark, 1, Where::Behind(kind, section))
+            NextItem::Fits(Item::Mark, 1, Where::Behind(kind, section))
         }
-        Section::Own => Found::Misfit(first.line, Reason::BadStatement),
+        Section::Own => NextItem::Misfit(first.line, Reason::BadStatement),
         Section::Input | Section::Output | Section::InOut | Section::Static | Section::Temp => {
-            Found::Fits(Item::Mark, 0, Where::Behind(kind, section))
+            NextItem::Fits(Item::Mark, 0, Where::Behind(kind, section))
         }
     }
 }
 
-/// What stands where the word stands that ends the innermost STRUCT or the section.
+/// The item at a place where the innermost STRUCT or the section ends with its word.
 fn closing_at(
     alloc: Global,
     kind: BlockKind,
@@ -62,7 +62,7 @@ fn closing_at(
     tokens: &[Token],
     first: &Token,
     rest: &[Token],
-) -> Result<Found, NoMemory>
+) -> Result<NextItem, NoMemory>
     ensures { IfOk result (λ found. found ≡ closing_at kind section levels tokens.now first.now rest.now) }
 {
     let mut levels = levels;
@@ -75,8 +75,8 @@ fn closing_at(
     }
 }
 
-/// A declaration of so many tokens behind its name.
-fn declared(
+/// A declaration of this many tokens after its name.
+fn declaration_item(
     alloc: Global,
     kind: BlockKind,
     section: Section,
@@ -84,8 +84,8 @@ fn declared(
     first: &Token,
     written: Written,
     size: usize,
-) -> Result<Found, NoMemory>
-    ensures { IfOk result (λ found. found ≡ declared kind section levels first.now written size) }
+) -> Result<NextItem, NoMemory>
+    ensures { IfOk result (λ found. found ≡ declaration_item kind section levels first.now written size) }
 {
     let mut levels = levels;
     open_level(
@@ -94,8 +94,8 @@ fn declared(
         written.innermost,
         written.arrays.len(),
     )?;
-    let name = copied(alloc, first.text.as_slice())?;
-    Ok(Found::Fits(
+    let name = copy_of_bytes(alloc, first.text.as_slice())?;
+    Ok(NextItem::Fits(
         Item::Declares(name, first.line, written),
         size,
         Where::Inside(kind, section, levels),
@@ -111,17 +111,19 @@ fn declaration_found(
     tokens: &[Token],
     first: &Token,
     read: Read<Written>,
-) -> Result<Found, NoMemory>
+) -> Result<NextItem, NoMemory>
     ensures { IfOk result (λ found. found ≡ declaration_found kind section levels tokens.now first.now read) }
 {
     match read {
-        Read::Fits(written, size) => declared(alloc, kind, section, levels, first, written, size),
-        Read::LeftOut(left) => Ok(Found::Misfit(first.line, left_out_reason(tokens, left))),
-        Read::No => Ok(Found::Misfit(first.line, undeclared_reason(tokens))),
+        Read::Fits(written, size) => declaration_item(
+            alloc, kind, section, levels, first, written, size,
+        ),
+        Read::LeftOut(left) => Ok(NextItem::Misfit(first.line, left_out_reason(tokens, left))),
+        Read::No => Ok(NextItem::Misfit(first.line, undeclared_reason(tokens))),
     }
 }
 
-/// What stands among declarations.
+/// The item at a place among declarations.
 pub fn inside_at(
     alloc: Global,
     kind: BlockKind,
@@ -130,7 +132,7 @@ pub fn inside_at(
     tokens: &[Token],
     first: &Token,
     rest: &[Token],
-) -> Result<Found, NoMemory>
+) -> Result<NextItem, NoMemory>
     ensures { IfOk result (λ found. found ≡ inside_at kind section levels tokens.now first.now rest.now) }
 {
     if ends_level(section, &levels, first) {

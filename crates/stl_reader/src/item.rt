@@ -1,7 +1,7 @@
 //! The item at a place of a text.
 ghost use Rattle.std.specs.Prelude.{◌≡◌, [], take, IfOk};
 ghost use Rattle.stl_grammar.specs.Items.{is_complete, statement_at, statement_size, begins_body, behind_at, behind_heading, body_of, cut_line, section_found, is_skipped_alone, statement_found, statement_from, body_at, at_end, at_token, item_at};
-ghost use Rattle.stl_statements.specs.Statements.{instruction_of};
+ghost use Rattle.stl_statement_grammar.specs.Statements.{instruction_of};
 ghost use Rattle.stl_grammar.specs.declared.item.Where.TheVariants.{Body};
 ghost use Rattle.stl_reader.specs.inner.Finding.{HasFirst};
 
@@ -18,38 +18,39 @@ use std::alloc::Global;
 use std::collections::LinkedList;
 use stl_constants::is_word;
 use stl_declarations::section_at;
-use stl_grammar::{Found, Item, Level, Section, Where};
+use stl_grammar::{Item, Level, NextItem, Section, Where};
 use stl_instructions::instruction;
 use stl_tree::BlockKind;
 
-/// The body of a block begins behind its heading.
+/// Whether a token is the BEGIN of a block's body after its heading; in a data block only declarations may
+/// come there.
 fn begins_body(kind: BlockKind, first: &Token) -> bool
     ensures { result ≡ begins_body kind first.now }
 {
     !is_data(kind) && is_word(first, "BEGIN")
 }
 
-/// A section that opens, where one does.
+/// A section that opens, if one does.
 fn section_found(
     alloc: Global,
     kind: BlockKind,
     reason: Reason,
     first: &Token,
     section: Option<Section>,
-) -> Found
+) -> NextItem
     ensures { result ≡ section_found kind reason first.now section }
 {
     match section {
-        Some(section) => Found::Fits(
+        Some(section) => NextItem::Fits(
             Item::Starts(section),
             0,
             Where::Inside(kind, section, LinkedList::new(alloc)),
         ),
-        None => Found::Misfit(first.line, reason),
+        None => NextItem::Misfit(first.line, reason),
     }
 }
 
-/// What stands behind a heading whose last line this is.
+/// The item after a heading whose last line this is.
 fn behind_heading(
     alloc: Global,
     kind: BlockKind,
@@ -57,24 +58,24 @@ fn behind_heading(
     tokens: &[Token],
     first: &Token,
     rest: &[Token],
-) -> Found
+) -> NextItem
     ensures { result ≡ behind_heading kind line tokens.now first.now rest.now }
 {
     if is_skipped(line, first, rest) {
-        Found::Fits(
+        NextItem::Fits(
             Item::Mark,
             size_on(first.line, rest),
             Where::Heading(kind, first.line),
         )
     } else if begins_body(kind, first) {
-        Found::Fits(Item::Mark, 0, Where::Body(kind))
+        NextItem::Fits(Item::Mark, 0, Where::Body(kind))
     } else {
         let reason = reason_in(kind, data_reason(tokens), tokens);
         section_found(alloc, kind, reason, first, section_at(kind, None, first))
     }
 }
 
-/// Where the body of a block stands.
+/// The place of the body of a block.
 fn body_of(kind: BlockKind) -> Where
     ensures { result ≡ body_of kind }
 {
@@ -84,18 +85,18 @@ fn body_of(kind: BlockKind) -> Where
     }
 }
 
-/// What stands behind a section.
+/// The item after a section.
 fn behind_at(
     alloc: Global,
     kind: BlockKind,
     section: Section,
     tokens: &[Token],
     first: &Token,
-) -> Found
+) -> NextItem
     ensures { result ≡ behind_at kind section tokens.now first.now }
 {
     if is_word(first, "BEGIN") {
-        Found::Fits(Item::Mark, 0, body_of(kind))
+        NextItem::Fits(Item::Mark, 0, body_of(kind))
     } else {
         let reason = reason_in(kind, Reason::BadStatement, tokens);
         section_found(
@@ -108,20 +109,20 @@ fn behind_at(
     }
 }
 
-/// A complete statement of so many tokens, given those from its place on.
+/// A complete statement of this many tokens, given the tokens from its place on.
 fn complete_from(
     alloc: Global,
     kind: BlockKind,
     line: Line,
     tokens: &[Token],
     size: usize,
-) -> Result<Found, NoMemory>
+) -> Result<NextItem, NoMemory>
     requires { size ≡ statement_size tokens.now }
     ensures { IfOk result (λ found. found ≡ statement_found (Body kind) tokens.now line (instruction_of (statement_at tokens.now))) }
 {
     match instruction(alloc, front_of(tokens, size)) {
-        Ok(instr) => Ok(Found::Fits(Item::Instr(instr), size, Where::Body(kind))),
-        Err(Rejection::Refused(_, reason)) => Ok(Found::Misfit(
+        Ok(instr) => Ok(NextItem::Fits(Item::Instr(instr), size, Where::Body(kind))),
+        Err(Rejection::Refused(_, reason)) => Ok(NextItem::Misfit(
             line,
             statement_reason(tokens, reason),
         )),
@@ -129,55 +130,55 @@ fn complete_from(
     }
 }
 
-/// A statement.
+/// The statement at a place of a body.
 fn statement_from(
     alloc: Global,
     kind: BlockKind,
     line: Line,
     tokens: &[Token],
-) -> Result<Found, NoMemory>
+) -> Result<NextItem, NoMemory>
     ensures { IfOk result (λ found. found ≡ statement_from (Body kind) line tokens.now) }
 {
     let size = statement_size(tokens);
     if size == tokens.len() {
-        return Ok(Found::Misfit(line, body_reason(tokens)));
+        return Ok(NextItem::Misfit(line, body_reason(tokens)));
     }
     complete_from(alloc, kind, line, tokens, size)
 }
 
-/// What is skipped in a body: an empty statement and `NETWORK`.
+/// Whether a token is skipped in a body: an empty statement or `NETWORK`.
 fn is_skipped_alone(token: &Token) -> bool
     ensures { result ≡ is_skipped_alone token.now }
 {
     is_semicolon(token) || is_word(token, "NETWORK")
 }
 
-/// What stands in a body.
+/// The item at a place in a body.
 fn body_at(
     alloc: Global,
     kind: BlockKind,
     tokens: &[Token],
     first: &Token,
-) -> Result<Found, NoMemory>
+) -> Result<NextItem, NoMemory>
     ensures { IfOk result (λ found. found ≡ body_at kind tokens.now first.now) }
 {
     if is_skipped_alone(first) {
-        Ok(Found::Fits(Item::Mark, 0, Where::Body(kind)))
+        Ok(NextItem::Fits(Item::Mark, 0, Where::Body(kind)))
     } else if is_end(kind, first) {
-        Ok(Found::Fits(Item::Ends(first.line), 0, Where::Between))
+        Ok(NextItem::Fits(Item::Ends(first.line), 0, Where::Between))
     } else {
         statement_from(alloc, kind, first.line, tokens)
     }
 }
 
-/// What stands at a place, given the tokens from there, the first of them and the rest.
+/// The item at a place, given the tokens from there, the first of them and the rest.
 fn at_token(
     alloc: Global,
     place: Where,
     tokens: &[Token],
     first: &Token,
     rest: &[Token],
-) -> Result<Found, NoMemory>
+) -> Result<NextItem, NoMemory>
     ensures { IfOk result (λ found. found ≡ at_token place tokens.now first.now rest.now) }
 {
     match place {
@@ -191,7 +192,7 @@ fn at_token(
             heading_at(
                 alloc,
                 reason,
-                Found::Misfit(first.line, reason),
+                NextItem::Misfit(first.line, reason),
                 first,
                 rest,
             )
@@ -216,24 +217,32 @@ fn cut_line(end: Line, levels: &LinkedList<Level>) -> Line
     }
 }
 
-/// What stands where the tokens of a text have ended.
-fn at_end(end: Line, place: Where) -> Found
+/// What is found where the tokens of a text have ended.
+fn at_end(end: Line, place: Where) -> NextItem
     ensures found { result ≡ at_end end place }
     ensures none { HasFirst [] result }
 {
     match place {
-        Where::Start | Where::Between => Found::Ended,
-        Where::Inside(_, _, levels) => Found::Misfit(cut_line(end, &levels), Reason::BadStatement),
+        Where::Start | Where::Between => NextItem::Ended,
+        Where::Inside(_, _, levels) => NextItem::Misfit(
+            cut_line(end, &levels),
+            Reason::BadStatement,
+        ),
         Where::Table(_) | Where::Heading(_, _) | Where::Behind(_, _) | Where::Body(_) => {
-            Found::Misfit(end, Reason::BadStatement)
+            NextItem::Misfit(end, Reason::BadStatement)
         }
-        Where::Values => Found::Misfit(end, Reason::BadStatement),
+        Where::Values => NextItem::Misfit(end, Reason::BadStatement),
     }
 }
 
-/// What stands at a place of a text that ends on a line, given the tokens from there.
+/// What is found at a place of a text that ends on a line, given the tokens from there.
 #[tactic(auto, unfolding(stl_grammar::specs::Items::item_at))]
-pub fn item_at(alloc: Global, end: Line, place: Where, tokens: &[Token]) -> Result<Found, NoMemory>
+pub fn item_at(
+    alloc: Global,
+    end: Line,
+    place: Where,
+    tokens: &[Token],
+) -> Result<NextItem, NoMemory>
     ensures found { IfOk result (λ found. found ≡ item_at end place tokens.now) }
     ensures some { IfOk result (HasFirst tokens.now) }
 {

@@ -1,11 +1,11 @@
 //! Reads a source text: its raw program, or the first token or item that does not fit.
 //!
-//! Stands on `stl_lexer` for the tokens of a text, on `stl_instructions` (with `stl_constants` and `stl_places`) for
-//! those of a statement and on `stl_declarations` for those of declarations and initial values. `item` reads the item at a place of the text:
-//! `heading` those of blocks, `symbol` those of the symbol table, `inside` those among declarations, `values` those
-//! of the body of a data block. `misfit` says why an item is refused that fits no form, with `cut_off` for headings
-//! that the end of the text cuts off, and `blocks` makes the raw program of the items. `read_blocks` gives exactly
-//! the raw program of a text, or its refusal.
+//! Uses `stl_lexer` for the tokens of a text, `stl_instructions` (with `stl_constants` and `stl_places`) for
+//! those of a statement and `stl_declarations` for those of declarations and initial values. `item` reads the
+//! item at a place of the text: `heading` those of blocks, `symbol` those of the symbol table, `inside` those
+//! among declarations, `values` those of the body of a data block. `misfit` says why an item is refused that
+//! fits no form, with `cut_off` for headings that the end of the text cuts off, and `blocks` makes the raw
+//! program of the items. `read_blocks` gives exactly the raw program of a text, or its refusal.
 #![tactic(auto)]
 
 pub use blocks::read_blocks;

@@ -1,8 +1,8 @@
 //! Why an item that fits no form is refused.
 ghost use Rattle.std.specs.Prelude.{◌≡◌, ◌≤◌, ◌∷◌, false, length};
 ghost use Rattle.stl_grammar.specs.Items.{is_semicolon, statement_size, begins_with_block_word, begins_with_name, data_reason, is_instance, is_not_built, is_complete, left_out_reason, reason_in, reason_with, heading_reason, declaration_reason, statement_reason};
-ghost use Rattle.stl_statements.specs.Statements.{begins_with_label};
-ghost use Rattle.stl_statements.specs.declared.mnemonic.Read.TheVariants as read;
+ghost use Rattle.stl_statement_grammar.specs.Statements.{begins_with_label};
+ghost use Rattle.stl_statement_grammar.specs.declared.mnemonic.Read.TheVariants as read;
 
 use crate::cut_off::is_heading_cut_off;
 use crate::heading::is_data;
@@ -20,7 +20,7 @@ pub fn is_semicolon(token: &Token) -> bool
     is_sign(token, ";")
 }
 
-/// How many tokens stand before the next `;`, or before the end of the text.
+/// How many tokens come before the next `;`, or before the end of the text.
 pub fn statement_size(tokens: &[Token]) -> usize
     ensures size { result ≡ statement_size tokens.now }
     ensures within { result ≤ length tokens.now }
@@ -55,7 +55,8 @@ fn is_not_built(label: bool, cut: bool, tokens: &[Token]) -> bool
         || (is_complete(tokens) && (begins_with_mnemonic(tokens) || label))
 }
 
-/// Why an item that fits no form is refused, given whether it begins with a label and is a heading cut off.
+/// Why an item that fits no form is refused, given whether it begins with a label, and whether it is a
+/// heading that the end of the text cuts off.
 pub fn reason_with(label: bool, cut: bool, tokens: &[Token]) -> Reason
     ensures { result ≡ reason_with label cut tokens.now }
 {
@@ -66,7 +67,7 @@ pub fn reason_with(label: bool, cut: bool, tokens: &[Token]) -> Reason
     }
 }
 
-/// The same where a heading may stand.
+/// Why an item that fits no form is refused where a heading may come: `TYPE` is a user-defined type.
 pub fn heading_reason(tokens: &[Token]) -> Reason
     ensures { result ≡ heading_reason tokens.now }
 {
@@ -77,14 +78,15 @@ pub fn heading_reason(tokens: &[Token]) -> Reason
     }
 }
 
-/// A function block is named at the front, whose instance a data block would be.
+/// Whether the tokens begin with the name of a function block, of which a data block would be an instance.
 fn is_instance(first: &Token, rest: &[Token]) -> bool
     ensures { result ≡ is_instance first.now rest.now }
 {
     is_quoted(first) || has_number("FB", first, rest)
 }
 
-/// The same where the STRUCT of a data block may stand, given the token there and the rest.
+/// Why what comes after the heading of a data block is refused, where its STRUCT may begin, given the first
+/// token there and the rest.
 fn data_reason_at(first: &Token, rest: &[Token]) -> Reason
     ensures { result ≡ data_reason (first.now ∷ rest.now) }
 {
@@ -99,7 +101,8 @@ fn data_reason_at(first: &Token, rest: &[Token]) -> Reason
     }
 }
 
-/// The same, given all tokens from there.
+/// Why what comes after the heading of a data block is refused, where its STRUCT may begin, given all tokens
+/// from there.
 pub fn data_reason(tokens: &[Token]) -> Reason
     ensures { result ≡ data_reason tokens.now }
 {
@@ -109,7 +112,8 @@ pub fn data_reason(tokens: &[Token]) -> Reason
     }
 }
 
-/// The same behind a heading or behind declarations, by what is refused in a data block.
+/// Why an item that fits no form is refused after a heading or after declarations. `in_data` is the reason in
+/// a data block.
 pub fn reason_in(kind: BlockKind, in_data: Reason, tokens: &[Token]) -> Reason
     ensures { result ≡ reason_in kind in_data tokens.now }
 {
@@ -120,14 +124,15 @@ pub fn reason_in(kind: BlockKind, in_data: Reason, tokens: &[Token]) -> Reason
     }
 }
 
-/// The same in a body.
+/// Why an item that fits no form is refused in a body, where it may begin with a label.
 pub fn body_reason(tokens: &[Token]) -> Reason
     ensures { result ≡ reason_with (begins_with_label tokens.now) false tokens.now }
 {
     reason_with(begins_with_label(tokens), false, tokens)
 }
 
-/// Why something is refused in which a part is left out.
+/// Why a statement is refused that has a form of this unsupported kind: its kind where the statement is
+/// complete, else `BadStatement`.
 pub fn left_out_reason(tokens: &[Token], kind: Kind) -> Reason
     ensures { result ≡ left_out_reason tokens.now kind }
 {
@@ -138,7 +143,7 @@ pub fn left_out_reason(tokens: &[Token], kind: Kind) -> Reason
     }
 }
 
-/// A name and a colon stand at the front.
+/// Whether the tokens begin with a name and a colon.
 fn begins_with_name(tokens: &[Token]) -> bool
     ensures { result ≡ begins_with_name tokens.now }
 {
@@ -148,7 +153,8 @@ fn begins_with_name(tokens: &[Token]) -> bool
     }
 }
 
-/// The same of what is no declaration.
+/// Why an item is refused among declarations that is no declaration: `BadStatement` where it begins with a
+/// name and a colon.
 pub fn undeclared_reason(tokens: &[Token]) -> Reason
     ensures { result ≡ declaration_reason tokens.now read.No }
 {
@@ -159,7 +165,8 @@ pub fn undeclared_reason(tokens: &[Token]) -> Reason
     }
 }
 
-/// Why a complete statement is refused that is no instruction, for this reason.
+/// Why a complete statement is refused that is no instruction: `NotBuilt` where it begins like a heading or
+/// an end word, else this reason.
 pub fn statement_reason(tokens: &[Token], reason: Reason) -> Reason
     ensures { result ≡ statement_reason tokens.now reason }
 {

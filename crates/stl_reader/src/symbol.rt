@@ -3,16 +3,16 @@ ghost use Rattle.std.specs.Prelude.{◌≡◌, reverse, IfOk};
 ghost use Rattle.std.specs.List.{prefix_len};
 ghost use Rattle.s7_base.specs.Tokens.{is_blank};
 ghost use Rattle.stl_grammar.specs.Items.{in_table, symbol_found, table_at};
-ghost use Rattle.stl_grammar.specs.Symbols.{address_by, address_of, area_by, bit_address, bit_behind, bit_with, ends_line, ends_table, is_letter, is_next, kind_of, named_address, place_address, place_of, symbol_at, symbol_behind, symbol_line, trimmed, width_by};
+ghost use Rattle.stl_grammar.specs.Symbols.{address_by, address_of, area_by, bit_address, bit_behind, bit_with, ends_line, ends_table, is_letter, is_next, kind_of, named_address, place_address, place_of, symbol_at, symbol_behind, symbol_line, trimmed_field, width_by};
 
-use crate::heading::{copied, is_behind, is_on, kind_word};
+use crate::heading::{copy_of_bytes, is_behind, is_on, kind_word};
 use crate::misfit::{heading_reason, reason_with};
 use digit_texts::{digits_size, kept_number};
 use memory_areas::AreaName;
 use s7_base::{Line, NoMemory, Token, Width, front_of, is_same_word, rest_after};
 use std::alloc::Global;
 use stl_constants::{is_quoted, is_sign, is_word};
-use stl_grammar::{Found, Item, Where};
+use stl_grammar::{Item, NextItem, Where};
 use stl_tree::{BlockKind, RawPlace, SymbolAddress, SymbolLine};
 
 fn is_blank(b: u8) -> bool
@@ -21,14 +21,14 @@ fn is_blank(b: u8) -> bool
     matches!(b, b' ' | b'\t' | b'\r')
 }
 
-/// How many blanks stand at the front.
+/// How many blanks a text begins with.
 fn blanks_at(text: &[u8]) -> usize
     ensures { result ≡ prefix_len is_blank text.now }
 {
     text.iter().take_while(|b| is_blank(**b)).count()
 }
 
-/// How many blanks stand at the end.
+/// How many blanks a text ends with.
 fn blanks_behind(text: &[u8]) -> usize
     ensures { result ≡ prefix_len is_blank (reverse text.now) }
 {
@@ -36,8 +36,8 @@ fn blanks_behind(text: &[u8]) -> usize
 }
 
 /// A field without the blanks at its ends.
-fn trimmed(field: &[u8]) -> &[u8]
-    ensures { result.now ≡ trimmed field.now }
+fn trimmed_field(field: &[u8]) -> &[u8]
+    ensures { result.now ≡ trimmed_field field.now }
 {
     let text = rest_after(field, blanks_at(field));
     front_of(text, text.len().saturating_sub(blanks_behind(text)))
@@ -49,7 +49,7 @@ fn is_letter(b: u8) -> bool
     b.is_ascii_uppercase() || b.is_ascii_lowercase()
 }
 
-/// How many letters stand at the front.
+/// How many letters a text begins with.
 fn letters_at(text: &[u8]) -> usize
     ensures { result ≡ prefix_len is_letter text.now }
 {
@@ -85,7 +85,7 @@ fn area_by(letter: u8) -> Option<AreaName>
     }
 }
 
-/// The width of an address, by the letters behind that of the area.
+/// The width of an address, by the letters after that of the area.
 fn width_by(letters: &[u8]) -> Option<Width>
     ensures { result ≡ width_by letters.now }
 {
@@ -114,7 +114,7 @@ fn place_of(area: AreaName, width: Width, byte: u32, bit: u32) -> SymbolAddress
     })
 }
 
-/// The number behind a point.
+/// The number of a bit after a point.
 fn bit_behind(text: &[u8]) -> Option<u32>
     ensures { result ≡ bit_behind text.now }
 {
@@ -124,7 +124,7 @@ fn bit_behind(text: &[u8]) -> Option<u32>
     }
 }
 
-/// A bit, by its byte and what stands behind it.
+/// The address of a bit, by its byte and what follows it.
 fn bit_with(area: AreaName, rest: &[u8], byte: Option<u32>) -> Option<SymbolAddress>
     ensures { result ≡ bit_with area rest.now byte }
 {
@@ -134,7 +134,7 @@ fn bit_with(area: AreaName, rest: &[u8], byte: Option<u32>) -> Option<SymbolAddr
     }
 }
 
-/// A bit, by its area and what stands behind the letter.
+/// The address of a bit, by its area and what follows the letter of the area.
 fn bit_address(area: AreaName, text: &[u8]) -> Option<SymbolAddress>
     ensures { result ≡ bit_address area text.now }
 {
@@ -146,7 +146,7 @@ fn bit_address(area: AreaName, text: &[u8]) -> Option<SymbolAddress>
     )
 }
 
-/// A place by its area and its width, and what stands behind their letters.
+/// The address of a place, by its area, its width, and what follows their letters.
 fn place_address(area: Option<AreaName>, width: Option<Width>, text: &[u8]) -> Option<SymbolAddress>
     ensures { result ≡ place_address area width text.now }
 {
@@ -157,7 +157,7 @@ fn place_address(area: Option<AreaName>, width: Option<Width>, text: &[u8]) -> O
     }
 }
 
-/// An address by its letters, and what stands behind them.
+/// An address that is no block, by its letters and what follows them.
 fn address_by(letters: &[u8], text: &[u8]) -> Option<SymbolAddress>
     ensures { result ≡ address_by letters.now text.now }
 {
@@ -171,7 +171,7 @@ fn address_by(letters: &[u8], text: &[u8]) -> Option<SymbolAddress>
     }
 }
 
-/// The same, where the letters may be those of a kind of blocks.
+/// An address by its letters and what follows them, where the letters may be those of a kind of blocks.
 fn named_address(kind: Option<BlockKind>, letters: &[u8], text: &[u8]) -> Option<SymbolAddress>
     ensures { result ≡ named_address kind letters.now text.now }
 {
@@ -195,7 +195,7 @@ fn address_of(field: &[u8]) -> SymbolAddress
     }
 }
 
-/// A comma and a field on the line.
+/// Whether a comma and a field follow on the line.
 fn is_next(line: Line, comma: &Token, field: &Token) -> bool
     ensures { result ≡ is_next line comma.now field.now }
 {
@@ -207,9 +207,9 @@ fn symbol_line(alloc: Global, name: &Token, address: &Token) -> Result<SymbolLin
     ensures { IfOk result (λ line. line ≡ symbol_line name.now address.now) }
 {
     Ok(SymbolLine {
-        name: copied(alloc, trimmed(name.text.as_slice()))?,
+        name: copy_of_bytes(alloc, trimmed_field(name.text.as_slice()))?,
         line: name.line,
-        address: address_of(trimmed(address.text.as_slice())),
+        address: address_of(trimmed_field(address.text.as_slice())),
     })
 }
 
@@ -231,7 +231,7 @@ fn symbol_at(alloc: Global, name: &Token, rest: &[Token]) -> Result<Option<Symbo
     Ok(None)
 }
 
-/// A line of the table behind another line.
+/// A line of the table after another line.
 fn symbol_behind(
     alloc: Global,
     line: Line,
@@ -256,45 +256,45 @@ fn ends_line(line: Line, tokens: &[Token]) -> bool
     }
 }
 
-/// The end word of the table, on a line of its own.
+/// Whether the end word of the table is on a line of its own here.
 fn ends_table(line: Line, first: &Token, rest: &[Token]) -> bool
     ensures { result ≡ ends_table line first.now rest.now }
 {
     is_behind(line, first) && is_word(first, "END_SYMBOL_TABLE") && ends_line(first.line, rest)
 }
 
-/// The symbol table may open before the first block.
-pub fn table_at(tokens: &[Token], first: &Token) -> Found
+/// The symbol table, where one may open before the first block.
+pub fn table_at(tokens: &[Token], first: &Token) -> NextItem
     ensures { result ≡ table_at tokens.now first.now }
 {
     if is_word(first, "SYMBOL_TABLE") {
-        Found::Fits(Item::Mark, 0, Where::Table(first.line))
+        NextItem::Fits(Item::Mark, 0, Where::Table(first.line))
     } else {
-        Found::Misfit(first.line, heading_reason(tokens))
+        NextItem::Misfit(first.line, heading_reason(tokens))
     }
 }
 
-fn symbol_found(line: Line, tokens: &[Token], first: &Token, found: Option<SymbolLine>) -> Found
+fn symbol_found(line: Line, tokens: &[Token], first: &Token, found: Option<SymbolLine>) -> NextItem
     ensures { result ≡ symbol_found line tokens.now first.now found }
 {
     match found {
-        Some(symbol) => Found::Fits(Item::Symbol(symbol), 6, Where::Table(first.line)),
-        None => Found::Misfit(first.line, reason_with(false, false, tokens)),
+        Some(symbol) => NextItem::Fits(Item::Symbol(symbol), 6, Where::Table(first.line)),
+        None => NextItem::Misfit(first.line, reason_with(false, false, tokens)),
     }
 }
 
-/// What stands in the symbol table behind a line.
+/// The item in the symbol table after a line.
 pub fn in_table(
     alloc: Global,
     line: Line,
     tokens: &[Token],
     first: &Token,
     rest: &[Token],
-) -> Result<Found, NoMemory>
+) -> Result<NextItem, NoMemory>
     ensures { IfOk result (λ found. found ≡ in_table line tokens.now first.now rest.now) }
 {
     if ends_table(line, first, rest) {
-        return Ok(Found::Fits(Item::Mark, 0, Where::Between));
+        return Ok(NextItem::Fits(Item::Mark, 0, Where::Between));
     }
     let symbol = symbol_behind(alloc, line, first, rest)?;
     Ok(symbol_found(line, tokens, first, symbol))

@@ -7,8 +7,8 @@ use s7_base::{NoMemory, Reason, Token};
 use std::alloc::Global;
 use stl_constants::is_word;
 use stl_declarations::path_value_at;
-use stl_grammar::{Found, Item, Where};
-use stl_statements::Read;
+use stl_grammar::{Item, NextItem, Where};
+use stl_statement_grammar::Read;
 use stl_tree::{BlockKind, RawInitial};
 
 /// The end word of a kind of block.
@@ -30,24 +30,24 @@ pub fn is_end(kind: BlockKind, token: &Token) -> bool
 }
 
 /// An initial value, by what was read.
-fn value_found(tokens: &[Token], first: &Token, read: Read<RawInitial>) -> Found
+fn value_found(tokens: &[Token], first: &Token, read: Read<RawInitial>) -> NextItem
     ensures { result ≡ value_found tokens.now first.now read }
 {
     match read {
         Read::Fits(value, size) => {
-            Found::Fits(Item::Initial(value), size.saturating_sub(1), Where::Values)
+            NextItem::Fits(Item::Initial(value), size.saturating_sub(1), Where::Values)
         }
-        Read::LeftOut(kind) => Found::Misfit(first.line, left_out_reason(tokens, kind)),
-        Read::No => Found::Misfit(first.line, Reason::BadStatement),
+        Read::LeftOut(kind) => NextItem::Misfit(first.line, left_out_reason(tokens, kind)),
+        Read::No => NextItem::Misfit(first.line, Reason::BadStatement),
     }
 }
 
-/// What stands among the initial values of a data block.
-pub fn values_at(alloc: Global, tokens: &[Token], first: &Token) -> Result<Found, NoMemory>
+/// The item among the initial values of a data block.
+pub fn values_at(alloc: Global, tokens: &[Token], first: &Token) -> Result<NextItem, NoMemory>
     ensures { IfOk result (λ found. found ≡ values_at tokens.now first.now) }
 {
     if is_end(BlockKind::Db, first) {
-        return Ok(Found::Fits(Item::Ends(first.line), 0, Where::Between));
+        return Ok(NextItem::Fits(Item::Ends(first.line), 0, Where::Between));
     }
     let read = path_value_at(alloc, first.line, tokens)?;
     Ok(value_found(tokens, first, read))

@@ -1,7 +1,7 @@
 //! The words with which headings, lines that are skipped, sections and ends of blocks begin.
 ghost use Rattle.std.specs.Prelude.{◌≡◌};
 ghost use Rattle.stl_grammar.specs.Headings.{attributes, titles};
-ghost use Rattle.stl_statements.specs.Words.{block_words, is_word_among};
+ghost use Rattle.stl_statement_grammar.specs.Words.{block_words, is_word_among};
 
 use s7_base::Token;
 use stl_constants::is_word_kind;
@@ -39,27 +39,27 @@ const BLOCK_WORDS: [&str; 28] = [
     "END_DATA_BLOCK",
 ];
 
-/// The words of a line that is skipped, those that stand before a colon.
+/// The words of a line that is skipped, where a colon follows them.
 const TITLES: [&str; 4] = ["AUTHOR", "FAMILY", "NAME", "VERSION"];
 
-/// And those that stand alone.
+/// The words of a line that is skipped, where they are alone.
 const ATTRIBUTES: [&str; 3] = ["KNOW_HOW_PROTECT", "CODE_VERSION1", "NON_RETAIN"];
 
-/// The token is a word with which a heading, a line of a heading, a section or an end begins.
+/// Whether the token is a word with which a heading, a line of a heading, a section or an end begins.
 pub fn is_block_word(token: &Token) -> bool
     ensures { result ≡ is_word_among block_words token.now }
 {
     is_word_kind(token) && is_listed(token.text.as_slice(), &BLOCK_WORDS)
 }
 
-/// The token begins a line that is skipped, before a colon.
+/// Whether the token begins a line that is skipped, before a colon.
 pub fn is_title(token: &Token) -> bool
     ensures { result ≡ is_word_among titles token.now }
 {
     is_word_kind(token) && is_listed(token.text.as_slice(), &TITLES)
 }
 
-/// The token begins a line that is skipped.
+/// Whether the token begins a line that is skipped, alone.
 pub fn is_attribute(token: &Token) -> bool
     ensures { result ≡ is_word_among attributes token.now }
 {

@@ -1,15 +1,15 @@
-//! Parts of the accumulators, and what loads, stores and moves them.
+//! Parts of the accumulators, and the instructions that load, store and move them.
 ghost use Rattle.std.specs.Prelude.{◌≡◌, ◌<◌, ◌^◌};
 ghost use Rattle.memory_areas.specs.Access.{bits_wide};
 ghost use Rattle.s7_base.specs.SignedNumbers.{pattern};
 ghost use Rattle.s7_base.specs.declared.word.Width.TheVariants.{Byte};
 ghost use Rattle.stl_registers.specs.Values.{values};
-ghost use Rattle.stl_tree.specs.Accumulators.{accu_popped, accu_pushed, accus_exchanged, counted_down, counted_up, increased, loaded, part, signed_part, status_loaded, status_stored, with_number, with_part};
+ghost use Rattle.stl_tree.specs.Accumulators.{accu_popped, accu_pushed, accus_exchanged, counted_down, counted_up, after_addition, after_load, part, signed_part, status_loaded, status_stored, with_number, with_part};
 
 use crate::registers::Registers;
 use s7_base::{Width, low_byte, low_word, put_low_byte, put_low_word};
 
-/// The lowest bits, so many as a width has.
+/// The lowest bits of a register, as many as a width has.
 pub fn part(width: Width, a: u32) -> u32
     ensures value { result ≡ part width a }
     ensures few { result < 2 ^ bits_wide width }
@@ -22,7 +22,7 @@ pub fn part(width: Width, a: u32) -> u32
     }
 }
 
-/// The number that the lowest bits stand for, the highest of them being the sign.
+/// The number of the lowest bits, as many as a width has, the highest of them being the sign.
 pub fn signed_part(width: Width, a: u32) -> i32
     ensures { result ≡ signed_part width a }
 {
@@ -34,7 +34,7 @@ pub fn signed_part(width: Width, a: u32) -> i32
     }
 }
 
-/// Other lowest bits.
+/// A register with other lowest bits, as many as a width has.
 pub fn with_part(width: Width, a: u32, p: u32) -> u32
     requires { p < 2 ^ bits_wide width }
     ensures { result ≡ with_part width a p }
@@ -47,14 +47,14 @@ pub fn with_part(width: Width, a: u32, p: u32) -> u32
     }
 }
 
-/// The double word that a number leaves.
+/// The pattern of a number in 32 bits.
 fn dword_pattern(z: i64) -> u32
     ensures { result ≡ pattern 32 z }
 {
     (z.cast_unsigned() & 0xffff_ffff) as u32
 }
 
-/// The pattern that a number leaves in a width.
+/// The pattern of a number in a width.
 pub fn pattern(width: Width, z: i64) -> u32
     ensures value { result ≡ pattern (bits_wide width) z }
     ensures few { result < 2 ^ bits_wide width }
@@ -62,7 +62,7 @@ pub fn pattern(width: Width, z: i64) -> u32
     part(width, dword_pattern(z))
 }
 
-/// The lowest bits take what is left there of a number.
+/// A register whose lowest bits, as many as a width has, are the pattern of a number.
 pub fn with_number(width: Width, a: u32, z: i64) -> u32
     ensures { result ≡ with_number width a z }
 {
@@ -70,9 +70,9 @@ pub fn with_number(width: Width, a: u32, z: i64) -> u32
 }
 
 impl Registers {
-    /// `L` of a number: ACCU1 takes it, and ACCU2 what stood in ACCU1.
-    pub fn loaded(self, v: u32) -> Registers
-        ensures { values result ≡ loaded v (values self) }
+    /// `L` of a number: ACCU1 takes it, and ACCU2 takes the old value of ACCU1.
+    pub fn after_load(self, v: u32) -> Registers
+        ensures { values result ≡ after_load v (values self) }
     {
         Registers {
             accu1: v,
@@ -85,7 +85,7 @@ impl Registers {
     pub fn status_loaded(self) -> Registers
         ensures { values result ≡ status_loaded (values self) }
     {
-        self.loaded(u32::from(self.status.word()))
+        self.after_load(u32::from(self.status.word()))
     }
 
     /// `T STW`: six bits of the status word are taken from ACCU1.
@@ -99,7 +99,7 @@ impl Registers {
         }
     }
 
-    /// `TAK`: ACCU1 and ACCU2 change places.
+    /// `TAK`: ACCU1 and ACCU2 exchange their values.
     pub fn accus_exchanged(self) -> Registers
         ensures { values result ≡ accus_exchanged (values self) }
     {
@@ -110,7 +110,7 @@ impl Registers {
         }
     }
 
-    /// `PUSH`: ACCU2 takes what stands in ACCU1.
+    /// `PUSH`: ACCU2 takes the value of ACCU1.
     pub fn accu_pushed(self) -> Registers
         ensures { values result ≡ accu_pushed (values self) }
     {
@@ -120,7 +120,7 @@ impl Registers {
         }
     }
 
-    /// `POP`: ACCU1 takes what stands in ACCU2.
+    /// `POP`: ACCU1 takes the value of ACCU2.
     pub fn accu_popped(self) -> Registers
         ensures { values result ≡ accu_popped (values self) }
     {
@@ -131,8 +131,8 @@ impl Registers {
     }
 
     /// `+ n` and `+ L#n`: adds a number to that in a part of ACCU1.
-    pub fn increased(self, width: Width, n: i32) -> Registers
-        ensures { values result ≡ increased width n (values self) }
+    pub fn after_addition(self, width: Width, n: i32) -> Registers
+        ensures { values result ≡ after_addition width n (values self) }
     {
         let sum = i64::from(signed_part(width, self.accu1)) + i64::from(n);
         Registers {
@@ -141,7 +141,7 @@ impl Registers {
         }
     }
 
-    /// Another lowest byte in ACCU1.
+    /// The registers with another lowest byte in ACCU1.
     fn with_low_byte(self, byte: u8) -> Registers
         ensures { values result ≡ record (values self) { accu1 = with_part Byte self.accu1 byte } }
     {

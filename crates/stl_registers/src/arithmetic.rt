@@ -4,7 +4,7 @@ ghost use Rattle.memory_areas.specs.Access.{bits_wide};
 ghost use Rattle.s7_base.specs.SignedNumbers.{is_over, wrapped};
 ghost use Rattle.status_word.specs.Results.{after_zero_divisor};
 ghost use Rattle.stl_registers.specs.Values.{values};
-ghost use Rattle.stl_tree.specs.Arithmetic.{both_in_words, by_divisor, calculated, compared, holds, negated, product_in, quotient_in_dword, remainder_in_dword, result_in, row_of_numbers, width_of};
+ghost use Rattle.stl_tree.specs.Arithmetic.{both_in_words, by_divisor, after_arithmetic, after_comparison, holds, after_negation, product_in, quotient_in_dword, remainder_in_dword, result_in, arithmetic_of_numbers, width_of};
 
 use crate::accumulators::{pattern, signed_part, with_number};
 use crate::registers::Registers;
@@ -12,21 +12,21 @@ use s7_base::Width;
 use status_word::Test;
 use stl_tree::Arith;
 
-/// What is left of a number in a width.
+/// A number cut to a width, as a number with a sign.
 fn wrapped(width: Width, z: i64) -> i64
     ensures { result ≡ wrapped (bits_wide width) z }
 {
     i64::from(signed_part(width, pattern(width, z)))
 }
 
-/// A number lies outside the range of a width.
+/// Whether a number lies outside the range of a width.
 fn is_over(width: Width, z: i64) -> bool
     ensures { result ≡ is_over (bits_wide width) z }
 {
     wrapped(width, z) != z
 }
 
-/// The width that a row works on.
+/// The width of an arithmetic instruction.
 fn width_of(of: Arith) -> Width
     ensures { result ≡ width_of of }
 {
@@ -36,14 +36,14 @@ fn width_of(of: Arith) -> Width
     }
 }
 
-/// A product, which 64 bits hold.
+/// The product of two numbers, which 64 bits hold.
 fn product(x: i32, y: i32) -> i64
     ensures { result ≡ x *ℤ y }
 {
     i64::from(x) * i64::from(y)
 }
 
-/// A quotient, truncated; that of the least number and -1 is one of 64 bits.
+/// The quotient of two numbers, truncated; that of the least number and -1 has 64 bits.
 fn quotient(x: i32, y: i32) -> i64
     requires { y ≢ pos 0 }
     ensures { result ≡ int_div x y }
@@ -51,7 +51,7 @@ fn quotient(x: i32, y: i32) -> i64
     i64::from(x) / i64::from(y)
 }
 
-/// A remainder, with the sign of the dividend.
+/// The remainder of two numbers, with the sign of the dividend.
 fn remainder(x: i32, y: i32) -> i64
     requires { y ≢ pos 0 }
     ensures { result ≡ int_rem x y }
@@ -66,7 +66,7 @@ fn opposite(x: i32) -> i64
     -i64::from(x)
 }
 
-/// A comparison of the number in ACCU2 with that in ACCU1.
+/// Whether a comparison of the number in ACCU2 with that in ACCU1 is true.
 fn holds(test: Test, x: i32, y: i32) -> bool
     ensures { result ≡ holds test x y }
 {
@@ -82,7 +82,7 @@ fn holds(test: Test, x: i32, y: i32) -> bool
 }
 
 impl Registers {
-    /// A result in a part of ACCU1.
+    /// The registers with a result in a part of ACCU1, shown by the status word.
     fn result_in(self, width: Width, z: i64) -> Registers
         ensures { values result ≡ result_in width z (values self) }
     {
@@ -93,7 +93,7 @@ impl Registers {
         }
     }
 
-    /// A product in the whole of ACCU1.
+    /// The registers with a product in the whole of ACCU1, shown by the status word.
     fn product_in(self, width: Width, z: i64) -> Registers
         ensures { values result ≡ product_in width z (values self) }
     {
@@ -104,7 +104,7 @@ impl Registers {
         }
     }
 
-    /// A division by 0.
+    /// The registers after a division by 0.
     fn divided_by_zero(self) -> Registers
         ensures { values result ≡ record (values self) { status = after_zero_divisor (values self).status } }
     {
@@ -114,7 +114,7 @@ impl Registers {
         }
     }
 
-    /// `/I`
+    /// `/I`: the quotient in the low word of ACCU1, the remainder in the high word.
     fn both_in_words(self, x: i32, y: i32) -> Registers
         ensures { values result ≡ by_divisor both_in_words x y (values self) }
     {
@@ -131,7 +131,7 @@ impl Registers {
         }
     }
 
-    /// `/D`
+    /// `/D`: the quotient in ACCU1.
     fn quotient_in_dword(self, x: i32, y: i32) -> Registers
         ensures { values result ≡ by_divisor quotient_in_dword x y (values self) }
     {
@@ -148,7 +148,7 @@ impl Registers {
         }
     }
 
-    /// `MOD`
+    /// `MOD`: the remainder in ACCU1.
     fn remainder_in_dword(self, x: i32, y: i32) -> Registers
         ensures { values result ≡ by_divisor remainder_in_dword x y (values self) }
     {
@@ -163,9 +163,9 @@ impl Registers {
         }
     }
 
-    /// An arithmetic row, of the numbers in ACCU2 and ACCU1.
-    fn row_of_numbers(self, of: Arith, x: i32, y: i32) -> Registers
-        ensures { values result ≡ row_of_numbers of x y (values self) }
+    /// An arithmetic instruction on the numbers in ACCU2 and ACCU1.
+    fn arithmetic_of_numbers(self, of: Arith, x: i32, y: i32) -> Registers
+        ensures { values result ≡ arithmetic_of_numbers of x y (values self) }
     {
         match of {
             Arith::AddI => self.result_in(Width::Word, i64::from(x) + i64::from(y)),
@@ -180,12 +180,12 @@ impl Registers {
         }
     }
 
-    /// An arithmetic row: the result in ACCU1, shown by the status word.
-    pub fn calculated(self, of: Arith) -> Registers
-        ensures { values result ≡ calculated of (values self) }
+    /// An arithmetic instruction: the result in ACCU1, shown by the status word.
+    pub fn after_arithmetic(self, of: Arith) -> Registers
+        ensures { values result ≡ after_arithmetic of (values self) }
     {
         let width = width_of(of);
-        self.row_of_numbers(
+        self.arithmetic_of_numbers(
             of,
             signed_part(width, self.accu2),
             signed_part(width, self.accu1),
@@ -193,16 +193,16 @@ impl Registers {
     }
 
     /// `NEGI` and `NEGD`: the number in a part of ACCU1 with the other sign.
-    pub fn negated(self, width: Width) -> Registers
-        ensures { values result ≡ negated width (values self) }
+    pub fn after_negation(self, width: Width) -> Registers
+        ensures { values result ≡ after_negation width (values self) }
     {
         self.result_in(width, opposite(signed_part(width, self.accu1)))
     }
 
     /// `==I` to `<=I` and `==D` to `<=D`: the status word shows how the number in ACCU2 compares with that in
     /// ACCU1.
-    pub fn compared(self, test: Test, width: Width) -> Registers
-        ensures { values result ≡ compared test width (values self) }
+    pub fn after_comparison(self, test: Test, width: Width) -> Registers
+        ensures { values result ≡ after_comparison test width (values self) }
     {
         let x = signed_part(width, self.accu2);
         let y = signed_part(width, self.accu1);

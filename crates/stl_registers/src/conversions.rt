@@ -1,10 +1,10 @@
-//! What works on ACCU1 alone.
+//! The instructions on ACCU1 alone.
 ghost use Rattle.std.specs.Prelude.{◌≡◌, ◌-◌, ◌<◌, ◌^◌, IfSome, MatchResult, Ok, Err};
 ghost use Rattle.memory_areas.specs.Access.{bits_wide};
 ghost use Rattle.s7_base.specs.declared.word.Width.TheVariants.{Dword, Word};
 ghost use Rattle.stl_registers.specs.Values.{values};
 ghost use Rattle.stl_tree.specs.Accumulators.{part};
-ghost use Rattle.stl_tree.specs.Conversions.{converted, extended, from_digits, replaced, to_digits, with_digits, with_value_of_digits};
+ghost use Rattle.stl_tree.specs.Conversions.{after_conversion, after_extension, from_digits, with_accu1_part, to_digits, with_digits, with_value_of_digits};
 
 use crate::accumulators::{part, pattern, signed_part, with_number, with_part};
 use crate::registers::Registers;
@@ -12,8 +12,8 @@ use bcd_words::{bcd3_to_int, bcd7_to_dint, dint_to_bcd7, int_to_bcd3};
 use s7_base::{Fault, Width, low_word};
 use stl_tree::UnaryRow;
 
-/// The lowest bits, each inverted.
-fn inverted(width: Width, a: u32) -> u32
+/// The lowest bits, as many as a width has, each inverted.
+fn inverse_part(width: Width, a: u32) -> u32
     ensures value { result ≡ 2 ^ bits_wide width - 1 - part width a }
     ensures few { result < 2 ^ bits_wide width }
 {
@@ -22,9 +22,9 @@ fn inverted(width: Width, a: u32) -> u32
 
 impl Registers {
     /// A part of ACCU1 takes other bits.
-    fn replaced(self, width: Width, p: u32) -> Registers
+    fn with_accu1_part(self, width: Width, p: u32) -> Registers
         requires { p < 2 ^ bits_wide width }
-        ensures { values result ≡ replaced width p (values self) }
+        ensures { values result ≡ with_accu1_part width p (values self) }
     {
         Registers {
             accu1: with_part(width, self.accu1, p),
@@ -32,7 +32,7 @@ impl Registers {
         }
     }
 
-    /// A part of ACCU1 takes the number that digits say.
+    /// A part of ACCU1 takes the number that its digits say.
     fn with_value_of_digits(
         self,
         width: Width,
@@ -51,7 +51,7 @@ impl Registers {
         }
     }
 
-    /// `BTI`
+    /// `BTI`: three digits in the low word of ACCU1 become a number.
     fn word_from_digits(self) -> Result<Registers, Fault>
         ensures { MatchResult result
             (λ after. from_digits Word 3 (values self) ≡ Ok (values after))
@@ -61,7 +61,7 @@ impl Registers {
         self.with_value_of_digits(Width::Word, value)
     }
 
-    /// `BTD`
+    /// `BTD`: seven digits in ACCU1 become a number.
     fn dword_from_digits(self) -> Result<Registers, Fault>
         ensures { MatchResult result
             (λ after. from_digits Dword 7 (values self) ≡ Ok (values after))
@@ -70,7 +70,7 @@ impl Registers {
         self.with_value_of_digits(Width::Dword, bcd7_to_dint(self.accu1))
     }
 
-    /// A part of ACCU1 takes digits, or it is an overflow.
+    /// A part of ACCU1 takes digits; where there are none it is an overflow, and ACCU1 keeps its value.
     fn with_digits(self, width: Width, digits: Option<u32>) -> Registers
         requires { IfSome digits (λ p. p < 2 ^ bits_wide width) }
         ensures { values result ≡ with_digits width digits (values self) }
@@ -88,7 +88,7 @@ impl Registers {
         }
     }
 
-    /// `ITB`
+    /// `ITB`: the number in the low word of ACCU1 becomes three digits.
     fn word_to_digits(self) -> Registers
         ensures { values result ≡ to_digits Word 3 (values self) }
     {
@@ -96,16 +96,16 @@ impl Registers {
         self.with_digits(Width::Word, int_to_bcd3(number).map(u32::from))
     }
 
-    /// `DTB`
+    /// `DTB`: the number in ACCU1 becomes seven digits.
     fn dword_to_digits(self) -> Registers
         ensures { values result ≡ to_digits Dword 7 (values self) }
     {
         self.with_digits(Width::Dword, dint_to_bcd7(self.accu1.cast_signed()))
     }
 
-    /// `ITD`
-    fn extended(self) -> Registers
-        ensures { values result ≡ extended (values self) }
+    /// `ITD`: the number in the low word of ACCU1 becomes one of 32 bits.
+    fn after_extension(self) -> Registers
+        ensures { values result ≡ after_extension (values self) }
     {
         let number = i64::from(signed_part(Width::Word, self.accu1));
         Registers {
@@ -115,26 +115,32 @@ impl Registers {
     }
 
     /// An instruction on ACCU1 alone, or its fault.
-    pub fn converted(self, of: UnaryRow) -> Result<Registers, Fault>
+    pub fn after_conversion(self, of: UnaryRow) -> Result<Registers, Fault>
         ensures { MatchResult result
-            (λ after. converted of (values self) ≡ Ok (values after))
-            (λ fault. converted of (values self) ≡ Err fault) }
+            (λ after. after_conversion of (values self) ≡ Ok (values after))
+            (λ fault. after_conversion of (values self) ≡ Err fault) }
     {
         match of {
             UnaryRow::Bti => self.word_from_digits(),
             UnaryRow::Btd => self.dword_from_digits(),
             UnaryRow::Itb => Ok(self.word_to_digits()),
             UnaryRow::Dtb => Ok(self.dword_to_digits()),
-            UnaryRow::Itd => Ok(self.extended()),
-            UnaryRow::Invi => Ok(self.replaced(Width::Word, inverted(Width::Word, self.accu1))),
-            UnaryRow::Invd => Ok(self.replaced(Width::Dword, inverted(Width::Dword, self.accu1))),
+            UnaryRow::Itd => Ok(self.after_extension()),
+            UnaryRow::Invi => Ok(self.with_accu1_part(
+                Width::Word,
+                inverse_part(Width::Word, self.accu1),
+            )),
+            UnaryRow::Invd => Ok(self.with_accu1_part(
+                Width::Dword,
+                inverse_part(Width::Dword, self.accu1),
+            )),
             UnaryRow::Caw => {
                 let reversed = low_word(self.accu1).swap_bytes();
-                Ok(self.replaced(Width::Word, u32::from(reversed)))
+                Ok(self.with_accu1_part(Width::Word, u32::from(reversed)))
             }
-            UnaryRow::Cad => Ok(self.replaced(Width::Dword, self.accu1.swap_bytes())),
-            UnaryRow::Negi => Ok(self.negated(Width::Word)),
-            UnaryRow::Negd => Ok(self.negated(Width::Dword)),
+            UnaryRow::Cad => Ok(self.with_accu1_part(Width::Dword, self.accu1.swap_bytes())),
+            UnaryRow::Negi => Ok(self.after_negation(Width::Word)),
+            UnaryRow::Negd => Ok(self.after_negation(Width::Dword)),
         }
     }
 }

@@ -1,9 +1,9 @@
 //! The registers of a controller as numbers of their width, what each instruction that works on registers
 //! alone does to them, and numbers at places of a memory.
 //!
-//! Stands on `stl_tree`, whose rows say what the instructions do, on `status_word`, `bcd_words`,
-//! `address_registers` and `memory_areas`, and on `s7_base`. Contracts see registers as the `RegisterValues` of
-//! those rows, through `values`.
+//! Uses `stl_tree`, whose definitions say what the instructions do, `status_word`, `bcd_words`,
+//! `address_registers` and `memory_areas`, and `s7_base`. Contracts see registers as the `RegisterValues` of
+//! those definitions, through `values`.
 #![tactic(auto)]
 
 pub use places::{read_number, write_number};

@@ -7,7 +7,7 @@ ghost use Rattle.stl_tree.specs.Accumulators.{part, read_number, write_number};
 use memory_areas::{Memory, Place};
 use s7_base::{Fault, Width, low_byte, low_word};
 
-/// The number at a place, of a width.
+/// The number of a width at a place.
 pub fn read_number(memory: &Memory, place: Place, width: Width) -> Result<u32, Fault>
     requires { IsActivation place.area }
     ensures value { result ≡ read_number width place memory.now }
@@ -21,8 +21,8 @@ pub fn read_number(memory: &Memory, place: Place, width: Width) -> Result<u32, F
     }
 }
 
-/// Writes the lowest bits of a number at a place, so many as a width has; a refused write leaves the memory as
-/// it was.
+/// Writes the lowest bits of a number at a place, as many as a width has; a refused write leaves the memory
+/// as it was.
 pub fn write_number(memory: &mut Memory, place: Place, width: Width, a: u32) -> Result<(), Fault>
     requires { IsActivation place.area }
     ensures { Writes (write_number width place (part width a) memory.old) result memory.old memory.new }

@@ -1,4 +1,4 @@
-//! The address registers, and what loads, stores and moves them.
+//! The address registers, and the instructions that load, store and move them.
 ghost use Rattle.std.specs.Prelude.{◌≡◌};
 ghost use Rattle.memory_areas.specs.Pointers.{with_offset};
 ghost use Rattle.stl_registers.specs.Values.{values};
@@ -11,7 +11,7 @@ use s7_base::Width;
 use stl_tree::Ar;
 
 impl Registers {
-    /// What an address register holds.
+    /// The value of an address register.
     pub fn pointer(self, register: Ar) -> Pointer
         ensures { result.0 ≡ pointer_in register (values self) }
     {
@@ -28,7 +28,7 @@ impl Registers {
         self.pointer(register).add_offset(offset)
     }
 
-    /// `LAR1` and `LAR2`, of a pointer.
+    /// The effect of `LAR1` and `LAR2` with a pointer.
     pub fn with_pointer(self, register: Ar, p: Pointer) -> Registers
         ensures { values result ≡ with_pointer register p.0 (values self) }
     {
@@ -45,7 +45,7 @@ impl Registers {
         self.with_pointer(register, Pointer(self.accu1))
     }
 
-    /// `LAR1 AR2`: an address register takes what the other one holds.
+    /// `LAR1 AR2`: an address register takes the value of the other one.
     pub fn other_loaded(self, register: Ar) -> Registers
         ensures { values result ≡ other_loaded register (values self) }
     {
@@ -56,17 +56,17 @@ impl Registers {
     pub fn pointer_loaded(self, register: Ar) -> Registers
         ensures { values result ≡ pointer_loaded register (values self) }
     {
-        self.loaded(self.pointer(register).0)
+        self.after_load(self.pointer(register).0)
     }
 
-    /// `TAR1 AR2`: what an address register holds goes to the other one.
+    /// `TAR1 AR2`: the other address register takes the value of this one.
     pub fn other_stored(self, register: Ar) -> Registers
         ensures { values result ≡ other_stored register (values self) }
     {
         self.with_pointer(register.other(), self.pointer(register))
     }
 
-    /// `CAR`: AR1 and AR2 change places.
+    /// `CAR`: AR1 and AR2 exchange their values.
     pub fn pointers_exchanged(self) -> Registers
         ensures { values result ≡ pointers_exchanged (values self) }
     {

@@ -35,21 +35,21 @@ impl Registers {
         }
     }
 
-    /// `OPN` of a data block, which need not be there.
+    /// `OPN` of a data block, which need not exist.
     pub fn db_opened(self, number: u16) -> Registers
         ensures { values result ≡ db_opened number (values self) }
     {
         Registers { db: number, ..self }
     }
 
-    /// `OPN` of an instance, which need not be there.
+    /// `OPN` of an instance, which need not exist.
     pub fn di_opened(self, number: u16) -> Registers
         ensures { values result ≡ di_opened number (values self) }
     {
         Registers { di: number, ..self }
     }
 
-    /// `CDB`: the numbers of the open data block and of the open instance change places.
+    /// `CDB`: the DB and the DI register exchange their numbers.
     pub fn dbs_exchanged(self) -> Registers
         ensures { values result ≡ dbs_exchanged (values self) }
     {
@@ -64,13 +64,13 @@ impl Registers {
     pub fn db_number_loaded(self) -> Registers
         ensures { values result ≡ db_number_loaded (values self) }
     {
-        self.loaded(u32::from(self.db))
+        self.after_load(u32::from(self.db))
     }
 
     /// `L DINO`: loads the number of the open instance.
     pub fn di_number_loaded(self) -> Registers
         ensures { values result ≡ di_number_loaded (values self) }
     {
-        self.loaded(u32::from(self.di))
+        self.after_load(u32::from(self.di))
     }
 }

@@ -2,7 +2,7 @@
 ghost use Rattle.std.specs.Prelude.{◌≡◌, ◌<◌, ◌≤◌, ◌^◌};
 ghost use Rattle.memory_areas.specs.Access.{bits_wide};
 ghost use Rattle.stl_registers.specs.Values.{values};
-ghost use Rattle.stl_tree.specs.Shifts.{after_shift, around_left, around_left_through_cc1, around_right, around_right_through_cc1, count_of, leaving, left, right, right_signed, shifted, step, times, width_of};
+ghost use Rattle.stl_tree.specs.Shifts.{after_shift, around_left, around_left_through_cc1, around_right, around_right_through_cc1, count_of, leaving, left, right, right_signed, after_shift_steps, step, times, width_of};
 
 use crate::accumulators::{part, with_part};
 use crate::registers::Registers;
@@ -10,7 +10,7 @@ use s7_base::{Width, low_byte, low_word};
 use status_word::Flag;
 use stl_tree::ShiftRow;
 
-/// The width that a row shifts.
+/// The width that an instruction shifts.
 fn width_of(of: ShiftRow) -> Width
     ensures { result ≡ width_of of }
 {
@@ -22,7 +22,7 @@ fn width_of(of: ShiftRow) -> Width
     }
 }
 
-/// To the left in 16 bits.
+/// A word shifted to the left.
 #[tactic(auto, using(crate::proofs::Moves::word_left, crate::proofs::Moves::word_gone))]
 fn word_left(n: u8, p: u32) -> u32
     requires { p < 2 ^ 16 }
@@ -36,7 +36,7 @@ fn word_left(n: u8, p: u32) -> u32
     }
 }
 
-/// To the left in 32 bits.
+/// A double word shifted to the left.
 #[tactic(auto, using(crate::proofs::Moves::dword_left, crate::proofs::Moves::dword_gone))]
 fn dword_left(n: u8, p: u32) -> u32
     ensures { result ≡ times n (left 32) p }
@@ -44,7 +44,7 @@ fn dword_left(n: u8, p: u32) -> u32
     if n >= 32 { 0 } else { p << n }
 }
 
-/// To the right.
+/// A word or a double word shifted to the right.
 #[tactic(auto, using(stl_tree::proofs::ShiftForms::right_times, crate::proofs::Moves::right_gone))]
 fn right(n: u8, p: u32) -> u32
     ensures value { result ≡ times n right p }
@@ -53,7 +53,7 @@ fn right(n: u8, p: u32) -> u32
     if n >= 32 { 0 } else { p >> n }
 }
 
-/// To the right in 16 bits, the sign coming in.
+/// A word shifted to the right, with its sign shifted in.
 #[tactic(auto, using(crate::proofs::Moves::word_sign_zero, crate::proofs::Moves::word_sign_one))]
 fn word_right_signed(n: u8, p: u32) -> u32
     requires { p < 2 ^ 16 }
@@ -67,7 +67,7 @@ fn word_right_signed(n: u8, p: u32) -> u32
     }
 }
 
-/// To the right in 32 bits, the sign coming in.
+/// A double word shifted to the right, with its sign shifted in.
 #[tactic(auto, using(crate::proofs::Moves::dword_sign_zero, crate::proofs::Moves::dword_sign_one))]
 fn dword_right_signed(n: u8, p: u32) -> u32
     ensures { result ≡ times n (right_signed 32) p }
@@ -79,7 +79,7 @@ fn dword_right_signed(n: u8, p: u32) -> u32
     }
 }
 
-/// Around to the left.
+/// A double word rotated to the left.
 #[tactic(auto, using(crate::proofs::Moves::turned_left, crate::proofs::Moves::turned_left_below))]
 fn around_left(n: u8, p: u32) -> u32
     ensures { result ≡ times n (around_left 32) p }
@@ -88,7 +88,7 @@ fn around_left(n: u8, p: u32) -> u32
     (wide % 0x1_0000_0000 + wide / 0x1_0000_0000) as u32
 }
 
-/// Around to the right, by what is left to a whole turn to the left.
+/// A double word rotated to the right: to the left by what is left to 32.
 #[tactic(auto, using(stl_tree::proofs::ShiftForms::around_right_times_left))]
 fn around_right(n: u8, p: u32) -> u32
     ensures { result ≡ times n (around_right 32) p }
@@ -96,8 +96,8 @@ fn around_right(n: u8, p: u32) -> u32
     around_left(32 - n % 32, p)
 }
 
-/// Some steps of a row.
-fn moved(of: ShiftRow, n: u8, p: u32) -> u32
+/// A pattern after some steps of a shift or a rotation.
+fn after_steps(of: ShiftRow, n: u8, p: u32) -> u32
     requires { p < 2 ^ bits_wide (width_of of) }
     ensures value { result ≡ times n (step of) p }
     ensures few { result < 2 ^ bits_wide (width_of of) }
@@ -113,7 +113,7 @@ fn moved(of: ShiftRow, n: u8, p: u32) -> u32
     }
 }
 
-/// The bit that leaves in a step.
+/// The bit that is shifted out in a step.
 fn leaving(of: ShiftRow, p: u32) -> bool
     ensures { result ≡ leaving of p }
 {
@@ -127,9 +127,9 @@ fn leaving(of: ShiftRow, p: u32) -> bool
 }
 
 impl Registers {
-    /// Some steps of a row.
-    fn shifted(self, of: ShiftRow, n: u8) -> Registers
-        ensures { values result ≡ shifted of n (values self) }
+    /// The registers after some steps of a shift or a rotation.
+    fn after_shift_steps(self, of: ShiftRow, n: u8) -> Registers
+        ensures { values result ≡ after_shift_steps of n (values self) }
     {
         if n == 0 {
             return self;
@@ -137,13 +137,13 @@ impl Registers {
         let width = width_of(of);
         let p = part(width, self.accu1);
         Registers {
-            accu1: with_part(width, self.accu1, moved(of, n, p)),
-            status: self.status.shifted(leaving(of, moved(of, n - 1, p))),
+            accu1: with_part(width, self.accu1, after_steps(of, n, p)),
+            status: self.status.shifted(leaving(of, after_steps(of, n - 1, p))),
             ..self
         }
     }
 
-    /// The count of a row.
+    /// The count of a shift or a rotation: a constant, or the lowest byte of ACCU2.
     fn count_of(self, count: Option<u8>) -> u8
         ensures { result ≡ count_of count (values self) }
     {
@@ -153,11 +153,11 @@ impl Registers {
         }
     }
 
-    /// A shift or rotation, by a constant or by ACCU2.
+    /// A shift or a rotation, by a constant or by ACCU2.
     pub fn after_shift(self, of: ShiftRow, count: Option<u8>) -> Registers
         ensures { values result ≡ after_shift of count (values self) }
     {
-        self.shifted(of, self.count_of(count))
+        self.after_shift_steps(of, self.count_of(count))
     }
 
     /// `RLDA`: ACCU1 and CC1 together, one step around to the left.

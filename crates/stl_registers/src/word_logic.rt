@@ -2,17 +2,17 @@
 ghost use Rattle.std.specs.Prelude.{◌≡◌, ◌<◌, ◌^◌};
 ghost use Rattle.memory_areas.specs.Access.{bits_wide};
 ghost use Rattle.stl_registers.specs.Values.{values};
-ghost use Rattle.stl_tree.specs.WordLogic.{after_logic_row, combined, logic_result, other_of, width_of};
+ghost use Rattle.stl_tree.specs.WordLogic.{after_word_logic, combination_of, logic_result, other_of, width_of};
 
 use crate::accumulators::{part, with_part};
 use crate::registers::Registers;
 use s7_base::Width;
 use stl_tree::LogicRow;
 
-/// Two patterns, bit by bit.
-fn combined(row: LogicRow, p: u32, q: u32) -> u32
+/// The result of a word logic instruction on two patterns, bit by bit.
+fn combination_of(row: LogicRow, p: u32, q: u32) -> u32
     requires { p < 2 ^ bits_wide (width_of row) × q < 2 ^ bits_wide (width_of row) }
-    ensures value { result ≡ combined row p q }
+    ensures value { result ≡ combination_of row p q }
     ensures few { result < 2 ^ bits_wide (width_of row) }
 {
     match row {
@@ -35,7 +35,7 @@ impl Registers {
         }
     }
 
-    /// What ACCU1 is combined with.
+    /// What ACCU1 is combined with: the constant, or ACCU2.
     fn other_of(self, constant: Option<u32>) -> u32
         ensures { result ≡ other_of constant (values self) }
     {
@@ -45,13 +45,13 @@ impl Registers {
         }
     }
 
-    /// A row of word logic, with a constant or with ACCU2.
-    pub fn after_logic_row(self, row: LogicRow, constant: Option<u32>) -> Registers
-        ensures { values result ≡ after_logic_row row constant (values self) }
+    /// A word logic instruction, with a constant or with ACCU2.
+    pub fn after_word_logic(self, row: LogicRow, constant: Option<u32>) -> Registers
+        ensures { values result ≡ after_word_logic row constant (values self) }
     {
         let width = row.width();
         let p = part(width, self.accu1);
         let q = part(width, self.other_of(constant));
-        self.logic_result(width, combined(row, p, q))
+        self.logic_result(width, combination_of(row, p, q))
     }
 }

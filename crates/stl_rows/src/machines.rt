@@ -1,4 +1,4 @@
-//! Programs and a memory on which the rows run the machine.
+//! Programs and a memory on which the cases run the machine.
 ghost use Rattle.memory_areas.specs.Memory.{IsActivation};
 ghost use Rattle.std.specs.Prelude.{◌≡◌, IfOk};
 
@@ -18,7 +18,7 @@ fn push_ops(body: &mut List<Instr>, line: Line, ops: Vec<Op>) -> Result<(), NoMe
     })
 }
 
-/// A block of some instructions, with its end word behind them.
+/// A block of some instructions, with its end word after them.
 pub fn block(alloc: Global, name: BlockName, ops: Vec<Op>) -> Result<Block, NoMemory> {
     let line = Line(1);
     let mut body = List::new(alloc);

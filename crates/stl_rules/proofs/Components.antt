@@ -13,9 +13,9 @@ use Rattle.stl_tree.specs.declared.raw.DeclType.{DeclType}
 use Rattle.stl_tree.specs.declared.raw.DeclType.TheOpen as T
 use Rattle.stl_tree.specs.declared.raw.PathStep.{PathStep}
 use Rattle.stl_tree.specs.declared.raw.PathStep.TheVariants as step
-use Rattle.stl_rules.specs.Extents.{elements_in, end_of, end_of_all, end_of_sections, extent_of, filled, indices_in, place_behind, section_behind}
-use Rattle.stl_rules.specs.Paths.{Placed, element_at, elements_before, found, is_index, named_behind, named_in, stepped, stepped_in, walked}
-use Rattle.stl_rules.specs.declared.laid.Extent.{Extent}
+use Rattle.stl_rules.specs.Extents.{elements_in, end_of, end_of_all, end_of_sections, extent_of, even_extent, indices_in, place_behind, section_behind}
+use Rattle.stl_rules.specs.Paths.{Placed, element_at, elements_before, named_by_path, is_index, named_behind, named_in, after_step, stepped_in, after_path}
+use Rattle.stl_rules.specs.declared.layout.Extent.{Extent}
 use Rattle.stl_rules.proofs.Ends.{IsEven, bit, byte, word, all_end_behind, all_moved, behind, whole}
 use Rattle.stl_rules.proofs.Equations.{extent_array, extent_struct, step_array, step_date, step_elementary, step_struct}
 use Rattle.stl_rules.proofs.TypeInduction.{every_type}
@@ -108,7 +108,7 @@ shifted place n a b (byte f) h e = omega (arith, h, e)
 shifted place n a b (word f) h e = omega (arith, h, e)
 
 element_inside : (end place : ℕ) (bounds : List (ℤ × ℤ)) (e : DeclType) (indices : List ℤ)
-    → Lies end place (filled (elements_in bounds * (extent_of e).bits))
+    → Lies end place (even_extent (elements_in bounds * (extent_of e).bits))
     → IfSome (element_at place bounds e indices) (LiesIn end)
 element_inside end place bounds e indices h = by (elements_before 0 bounds indices) (before_all bounds indices 0)
   where
@@ -133,13 +133,13 @@ element_inside end place bounds e indices h = by (elements_before 0 bounds indic
 -- Steps
 
 abbrev StepsInside : DeclType → Type 0
-StepsInside ty = (end place : ℕ) (s : PathStep) → Lies end place (extent_of ty) → IfSome (stepped place ty s) (LiesIn end)
+StepsInside ty = (end place : ℕ) (s : PathStep) → Lies end place (extent_of ty) → IfSome (after_step place ty s) (LiesIn end)
 
 abbrev Inside : ℕ → Option Placed → Type 0
 Inside end o = IfSome o (LiesIn end)
 
 array_inside : (bounds : List (ℤ × ℤ)) (e : DeclType) (end place : ℕ) (s : PathStep)
-    → Lies end place (filled (elements_in bounds * (extent_of e).bits)) → Inside end (stepped_in place (T.Array bounds e) s)
+    → Lies end place (even_extent (elements_in bounds * (extent_of e).bits)) → Inside end (stepped_in place (T.Array bounds e) s)
 array_inside bounds e end place (step.Name name) h = tt
 array_inside bounds e end place (step.Index indices) h = element_inside end place bounds e indices h
 
@@ -147,7 +147,7 @@ wider : (a b : ℕ) (o : Option Placed) → a ≤ b → Inside a o → Inside b 
 wider a b None h l = tt
 wider a b (Some at) h l = let within = l.within in record { multiple = l.multiple; within = omega (arith, h, within) }
 
-struct_inside : (parts : List Declaration) (end place : ℕ) (s : PathStep) → Lies end place (filled (end_of_all 0 parts))
+struct_inside : (parts : List Declaration) (end place : ℕ) (s : PathStep) → Lies end place (even_extent (end_of_all 0 parts))
     → Inside end (stepped_in place (T.Struct parts) s)
 struct_inside parts end place (step.Name name) h =
     let all : end_of_all (place + 0) parts ≡ place + end_of_all 0 parts = all_moved place 0 parts h.multiple in
@@ -170,22 +170,22 @@ step_inside =
           (struct_inside parts end place s (subst (Lies end place) (extent_struct parts) h));
     })
 
-walk_inside : (path : List PathStep) (end : ℕ) (at : Placed) → LiesIn end at → Inside end (walked path at)
+walk_inside : (path : List PathStep) (end : ℕ) (at : Placed) → LiesIn end at → Inside end (after_path path at)
 walk_inside [] end at h = h
-walk_inside (s ∷ path) end at h = further (λ x l. walk_inside path end x l) (stepped at.0 at.1 s) (step_inside at.1 end at.0 s h)
+walk_inside (s ∷ path) end at h = further (λ x l. walk_inside path end x l) (after_step at.0 at.1 s) (step_inside at.1 end at.0 s h)
   where
-    further : ((x : Placed) → LiesIn end x → Inside end (walked path x)) → (o : Option Placed) → Inside end o
-        → Inside end (option_and_then (walked path) o)
+    further : ((x : Placed) → LiesIn end x → Inside end (after_path path x)) → (o : Option Placed) → Inside end o
+        → Inside end (option_and_then (after_path path) o)
     further more None l = tt
     further more (Some x) l = more x l
 
 -- what a path names lies inside the declarations
-pub found_inside : (decls : List Declaration) (path : List PathStep) → IfSome (found (decls ∷ []) path) (LiesIn (end_of_all 0 decls))
+pub found_inside : (decls : List Declaration) (path : List PathStep) → IfSome (named_by_path (decls ∷ []) path) (LiesIn (end_of_all 0 decls))
 found_inside decls [] = tt
 found_inside decls (step.Name name ∷ path) = further (named_behind 0 decls name) (named_inside decls 0 name)
   where
     further : (o : Option Placed) → Inside (end_of_all 0 decls) o
-        → Inside (end_of_all 0 decls) (option_and_then (walked path) (option_or o None))
+        → Inside (end_of_all 0 decls) (option_and_then (after_path path) (option_or o None))
     further None l = tt
     further (Some at) l = walk_inside path (end_of_all 0 decls) at l
 found_inside decls (step.Index indices ∷ path) = tt
@@ -215,11 +215,11 @@ named_in_inside (s ∷ sections) end name =
     by (Some at) h more = h
 
 -- what a path names lies inside the sections
-pub found_in_sections : (sections : List (List Declaration)) (path : List PathStep) → IfSome (found sections path) (LiesIn (end_of_sections 0 sections))
+pub found_in_sections : (sections : List (List Declaration)) (path : List PathStep) → IfSome (named_by_path sections path) (LiesIn (end_of_sections 0 sections))
 found_in_sections sections [] = tt
 found_in_sections sections (step.Name name ∷ path) = further (named_in 0 sections name) (named_in_inside sections 0 name)
   where
-    further : (o : Option Placed) → Inside (end_of_sections 0 sections) o → Inside (end_of_sections 0 sections) (option_and_then (walked path) o)
+    further : (o : Option Placed) → Inside (end_of_sections 0 sections) o → Inside (end_of_sections 0 sections) (option_and_then (after_path path) o)
     further None l = tt
     further (Some at) l = walk_inside path (end_of_sections 0 sections) at l
 found_in_sections sections (step.Index indices ∷ path) = tt

@@ -9,7 +9,7 @@ use Rattle.stl_tree.specs.declared.raw.DeclType.TheVariants as type
 use Rattle.stl_tree.specs.declared.raw.ElemType.{ElemType}
 use Rattle.stl_rules.specs.DeclarationRules.{elementary}
 use Rattle.stl_rules.specs.Extents.{end_of, end_of_all, extent_of, extent_of_width, width_of}
-use Rattle.stl_rules.specs.declared.laid.Extent.{Extent}
+use Rattle.stl_rules.specs.declared.layout.Extent.{Extent}
 use Rattle.stl_rules.proofs.Equations.{elementary_of_array, elementary_of_date, elementary_of_elementary, elementary_of_struct, extent_array, extent_date, extent_elementary, extent_struct}
 use Rattle.stl_rules.proofs.TypeInduction.{every_type}
 

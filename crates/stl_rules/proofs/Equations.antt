@@ -2,7 +2,7 @@
 use Rattle.std.specs.Prelude.{◌≡◌, ℕ, ◌*◌, ◌-◌, ℤ, Bool, List, [], ◌∷◌, ◌++◌, map, length, Some, None}
 use Rattle.std.specs.List.{flat_map, fold}
 use Rattle.std.proofs.Common.{refl, sym, ap, ◌∙◌}
-use Rattle.s7_base.specs.declared.broken.Break.{Break}
+use Rattle.s7_base.specs.declared.rule_break.Break.{Break}
 use Rattle.s7_base.specs.declared.reason.Line.{Line}
 use Rattle.stl_tree.specs.declared.raw.Constant.{Constant}
 use Rattle.stl_tree.specs.declared.raw.Declaration.{Declaration, Declaration-F, fold-Declaration, fold_out-Declaration, out-Declaration, para-Declaration, para-roll-Declaration, roll-out-Declaration}
@@ -12,11 +12,11 @@ use Rattle.stl_tree.specs.declared.raw.DeclType.TheVariants as type
 use Rattle.stl_tree.specs.declared.raw.ElemType.{ElemType}
 use Rattle.stl_tree.specs.declared.raw.PathStep.{PathStep}
 use Rattle.stl_rules.specs.Contents.{bits_behind, bits_step, declaration_bits, declared_step, filled_to, laid_behind, times, type_bits, value_bits, values_of, zeros}
-use Rattle.stl_rules.specs.Extents.{elements_in, end_behind, end_of, end_of_all, extent_of, extent_of_width, extent_step, filled, width_of}
-use Rattle.stl_rules.specs.DeclarationRules.{array_breaks, declaration_breaks, declaration_step, elementary, elementary_step, is_named, key_of, repeated, scope_breaks, takes, takes_step, type_breaks, type_step, value_breaks, with_name}
-use Rattle.stl_rules.specs.Paths.{stepped, stepped_in}
+use Rattle.stl_rules.specs.Extents.{elements_in, end_behind, end_of, end_of_all, extent_of, extent_of_width, extent_step, even_extent, width_of}
+use Rattle.stl_rules.specs.DeclarationRules.{array_breaks, declaration_breaks, declaration_step, elementary, elementary_step, is_named, key_of, break_if_repeated, scope_breaks, takes, takes_step, type_breaks, type_step, value_breaks, with_name}
+use Rattle.stl_rules.specs.Paths.{after_step, stepped_in}
 use Rattle.stl_rules.specs.TooLarge.{Inside, first_large, inside, inside_declaration, inside_step, of_type}
-use Rattle.stl_rules.specs.declared.laid.Extent.{Extent}
+use Rattle.stl_rules.specs.declared.layout.Extent.{Extent}
 
 -- Types, opened
 
@@ -95,7 +95,7 @@ pub extent_date : extent_of type.DateAndTime ≡ record { alignment = 16; bits =
 extent_date = extent_opened type.DateAndTime T.DateAndTime (sym type.rolls-DateAndTime)
 
 pub extent_array : (bounds : List (ℤ × ℤ)) (e : DeclType)
-    → extent_of (type.Array bounds e) ≡ filled (elements_in bounds * (extent_of e).bits)
+    → extent_of (type.Array bounds e) ≡ even_extent (elements_in bounds * (extent_of e).bits)
 extent_array bounds e = extent_opened (type.Array bounds e) (T.Array bounds e) (sym (type.rolls-Array bounds e))
 
 extent_declaration : (d : Declaration) → fold-Declaration Extent Extent extent_step own_type d ≡ extent_of d.ty
@@ -109,9 +109,9 @@ ends end (d ∷ parts) =
     (extent_declaration d)
     ∙ ends (end_of end d) parts
 
-pub extent_struct : (parts : List Declaration) → extent_of (type.Struct parts) ≡ filled (end_of_all 0 parts)
+pub extent_struct : (parts : List Declaration) → extent_of (type.Struct parts) ≡ even_extent (end_of_all 0 parts)
 extent_struct parts =
-    extent_opened (type.Struct parts) (T.Struct parts) (sym (type.rolls-Struct parts)) ∙ ap filled (ends 0 parts)
+    extent_opened (type.Struct parts) (T.Struct parts) (sym (type.rolls-Struct parts)) ∙ ap even_extent (ends 0 parts)
 
 pub ruleset extent_equations = (extent_elementary, extent_date, extent_array, extent_struct)
 
@@ -200,7 +200,7 @@ scope_nil names = refl
 
 pub scope_cons : (names : List (List ℕ)) (d : Declaration) (decls : List Declaration)
     → scope_breaks names (d ∷ decls)
-    ≡ repeated d.line (is_named (key_of d.name) names) ++ declaration_breaks d ++ scope_breaks (with_name (key_of d.name) names) decls
+    ≡ break_if_repeated d.line (is_named (key_of d.name) names) ++ declaration_breaks d ++ scope_breaks (with_name (key_of d.name) names) decls
 unfolding scope_breaks
 scope_cons names d decls = refl
 
@@ -273,18 +273,18 @@ pub ruleset bits_equations = (bits_elementary, bits_date, bits_array, bits_struc
 
 -- Steps of a path
 
-pub step_elementary : (place : ℕ) (e : ElemType) (s : PathStep) → stepped place (type.Elementary e) s ≡ None
+pub step_elementary : (place : ℕ) (e : ElemType) (s : PathStep) → after_step place (type.Elementary e) s ≡ None
 step_elementary place e s = ap (λ y. stepped_in place y s) (out_elementary e)
 
-pub step_date : (place : ℕ) (s : PathStep) → stepped place type.DateAndTime s ≡ None
+pub step_date : (place : ℕ) (s : PathStep) → after_step place type.DateAndTime s ≡ None
 step_date place s = ap (λ y. stepped_in place y s) out_date
 
 pub step_array : (place : ℕ) (bounds : List (ℤ × ℤ)) (e : DeclType) (s : PathStep)
-    → stepped place (type.Array bounds e) s ≡ stepped_in place (T.Array bounds e) s
+    → after_step place (type.Array bounds e) s ≡ stepped_in place (T.Array bounds e) s
 step_array place bounds e s = ap (λ y. stepped_in place y s) (out_array bounds e)
 
 pub step_struct : (place : ℕ) (parts : List Declaration) (s : PathStep)
-    → stepped place (type.Struct parts) s ≡ stepped_in place (T.Struct parts) s
+    → after_step place (type.Struct parts) s ≡ stepped_in place (T.Struct parts) s
 step_struct place parts s = ap (λ y. stepped_in place y s) (out_struct parts)
 
 pub ruleset step_equations = (step_elementary, step_date, step_array, step_struct)

@@ -8,7 +8,7 @@ use Rattle.std.proofs.Math.Nat.{le-mul_of_pos_right}
 use Rattle.std.proofs.lemmas.Bool.{and_parts, leb-true, ltb-false}
 use Rattle.std.proofs.lemmas.List.{append-nil, length-replicate}
 use Rattle.std.proofs.lemmas.List.Concat.{flat_map-cons}
-use Rattle.s7_base.specs.Broken.{broken}
+use Rattle.s7_base.specs.Broken.{rule_break}
 use Rattle.s7_base.specs.declared.reason.Line.{Line}
 use Rattle.s7_base.specs.declared.reason.Reason.TheVariants.{BadOperand}
 use Rattle.s7_base.specs.declared.word.Width.{Width}
@@ -21,8 +21,8 @@ use Rattle.stl_tree.specs.declared.raw.DeclType.TheVariants as type
 use Rattle.stl_tree.specs.declared.raw.ElemType.{ElemType}
 use Rattle.stl_tree.specs.declared.raw.InitialItem.{InitialItem}
 use Rattle.stl_rules.specs.Contents.{bits_behind, bits_of_sections, filled_to, first_bytes, times, type_bits, value_bits, values_of, zeros}
-use Rattle.stl_rules.specs.DeclarationRules.{all_fit, are_values, array_breaks, counted, declaration_breaks, elementary, elementary_step, is_named, key_of, repeated, scope_breaks, section_breaks, takes, takes_step, type_breaks, value_breaks, values_in, with_name}
-use Rattle.stl_rules.specs.Extents.{elements_in, end_of, end_of_all, end_of_sections, extent_of, extent_of_width, filled, place_behind, section_behind, width_of}
+use Rattle.stl_rules.specs.DeclarationRules.{all_fit, are_values, array_breaks, capped_count, declaration_breaks, elementary, elementary_step, is_named, key_of, break_if_repeated, scope_breaks, section_breaks, takes, takes_step, type_breaks, value_breaks, values_in, with_name}
+use Rattle.stl_rules.specs.Extents.{elements_in, end_of, end_of_all, end_of_sections, extent_of, extent_of_width, even_extent, place_behind, section_behind, width_of}
 use Rattle.stl_rules.specs.Layouts.{breaks_in, initial_of, too_large}
 use Rattle.stl_rules.specs.TooLarge.{first_large, first_large_in, inside, length_to, passes}
 use Rattle.stl_rules.proofs.Ends.{behind, of_elementary}
@@ -107,7 +107,7 @@ no_values : {o : Option (ElemType × ℕ)} (most : ElemType × ℕ) → o ≡ No
 no_values most e f = cc
 
 elements_bounded : (bounds : List (ℤ × ℤ)) (e : DeclType) (most : ElemType × ℕ) (o : Option ElemType) → elementary e ≡ o
-    → option_map (λ (x : ElemType). (x, elements_in bounds)) o ≡ Some most → most.1 ≤ (filled (elements_in bounds * (extent_of e).bits)).bits
+    → option_map (λ (x : ElemType). (x, elements_in bounds)) o ≡ Some most → most.1 ≤ (even_extent (elements_in bounds * (extent_of e).bits)).bits
 elements_bounded bounds e most None f h = absurd cc
 elements_bounded bounds e most (Some x) f h =
     let pair : (x, elements_in bounds) ≡ most = cc in
@@ -135,8 +135,8 @@ fitting : (o : Option (ElemType × ℕ)) (items : List InitialItem) → ((most :
 fitting None [] low h = refl
 fitting None (item ∷ items) low h = absurd cc
 fitting (Some most) items low h =
-    let p = and_parts (all_fit (width_of most.0) items) (nat_le (counted (values_in items)) (counted most.1)) h in
-    let few = leb-true (counted (values_in items)) (counted most.1) p.1 in
+    let p = and_parts (all_fit (width_of most.0) items) (nat_le (capped_count (values_in items)) (capped_count most.1)) h in
+    let few = leb-true (capped_count (values_in items)) (capped_count most.1) p.1 in
     let small = low most refl in
     let all = length_values items in
     omega (arith, few, small, all)
@@ -144,7 +144,7 @@ fitting (Some most) items low h =
 no_break : (line : Line) (o : Option (ElemType × ℕ)) (items : List InitialItem) → value_breaks line o items ≡ [] → are_values o items ≡ true
 no_break line o items h = by (are_values o items) h
   where
-    by : (b : Bool) → (if b then [] else broken line BadOperand) ≡ [] → b ≡ true
+    by : (b : Bool) → (if b then [] else rule_break line BadOperand) ≡ [] → b ≡ true
     by true e = refl
     by false e = absurd cc
 
@@ -193,13 +193,15 @@ module _ (limit : ℕ) (small : limit < 2 ^ 32) where
       (fitting (takes d.ty) d.initial (λ most t. let few = bounded d.ty most t in omega (arith, few, low, small))
       (no_break d.line (takes d.ty) d.initial parts.1))
 
-  laid : (decls : List Declaration) → Each HasLength decls → (names : List (List ℕ)) (end : ℕ) (bits : List Bool)
+  length_laid_out : (decls : List Declaration) → Each HasLength decls → (names : List (List ℕ)) (end : ℕ) (bits : List Bool)
       → scope_breaks names decls ≡ [] → first_large limit end decls ≡ None
       → length (bits_behind bits decls) ≡ end_of_all (length bits) decls
-  laid [] has names end bits e g = ap length (laid_nil bits)
-  laid (d ∷ decls) has names end bits e g =
-      let parts = no_parts (repeated d.line (is_named (key_of d.name) names) ++ declaration_breaks d) (scope_breaks (with_name (key_of d.name) names) decls) (sym (scope_cons names d decls) ∙ e) in
-      let own = no_parts (repeated d.line (is_named (key_of d.name) names)) (declaration_breaks d) parts.0 in
+  length_laid_out [] has names end bits e g = ap length (laid_nil bits)
+  length_laid_out (d ∷ decls) has names end bits e g =
+      let parts =
+      no_parts (break_if_repeated d.line (is_named (key_of d.name) names) ++ declaration_breaks d)
+      (scope_breaks (with_name (key_of d.name) names) decls) (sym (scope_cons names d decls) ∙ e) in
+      let own = no_parts (break_if_repeated d.line (is_named (key_of d.name) names)) (declaration_breaks d) parts.0 in
       let on = goes end d decls g in
       let before : List Bool = filled_to (extent_of d.ty).alignment bits in
       let value = declared end d decls has.0 own.1 on in
@@ -207,7 +209,7 @@ module _ (limit : ℕ) (small : limit < 2 ^ 32) where
       let both = length-append before (type_bits d.ty (values_of d.initial)) in
       let next : length (before ++ type_bits d.ty (values_of d.initial)) ≡ end_of (length bits) d = omega (arith, value, up, both) in
       ap length (laid_cons bits d decls)
-      ∙ laid decls has.1 (with_name (key_of d.name) names) (end_of end d) (before ++ type_bits d.ty (values_of d.initial)) parts.1 on.more
+      ∙ length_laid_out decls has.1 (with_name (key_of d.name) names) (end_of end d) (before ++ type_bits d.ty (values_of d.initial)) parts.1 on.more
       ∙ ap (λ n. end_of_all n decls) next
 
   -- the last end is within the limit
@@ -233,19 +235,19 @@ module _ (limit : ℕ) (small : limit < 2 ^ 32) where
   array_bits : (bounds : List (ℤ × ℤ)) (e : DeclType) (values : List Constant) (n : ℕ) → length values ≤ elements_in bounds
       → length (flat_map (λ (c : Constant). type_bits e (c ∷ [])) values) ≡ length values * n → length (type_bits e []) ≡ n
       → length (filled_to 16 (flat_map (λ (c : Constant). type_bits e (c ∷ [])) values ++ times (elements_in bounds - length values) (type_bits e [])))
-      ≡ (filled (elements_in bounds * n)).bits
+      ≡ (even_extent (elements_in bounds * n)).bits
   array_bits bounds e values n few first more =
-      let given : List Bool = flat_map (λ (c : Constant). type_bits e (c ∷ [])) values in
+      let given_bits : List Bool = flat_map (λ (c : Constant). type_bits e (c ∷ [])) values in
       let left : List Bool = times (elements_in bounds - length values) (type_bits e []) in
-      let both = length-append given left in
+      let both = length-append given_bits left in
       let times_left = length_times (elements_in bounds - length values) (type_bits e []) in
       let rest : (elements_in bounds - length values) * length (type_bits e []) ≡ (elements_in bounds - length values) * n
       = ap (λ k. (elements_in bounds - length values) * k) more in
       let sum : length values + (elements_in bounds - length values) ≡ elements_in bounds = omega (arith, few) in
       let product : length values * n + (elements_in bounds - length values) * n ≡ (length values + (elements_in bounds - length values)) * n = omega arith in
-      let all : length (given ++ left) ≡ elements_in bounds * n
+      let all : length (given_bits ++ left) ≡ elements_in bounds * n
       = omega (arith, both, times_left, rest, first, product, ap (λ k. k * n) sum) in
-      length_filled 16 (given ++ left) ∙ ap (λ k. next_multiple_of k 16) all
+      length_filled 16 (given_bits ++ left) ∙ ap (λ k. next_multiple_of k 16) all
 
   array_has : (bounds : List (ℤ × ℤ)) (e : DeclType) → HasLength e → HasLength (type.Array bounds e)
   array_has bounds e has place line b i values fit =
@@ -270,7 +272,7 @@ module _ (limit : ℕ) (small : limit < 2 ^ 32) where
 
       by : (o : Option ElemType) → elementary e ≡ o → Fits (option_map (λ (x : ElemType). (x, elements_in bounds)) o) (length values)
           → length (filled_to 16 (flat_map (λ (c : Constant). type_bits e (c ∷ [])) values ++ times (elements_in bounds - length values) (type_bits e [])))
-          ≡ (filled (elements_in bounds * bits)).bits
+          ≡ (even_extent (elements_in bounds * bits)).bits
       by None h f = array_bits bounds e values bits (omega (arith, f)) (none values f) blank
         where
           none : (more : List Constant) → length more ≡ 0 → length (flat_map (λ (c : Constant). type_bits e (c ∷ [])) more) ≡ length more * bits
@@ -284,7 +286,7 @@ module _ (limit : ℕ) (small : limit < 2 ^ 32) where
   struct_has parts has place line b i values fit =
       ap length (bits_struct parts values)
       ∙ length_filled 16 (bits_behind [] parts)
-      ∙ ap (λ n. next_multiple_of n 16) (laid parts has [] place [] (sym (breaks_struct parts line) ∙ b) (sym (inside_struct limit parts place) ∙ i))
+      ∙ ap (λ n. next_multiple_of n 16) (length_laid_out parts has [] place [] (sym (breaks_struct parts line) ∙ b) (sym (inside_struct limit parts place) ∙ i))
       ∙ sym (ap (λ x. x.bits) (extent_struct parts))
 
   steps : TypeSteps HasLength
@@ -312,7 +314,7 @@ module _ (limit : ℕ) (small : limit < 2 ^ 32) where
       let parts = no_parts (section_breaks (decls ∷ [])) (too_large (first_large_in limit 0 (decls ∷ []))) e in
       let scope : scope_breaks [] decls ≡ [] = sym (ap (λ ds. scope_breaks [] ds) (append-nil decls)) ∙ parts.0 in
       let large = no_line (first_large limit 0 decls) parts.1 in
-      let all = laid decls (each_type HasLength steps decls) [] 0 [] scope large in
+      let all = length_laid_out decls (each_type HasLength steps decls) [] 0 [] scope large in
       record {
         is = length_first (next_multiple_of (length (bits_behind [] decls)) 16 / 8) (filled_to 16 (bits_behind [] decls)) ∙ ap length_to all;
         within = ends_low decls 0 (omega arith) large;
@@ -330,7 +332,7 @@ module _ (limit : ℕ) (small : limit < 2 ^ 32) where
   scope_parts names [] b e = (scope_nil names, e)
   scope_parts names (d ∷ a) b e =
       let next = with_name (key_of d.name) names in
-      let here = repeated d.line (is_named (key_of d.name) names) ++ declaration_breaks d in
+      let here = break_if_repeated d.line (is_named (key_of d.name) names) ++ declaration_breaks d in
       let parts = no_parts here (scope_breaks next (a ++ b)) (sym (scope_cons names d (a ++ b)) ∙ e) in
       let more = scope_parts next a b parts.1 in
       (scope_cons names d a ∙ ap (λ bs. bs ++ scope_breaks next a) parts.0 ∙ more.0, more.1)
@@ -348,7 +350,7 @@ module _ (limit : ℕ) (small : limit < 2 ^ 32) where
       let parts = scope_parts names s more (sym (ap (scope_breaks names) (flat_map-cons (λ section. section) s sections)) ∙ e) in
       let large = neither (first_large limit (section_behind end) s) (first_large_in limit (end_of_all (section_behind end) s) sections) g in
       let here : length (bits_behind (filled_to 16 bits) s) ≡ end_of_all (section_behind (length bits)) s
-      = laid s (each_type HasLength steps s) names (section_behind end) (filled_to 16 bits) parts.0 large.0
+      = length_laid_out s (each_type HasLength steps s) names (section_behind end) (filled_to 16 bits) parts.0 large.0
       ∙ ap (λ n. end_of_all n s) (length_filled 16 bits) in
       sections_laid sections (names_behind names s) (end_of_all (section_behind end) s) (bits_behind (filled_to 16 bits) s) parts.1 large.1
       ∙ ap (λ n. end_of_sections n sections) here

@@ -1,15 +1,10 @@
-pub mod AcceptedLaws
-pub mod CodeBlocks
 pub mod Components
-pub mod DataBlockLaws
 pub mod Ends
 pub mod Equations
-mod LayoutRows
+mod LayoutCases
 pub mod Lengths
 pub mod Lists
-mod NameRows
-mod OperandRows
-pub mod ProgramLaws
-pub mod StageLaws
+mod NameCases
+mod OperandCases
 pub mod TypeInduction
-mod VerdictRows
+mod VerdictCases

@@ -20,7 +20,8 @@ put P None rest h more = more
 put P (Some y) rest h more = All-cons P y rest h more
 
 -- what holds of all that is made of the items of a list
-pub all_made : {X Y : Type 0} (Q : X → Type 0) (P : Y → Type 0) (make : X → Option Y) → ((x : X) → Q x → IfSome (make x) P) → (xs : List X) → All Q xs → All P (filter_map make xs)
+pub all_made : {X Y : Type 0} (Q : X → Type 0) (P : Y → Type 0) (make : X → Option Y)
+    → ((x : X) → Q x → IfSome (make x) P) → (xs : List X) → All Q xs → All P (filter_map make xs)
 all_made Q P make made [] h = All-nil P
 all_made Q P make made (x ∷ xs) h = put P (make x) (filter_map make xs) (made x (All-head Q x xs h)) (all_made Q P make made xs (All-tail Q x xs h))
 

@@ -1,6 +1,6 @@
 -- The texts that are accepted. The verdict accepts exactly these.
 use Rattle.std.specs.Prelude.{◌≡◌, List, [], All, Ok}
-use Rattle.s7_base.specs.declared.broken.Break.{Break}
+use Rattle.s7_base.specs.declared.rule_break.Break.{Break}
 use Rattle.s7_base.specs.declared.reason.Line.{Line}
 use Rattle.s7_base.specs.declared.token.Token.{Token}
 use Rattle.stl_grammar.specs.Grammar.{AreItems}
@@ -12,7 +12,7 @@ use Rattle.stl_grammar.specs.declared.item.Item.{Item}
 use Rattle.stl_grammar.specs.declared.item.Where.TheVariants.{Start}
 use Rattle.stl_tree.specs.declared.program.Program.{Program}
 
--- a list of broken rules has none
+-- a list of broken rules is empty
 abbrev pub IsKept : List Break → Type 0
 IsKept breaks = breaks ≡ []
 

@@ -1,10 +1,11 @@
--- The initial contents of declarations, bit by bit: the lowest bit of a byte first.
+-- Initial contents of declarations. They are given bit by bit, the lowest bit of a byte first.
+-- Held against: this project's own layout.
 use Rattle.std.specs.Prelude.{ℕ, zero, suc, ◌+◌, ◌-◌, ◌*◌, ◌/◌, ◌%◌, ◌^◌, Bool, false, ◌==◌, if◌then◌else◌, List, [], ◌∷◌, ◌++◌, map, length, get_or, drop, replicate}
 use Rattle.std.specs.Int.{next_multiple_of}
 use Rattle.std.specs.List.{flat_map, fold}
 use Rattle.s7_base.specs.declared.word.Width.{Width}
 use Rattle.s7_base.specs.declared.word.Width.TheVariants as width
-use Rattle.stl_statements.specs.Constants.{value_in}
+use Rattle.stl_statement_grammar.specs.Constants.{value_in}
 use Rattle.stl_tree.specs.declared.raw.Constant.{Constant}
 use Rattle.stl_tree.specs.declared.raw.Declaration.{Declaration, Declaration-F, para-Declaration}
 use Rattle.stl_tree.specs.declared.raw.DeclType.{DeclType, para-DeclType}
@@ -14,16 +15,16 @@ use Rattle.stl_rules.specs.Extents.{elements_in, extent_of, extent_of_width, wid
 
 -- Values
 
--- the lowest bits of a number, so many
+-- the lowest bits of a number, as many as a count says
 abbrev pub low_bits : ℕ → ℕ → List Bool
 low_bits zero n = []
 low_bits (suc count) n = (n % 2 == 1) ∷ low_bits count (n / 2)
 
--- the bits of a word: the high byte stands first
+-- the bits of a word, the high byte first
 abbrev pub word_bits : ℕ → List Bool
 word_bits n = low_bits 8 (n / 2 ^ 8) ++ low_bits 8 n
 
--- the bits of a number of a width: the high word stands first
+-- the bits of a number of a width, the high word first
 abbrev pub number_bits : Width → ℕ → List Bool
 number_bits width.Bit n = low_bits 1 n
 number_bits width.Byte n = low_bits 8 n
@@ -34,16 +35,16 @@ number_bits width.Dword n = word_bits (n / 2 ^ 16) ++ word_bits n
 abbrev pub zeros : ℕ → List Bool
 zeros count = replicate count false
 
--- the first of some values, or 0
+-- the bits of the first of some values, or of 0 where there is none
 abbrev pub value_bits : Width → List Constant → List Bool
 value_bits w [] = zeros (extent_of_width w).bits
 value_bits w (c ∷ more) = number_bits w (value_in w c)
 
--- a list so many times
+-- a list repeated this many times
 abbrev pub times : {X : Type 0} → ℕ → List X → List X
 times n xs = flat_map (λ ys. ys) (replicate n xs)
 
--- the values of some items: those in brackets so many times
+-- the values of some items, those in brackets as often as their count says
 abbrev pub values_of : List InitialItem → List Constant
 values_of items = flat_map (λ (item : InitialItem). times item.count item.values) items
 
@@ -53,7 +54,7 @@ values_of items = flat_map (λ (item : InitialItem). times item.count item.value
 abbrev pub filled_to : ℕ → List Bool → List Bool
 filled_to alignment bits = bits ++ zeros (next_multiple_of (length bits) alignment - length bits)
 
--- a declaration's bits behind others
+-- a declaration's bits after others
 abbrev pub laid_behind : List Bool → Declaration × List Bool → List Bool
 laid_behind bits part = filled_to (extent_of part.0.ty).alignment bits ++ part.1
 
@@ -76,11 +77,11 @@ type_bits = para-DeclType (List Constant → List Bool) (List Bool) bits_step de
 unfoldable pub declaration_bits : Declaration → List Bool
 declaration_bits = para-Declaration (List Constant → List Bool) (List Bool) bits_step declared_step
 
--- declarations one after another behind others
+-- the bits of declarations one after another, after others
 unfoldable pub bits_behind : List Bool → List Declaration → List Bool
 bits_behind bits decls = fold laid_behind bits (map (λ (d : Declaration). (d, declaration_bits d)) decls)
 
--- sections one after another behind others
+-- the bits of sections one after another, after others
 abbrev pub bits_of_sections : List Bool → List (List Declaration) → List Bool
 bits_of_sections bits sections = fold (λ before section. bits_behind (filled_to 16 before) section) bits sections
 
@@ -90,13 +91,13 @@ bits_of_sections bits sections = fold (λ before section. bits_behind (filled_to
 abbrev pub bit_of : List Bool → ℕ → ℕ
 bit_of bits at = if get_or bits at false then 1 else 0
 
--- the number that the first eight bits stand for
+-- the number of the first eight bits
 abbrev pub byte_of : List Bool → ℕ
 byte_of bits =
     bit_of bits 0 + 2 * bit_of bits 1 + 4 * bit_of bits 2 + 8 * bit_of bits 3
     + 16 * bit_of bits 4 + 32 * bit_of bits 5 + 64 * bit_of bits 6 + 128 * bit_of bits 7
 
--- the first bytes of some bits, so many
+-- the first bytes of some bits, as many as a count says
 abbrev pub first_bytes : ℕ → List Bool → List ℕ
 first_bytes zero bits = []
 first_bytes (suc count) bits = byte_of bits ∷ first_bytes count (drop 8 bits)

@@ -1,13 +1,14 @@
--- The data blocks of a text: their bytes, and their order.
+-- The data blocks of a source. Their bytes with the initial values in them, and their order.
+-- Held against: this project's own layout.
 use Rattle.std.specs.Prelude.{ℕ, ◌==◌, List, [], ◌∷◌, Option, Some, None, Result, Ok, Err}
 use Rattle.std.specs.List.{fold}
-use Rattle.memory_areas.specs.Areas.{bytes_of_dword, bytes_of_word, byte_at, byte_with, inserted, replaced}
+use Rattle.memory_areas.specs.Areas.{bytes_of_dword, bytes_of_word, byte_at, byte_with, insert_data_block, overwrite}
 use Rattle.memory_areas.specs.declared.data_block.DataBlock.{DataBlock}
 use Rattle.s7_base.specs.declared.reason.Reason.{Reason}
 use Rattle.s7_base.specs.declared.word.Width.{Width}
 use Rattle.s7_base.specs.declared.word.Width.TheVariants as width
 use Rattle.stl_rules.specs.Names.{block_number}
-use Rattle.stl_statements.specs.Constants.{value_in}
+use Rattle.stl_statement_grammar.specs.Constants.{value_in}
 use Rattle.stl_tree.specs.Accumulators.{part}
 use Rattle.stl_tree.specs.declared.raw.BlockKind.TheVariants as block
 use Rattle.stl_tree.specs.declared.raw.Constant.{Constant}
@@ -21,16 +22,16 @@ use Rattle.stl_tree.specs.declared.raw.SymbolLine.{SymbolLine}
 use Rattle.stl_rules.specs.Extents.{width_of}
 use Rattle.stl_rules.specs.Layouts.{initial_of}
 use Rattle.stl_rules.specs.Paths.{component_in}
-use Rattle.stl_rules.specs.declared.laid.Component.{Component}
+use Rattle.stl_rules.specs.declared.layout.Component.{Component}
 
 -- Bytes
 
 -- the bytes with a number of a width at a place
 abbrev pub with_number : List ℕ → Component → Width → ℕ → List ℕ
-with_number bytes at width.Bit n = replaced bytes at.byte (byte_with (byte_at bytes at.byte) at.bit (n == 1) ∷ [])
-with_number bytes at width.Byte n = replaced bytes at.byte (n ∷ [])
-with_number bytes at width.Word n = replaced bytes at.byte (bytes_of_word n)
-with_number bytes at width.Dword n = replaced bytes at.byte (bytes_of_dword n)
+with_number bytes at width.Bit n = overwrite bytes at.byte (byte_with (byte_at bytes at.byte) at.bit (n == 1) ∷ [])
+with_number bytes at width.Byte n = overwrite bytes at.byte (n ∷ [])
+with_number bytes at width.Word n = overwrite bytes at.byte (bytes_of_word n)
+with_number bytes at width.Dword n = overwrite bytes at.byte (bytes_of_dword n)
 
 abbrev pub with_constant : List ℕ → Component → Constant → Option ElemType → List ℕ
 with_constant bytes at c None = bytes
@@ -44,7 +45,7 @@ with_value_at bytes c (Some at) = with_constant bytes at c at.kind
 abbrev pub with_value : List (List Declaration) → List ℕ → RawInitial → List ℕ
 with_value sections bytes v = with_value_at bytes v.value (component_in sections v.path)
 
--- a data block has two bytes at least
+-- the bytes, or two zeros where there are fewer than two: a data block has two bytes at least
 abbrev pub or_two : List ℕ → List ℕ
 or_two [] = 0 ∷ 0 ∷ []
 or_two bytes = bytes
@@ -63,7 +64,7 @@ abbrev pub data_numbered : List RawInitial → RawDataKind → Result ℕ Reason
 data_numbered values kind (Ok n) = data_with n values kind
 data_numbered values kind (Err reason) = None
 
--- the data block that a raw one is
+-- the data block of a raw one, if there is one
 abbrev pub data_of : List SymbolLine → RawData → Option DataBlock
 data_of symbols d = data_numbered d.initial d.kind (block_number symbols block.Db d.name)
 
@@ -72,4 +73,4 @@ data_of symbols d = data_numbered d.initial d.kind (block_number symbols block.D
 -- data blocks in the order of their numbers
 abbrev pub in_order : List DataBlock → List DataBlock
 in_order [] = []
-in_order (b ∷ rest) = inserted b (in_order rest)
+in_order (b ∷ rest) = insert_data_block b (in_order rest)

@@ -11,4 +11,3 @@ pub mod Raw
 pub mod Stages
 pub mod TooLarge
 pub mod Verdict
-pub mod VerdictLaws

@@ -1,4 +1,6 @@
--- What the names of a text mean: symbols, and the numbers of blocks. A name that stands twice means its first line.
+-- What names mean in a source. A name is that of a symbol, which has an address, or gives the number of a block. One
+-- that is there twice means its first line.
+-- Held against: this project's own rules.
 use Rattle.std.specs.Prelude.{ℕ, Bool, true, false, ◌==◌, ◌&&◌, nat_le, if◌then◌else◌, List, Option, Some, None, option_map, Result, Ok, Err}
 use Rattle.std.specs.List.{find}
 use Rattle.s7_base.specs.Tokens.{is_same_word}
@@ -35,7 +37,7 @@ number_at kind None = Err UnknownName
 number_at kind (Some (address.Block its_kind n)) = if is_same_kind kind its_kind then Ok n else Err BadOperand
 number_at kind (Some elsewhere) = Err BadOperand
 
--- the number of a block of a kind, which may stand there by a symbol
+-- the number of a block of a kind, which may be written as a symbol
 abbrev pub block_number : List SymbolLine → BlockKind → RawName → Result ℕ Reason
 block_number symbols kind (raw_name.Number n) = Ok n
 block_number symbols kind (raw_name.Name name) = number_at kind (symbol_named symbols name)

@@ -1,5 +1,6 @@
--- The program of a raw program: its instructions by what their mnemonics are and their operands, or the rules that these
--- break, and the names of its blocks. Instructions and blocks stand at the places that they have in the raw program.
+-- The program of a raw program. Its instructions by their mnemonics and operands, or the rules that these break, and
+-- the names of its blocks. Instructions and blocks have the places that they have in the raw program.
+-- Held against: each chapter of the manual.
 use Rattle.std.specs.Prelude.{ℕ, ◌^◌, Bool, false, nat_le, nat_lt, if◌then◌else◌, List, [], ◌∷◌, ◌++◌, map, Option, Some, None, option_map, Result, Ok, Err}
 use Rattle.std.specs.List.{filter_map}
 use Rattle.memory_areas.specs.declared.call.BlockName.{BlockName}
@@ -18,20 +19,20 @@ use Rattle.status_word.specs.declared.test.Test.{Test}
 use Rattle.memory_areas.specs.Access.{bits_wide}
 use Rattle.stl_tree.specs.Accumulators.{signed_part}
 use Rattle.stl_tree.specs.Arithmetic.{is_comparison}
-use Rattle.stl_statements.specs.Constants.{constant, fits, value_in}
-use Rattle.stl_statements.specs.Mnemonics.{mnemonic_named}
+use Rattle.stl_statement_grammar.specs.Constants.{constant, fits, value_in}
+use Rattle.stl_statement_grammar.specs.Mnemonics.{mnemonic_named}
 use Rattle.stl_rules.specs.DataBlocks.{data_of, in_order}
 use Rattle.stl_rules.specs.Names.{block_number}
-use Rattle.stl_rules.specs.Raw.{Scope, given}
+use Rattle.stl_rules.specs.Raw.{OperandScope, resolved_operand}
 use Rattle.stl_tree.specs.Accepted.{is_of_pointers}
 use Rattle.stl_tree.specs.Shifts.{most_steps}
 use Rattle.stl_tree.specs.WordLogic.{width_of as logic_width}
 use Rattle.stl_tree.specs.declared.accumulator.LogicRow.{LogicRow}
 use Rattle.stl_tree.specs.declared.accumulator.ShiftRow.{ShiftRow}
-use Rattle.stl_rules.specs.declared.given.Given.{Given}
-use Rattle.stl_rules.specs.declared.given.Given.TheVariants as behind
-use Rattle.stl_statements.specs.declared.mnemonic.Mnemonic.{Mnemonic}
-use Rattle.stl_statements.specs.declared.mnemonic.Mnemonic.TheVariants as is
+use Rattle.stl_rules.specs.declared.resolved_operand.ResolvedOperand.{ResolvedOperand}
+use Rattle.stl_rules.specs.declared.resolved_operand.ResolvedOperand.TheVariants as behind
+use Rattle.stl_statement_grammar.specs.declared.mnemonic.Mnemonic.{Mnemonic}
+use Rattle.stl_statement_grammar.specs.declared.mnemonic.Mnemonic.TheVariants as is
 use Rattle.stl_tree.specs.declared.program.Ar.{Ar}
 use Rattle.stl_tree.specs.declared.program.Ar.TheVariants as ar
 use Rattle.stl_tree.specs.declared.program.ArLoad.TheVariants as ar_load
@@ -62,38 +63,38 @@ use Rattle.stl_tree.specs.declared.raw.SymbolLine.{SymbolLine}
 -- Instructions
 
 -- an instruction that takes no operand
-abbrev pub alone : Op → Given → Option Op
+abbrev pub alone : Op → ResolvedOperand → Option Op
 alone o behind.Nothing = Some o
 alone o more = None
 
 -- an instruction on a bit
-abbrev pub on_bit : (Operand → Op) → Given → Option Op
+abbrev pub on_bit : (Operand → Op) → ResolvedOperand → Option Op
 on_bit o (behind.At operand width.Bit) = Some (o operand)
 on_bit o more = None
 
 -- a check without an operand: `O` alone
-abbrev pub unchecked : Check → Option Op
-unchecked check.O = Some op.OrAlone
-unchecked another = None
+abbrev pub check_alone : Check → Option Op
+check_alone check.O = Some op.OrAlone
+check_alone another = None
 
--- a check
-abbrev pub checked : Check → Given → Option Op
-checked c behind.Nothing = unchecked c
-checked c (behind.At operand width.Bit) = Some (op.Check c (arg.At operand))
-checked c (behind.Flag test) = Some (op.Check c (arg.Flag test))
-checked c more = None
+-- a check of a bit, of the status word, or without an operand
+abbrev pub check_op : Check → ResolvedOperand → Option Op
+check_op c behind.Nothing = check_alone c
+check_op c (behind.At operand width.Bit) = Some (op.Check c (arg.At operand))
+check_op c (behind.Flag test) = Some (op.Check c (arg.Flag test))
+check_op c more = None
 
 -- an instruction on a byte, a word or a double word
 abbrev pub on_number : (Operand → Width → Op) → Operand → Width → Option Op
 on_number o operand width.Bit = None
 on_number o operand w = Some (o operand w)
 
--- a constant of so many bits
+-- a constant, if it has this many bits
 abbrev pub within : ℕ → ℕ → Option ℕ
 within bits value = if nat_lt value (2 ^ bits) then Some value else None
 
--- `L`
-abbrev pub loading : Given → Option Op
+-- the instruction `L`
+abbrev pub loading : ResolvedOperand → Option Op
 loading (behind.At operand w) = on_number (λ o u. op.Load (load.At o u)) operand w
 loading behind.Stw = Some op.LoadStw
 loading behind.DbNo = Some op.LoadDbNo
@@ -101,16 +102,17 @@ loading behind.DiNo = Some op.LoadDiNo
 loading (behind.Constant c) = option_map (λ value. op.Load (load.Constant value)) (within 32 c.value)
 loading more = None
 
--- `T`
-abbrev pub storing : Given → Option Op
+-- the instruction `T`
+abbrev pub storing : ResolvedOperand → Option Op
 storing (behind.At operand w) = on_number op.Transfer operand w
 storing behind.Stw = Some op.TransferStw
 storing more = None
 
--- `+`: a plain number is added to the low word, another constant to the whole
-abbrev pub adding : Given → Option Op
+-- the instruction `+`: a plain number is added to the low word, another constant to the whole
+abbrev pub adding : ResolvedOperand → Option Op
 adding (behind.Constant c) =
-    Some (if c.signed then op.AddWord (signed_part width.Word c.value) else op.AddDword (signed_part width.Dword c.value))
+    Some
+    (if c.signed then op.AddWord (signed_part width.Word c.value) else op.AddDword (signed_part width.Dword c.value))
 adding more = None
 
 -- a comparison has one of the six signs, and works on words or on double words
@@ -120,72 +122,73 @@ is_compared t width.Dword = is_comparison t
 is_compared t w = false
 
 -- a comparison
-abbrev pub comparing : Test → Width → Given → Option Op
+abbrev pub comparing : Test → Width → ResolvedOperand → Option Op
 comparing t w behind.Nothing = if is_compared t w then Some (op.Compare t w) else None
 comparing t w more = None
 
 -- an instruction with a number of 8 bits
-abbrev pub with_number : (ℕ → Op) → Given → Option Op
+abbrev pub with_number : (ℕ → Op) → ResolvedOperand → Option Op
 with_number o (behind.Constant c) = option_map o (within 8 c.value)
 with_number o more = None
 
 -- a shift or a rotation
-abbrev pub shifting : ShiftRow → Given → Option Op
+abbrev pub shifting : ShiftRow → ResolvedOperand → Option Op
 shifting row behind.Nothing = Some (op.Shift row None)
 shifting row (behind.Constant c) = if nat_le c.value (most_steps row) then Some (op.Shift row (Some c.value)) else None
 shifting row more = None
 
--- an instruction on a double word where pointers may stand
-abbrev pub pointed : (Operand → Op) → Operand → Width → Option Op
-pointed o operand width.Dword = if is_of_pointers operand then Some (o operand) else None
-pointed o operand w = None
+-- an instruction on a double word in an area where pointers may be stored
+abbrev pub pointer_op : (Operand → Op) → Operand → Width → Option Op
+pointer_op o operand width.Dword = if is_of_pointers operand then Some (o operand) else None
+pointer_op o operand w = None
 
--- from or to the other address register: with AR1 alone
+-- an instruction that copies AR2 to AR1, or AR1 to AR2
 abbrev pub other_by : (Ar → Op) → Ar → Option Op
 other_by o ar.One = Some (o ar.One)
 other_by o ar.Two = None
 
--- `LAR1` and `LAR2`
-abbrev pub loading_pointer : Ar → Given → Option Op
+-- the instructions `LAR1` and `LAR2`
+abbrev pub loading_pointer : Ar → ResolvedOperand → Option Op
 loading_pointer r behind.Nothing = Some (op.LoadAr r ar_load.Accu1)
 loading_pointer r (behind.Constant c) = option_map (λ p. op.LoadAr r (ar_load.Constant p)) (within 32 c.value)
-loading_pointer r (behind.At operand w) = pointed (λ x. op.LoadAr r (ar_load.At x)) operand w
+loading_pointer r (behind.At operand w) = pointer_op (λ x. op.LoadAr r (ar_load.At x)) operand w
 loading_pointer r behind.OtherAr = other_by (λ a. op.LoadAr a ar_load.OtherAr) r
 loading_pointer r more = None
 
--- `TAR1` and `TAR2`
-abbrev pub storing_pointer : Ar → Given → Option Op
+-- the instructions `TAR1` and `TAR2`
+abbrev pub storing_pointer : Ar → ResolvedOperand → Option Op
 storing_pointer r behind.Nothing = Some (op.StoreAr r ar_store.Accu1)
-storing_pointer r (behind.At operand w) = pointed (λ x. op.StoreAr r (ar_store.At x)) operand w
+storing_pointer r (behind.At operand w) = pointer_op (λ x. op.StoreAr r (ar_store.At x)) operand w
 storing_pointer r behind.OtherAr = other_by (λ a. op.StoreAr a ar_store.OtherAr) r
 storing_pointer r more = None
 
--- `+AR1` and `+AR2`
-abbrev pub moving_pointer : Ar → Given → Option Op
+-- the instructions `+AR1` and `+AR2`
+abbrev pub moving_pointer : Ar → ResolvedOperand → Option Op
 moving_pointer r behind.Nothing = Some (op.AddAr r None)
 moving_pointer r (behind.Constant c) = option_map (λ offset. op.AddAr r (Some offset)) (within 19 c.value)
 moving_pointer r more = None
 
--- `OPN`
-abbrev pub opening : Given → Option Op
+-- the instruction `OPN`
+abbrev pub opening : ResolvedOperand → Option Op
 opening (behind.Db n) = Some (op.OpenDb (open_arg.Number n))
 opening (behind.Di n) = Some (op.OpenDi (open_arg.Number n))
 opening (behind.DbBy operand) = Some (op.OpenDb (open_arg.At operand))
 opening (behind.DiBy operand) = Some (op.OpenDi (open_arg.At operand))
 opening more = None
 
--- word logic
-abbrev pub combining : LogicRow → Given → Option Op
+-- a word logic instruction
+abbrev pub combining : LogicRow → ResolvedOperand → Option Op
 combining row behind.Nothing = Some (op.Logic row None)
 combining row (behind.Constant c) =
     if fits (logic_width row) c
-    then option_map (λ value. op.Logic row (Some value)) (within (bits_wide (logic_width row)) (value_in (logic_width row) c))
+    then option_map (λ value. op.Logic row (Some value))
+    (within (bits_wide (logic_width row)) (value_in (logic_width row) c))
     else None
 combining row more = None
 
--- an instruction by what its mnemonic is, and what stands behind it
-abbrev pub op_with : Mnemonic → Given → Option Op
-op_with (is.Check c) g = checked c g
+-- the instruction of a mnemonic and its operand, if there is one
+abbrev pub op_with : Mnemonic → ResolvedOperand → Option Op
+op_with (is.Check c) g = check_op c g
 op_with (is.Bracket c) g = alone (op.Bracket c) g
 op_with is.Close g = alone op.Close g
 op_with is.Assign g = on_bit op.Assign g
@@ -223,32 +226,32 @@ op_with is.TimerOrCounter g = None
 op_with is.Later g = None
 op_with (is.LeftOut left_out) g = None
 
--- an instruction by what its mnemonic is, if it is one
-abbrev pub op_by : Option Mnemonic → Given → Option Op
+-- the instruction of a mnemonic, if it is one, and its operand
+abbrev pub op_by : Option Mnemonic → ResolvedOperand → Option Op
 op_by None g = None
 op_by (Some what) g = op_with what g
 
--- any place of an area, for the question which area and width a mnemonic has
+-- any place of an area, to ask which area and width a mnemonic takes
 abbrev pub some_place : AreaName → Operand
 some_place name = Direct name 0 0
 
--- any pointer, for the question whether a mnemonic has one
+-- any pointer, to ask whether a mnemonic takes one
 abbrev pub some_pointer : Constant
 some_pointer = constant width.Dword 0
 
--- an instruction, or the rule that an operand breaks which its mnemonic has not
+-- an instruction, or `BadOperand` where the mnemonic does not take the operand
 abbrev pub or_bad_operand : Option Op → Result Op Reason
 or_bad_operand None = Err BadOperand
 or_bad_operand (Some what) = Ok what
 
--- the rule that an operand outside its range breaks: one of another width or kind has that rule first
+-- the rule that an operand outside its range breaks: `BadOperand` where its width or kind is wrong too
 abbrev pub outside_rule : Option Op → Reason
 outside_rule None = BadOperand
 outside_rule (Some what) = BadAddress
 
--- the instruction that a mnemonic makes of what stands behind it, or the rule that is broken, of several the one that
--- comes first; a path into declarations that break a rule breaks none itself, and makes any instruction
-abbrev pub op_or_rule : Option Mnemonic → Given → Result Op Reason
+-- the instruction that a mnemonic and its operand make, or the rule that is broken, of several the one that comes
+-- first; a path into declarations that break a rule breaks none itself, and makes any instruction
+abbrev pub op_or_rule : Option Mnemonic → ResolvedOperand → Result Op Reason
 op_or_rule what behind.Unknown = Err UnknownName
 op_or_rule what behind.Unfit = Err BadOperand
 op_or_rule what behind.NoNumber = Err BadAddress
@@ -257,37 +260,38 @@ op_or_rule what (behind.Outside name w) = Err (outside_rule (op_by what (behind.
 op_or_rule what behind.NoPointer = Err (outside_rule (op_by what (behind.Constant some_pointer)))
 op_or_rule what g = or_bad_operand (op_by what g)
 
--- the instruction that a raw one is, or the rule that it breaks
-unfoldable pub op_of : Scope → RawOp → Result Op Reason
-op_of scope raw = op_or_rule (mnemonic_named raw.mnemonic) (given scope raw.operand)
+-- the instruction of a raw one, or the rule that it breaks
+unfoldable pub op_of : OperandScope → RawOp → Result Op Reason
+op_of scope raw = op_or_rule (mnemonic_named raw.mnemonic) (resolved_operand scope raw.operand)
 
--- any instruction where a rule is broken, since nobody looks at it then
+-- an instruction, or any one where a rule is broken, since it is not used then
 abbrev pub or_any : Result Op Reason → Op
 or_any (Ok what) = what
 or_any (Err rule) = op.Nop
 
 -- an instruction on its line
-abbrev pub instr_of : Scope → RawInstr → Instr
+abbrev pub instr_of : OperandScope → RawInstr → Instr
 instr_of scope raw = record { line = raw.line; op = or_any (op_of scope raw.op) }
 
 -- Blocks
 
--- the name of a block by its kind and its number, any where it has none; a data block is none of these blocks
+-- the name of a block by its kind and its number; any name where it has no number; a data block is none of these
+-- blocks
 abbrev pub block_name : BlockKind → Result ℕ Reason → BlockName
 block_name block.Fc (Ok n) = Fc n
 block_name block.Fb (Ok n) = Fb n
 block_name kind (Ok n) = Ob n
 block_name kind (Err reason) = Ob 0
 
--- the instructions of a block, the last of them that of its end word: each at the place where it stands in the text
-abbrev pub body_of : Scope → List Instr
+-- the instructions of a block in the order of the text, the last of them that of its end word
+abbrev pub body_of : OperandScope → List Instr
 body_of scope = map (instr_of scope) scope.block.body ++ (record { line = scope.block.end_line; op = op.BlockEnd } ∷ [])
 
 -- a block by its name
-abbrev pub block_with : Scope → BlockName → Block
+abbrev pub block_with : OperandScope → BlockName → Block
 block_with scope name = record { name = name; line = scope.block.line; formals = []; body = body_of scope }
 
--- the block that a raw one is
+-- the block of a raw one
 abbrev pub block_of : RawProgram → RawBlock → Block
 block_of text raw =
     block_with (record { text = text; block = raw }) (block_name raw.kind (block_number text.symbols raw.kind raw.name))

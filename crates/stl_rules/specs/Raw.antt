@@ -1,4 +1,5 @@
--- What stands in a raw operand, given what names mean.
+-- What a written operand means. It is a place, a pointer, a constant or a data block, given what names mean.
+-- Held against: this project's own rules.
 use Rattle.std.specs.Prelude.{ℕ, Bool, true, false, ◌&&◌, if◌then◌else◌, List, [], ◌∷◌, Option, Some, None, Result, Ok, Err}
 use Rattle.std.specs.Option.{is_some}
 use Rattle.memory_areas.specs.declared.place.AreaName.{AreaName}
@@ -7,11 +8,11 @@ use Rattle.s7_base.specs.Broken.{first_of_all}
 use Rattle.s7_base.specs.declared.reason.Reason.{Reason}
 use Rattle.s7_base.specs.declared.reason.Reason.TheVariants.{UnknownName}
 use Rattle.stl_rules.specs.Names.{block_number, db_numbered, may_have, symbol_named}
-use Rattle.stl_rules.specs.declared.given.Given.{Given}
-use Rattle.stl_rules.specs.declared.given.Given.TheVariants as behind
-use Rattle.stl_statements.specs.Constants.{constant}
-use Rattle.stl_statements.specs.Pointers.{is_in_reach, offset_of, value_of}
-use Rattle.stl_statements.specs.Statements.{is_in_area}
+use Rattle.stl_rules.specs.declared.resolved_operand.ResolvedOperand.{ResolvedOperand}
+use Rattle.stl_rules.specs.declared.resolved_operand.ResolvedOperand.TheVariants as behind
+use Rattle.stl_statement_grammar.specs.Constants.{constant}
+use Rattle.stl_statement_grammar.specs.Pointers.{is_in_reach, offset_of, value_of}
+use Rattle.stl_statement_grammar.specs.Statements.{is_in_area}
 use Rattle.s7_base.specs.declared.word.Width.{Width}
 use Rattle.s7_base.specs.declared.word.Width.TheVariants as width
 use Rattle.memory_areas.specs.Access.{is_byte_in}
@@ -39,73 +40,73 @@ use Rattle.stl_tree.specs.declared.raw.SymbolAddress.TheVariants as address
 use Rattle.stl_rules.specs.Extents.{width_of}
 use Rattle.stl_rules.specs.Layouts.{breaks_in}
 use Rattle.stl_rules.specs.Paths.{component_in}
-use Rattle.stl_rules.specs.declared.laid.Component.{Component}
+use Rattle.stl_rules.specs.declared.layout.Component.{Component}
 
--- what names mean where a block of a text stands
-pub record Scope : Type 0 where
+-- what names mean in a block of a text
+pub record OperandScope : Type 0 where
   pub text : RawProgram
   pub block : RawBlock
 
 -- Written places
 
--- the number of a data block stands before the place, or none does
+-- a place has this number of a data block before it, or none
 abbrev pub is_placed : RawPlace → Option ℕ → Bool
 is_placed place None = is_in_area place
 is_placed place (Some n) = is_in_area place && may_have block.Db n
 
-abbrev pub operand_at : RawPlace → Option ℕ → Given
+abbrev pub operand_at : RawPlace → Option ℕ → ResolvedOperand
 operand_at place None = behind.At (Direct place.area place.byte place.bit) place.width
 operand_at place (Some n) = behind.At (Opened n place.byte place.bit) place.width
 
--- a written place, in its area or outside it
-abbrev pub given_place : RawPlace → Given
+-- a written place as an operand, inside its area or outside it
+abbrev pub given_place : RawPlace → ResolvedOperand
 given_place place =
     if is_placed place place.block then operand_at place place.block else behind.Outside place.area place.width
 
 -- Pointers
 
--- a place of a width that is named by a pointer, where its numbers are in their ranges
-abbrev pub given_if : Bool → AreaName → Width → Operand → Given
+-- a place of a width that is named by a pointer, where the numbers of the pointer are in their ranges
+abbrev pub given_if : Bool → AreaName → Width → Operand → ResolvedOperand
 given_if true name w o = behind.At o w
 given_if false name w o = behind.Outside name w
 
--- a constant of a double word, where its numbers are ones that pointers have
-abbrev pub given_pointer : RawPointer → Given
+-- a pointer as a constant of a double word, where its numbers are ones that pointers have
+abbrev pub given_pointer : RawPointer → ResolvedOperand
 given_pointer p = if is_in_reach p then behind.Constant (constant width.Dword (value_of p)) else behind.NoPointer
 
--- a pointer, or the number of a data block, of this width may stand at a written place, which lies in its area
+-- a pointer, or the number of a data block, of this width may be stored at a written place, which lies in its area
 abbrev pub may_stand : Width → RawPlace → Bool
 may_stand w place = may_hold_pointers place.area && is_byte_in place.area w place.byte
 
--- OPN by the number in a word
-abbrev pub given_held : (Operand → Given) → RawPlace → Given
+-- the operand of OPN for the number in a word
+abbrev pub given_held : (Operand → ResolvedOperand) → RawPlace → ResolvedOperand
 given_held make place = if may_stand width.Word place then make (Direct place.area place.byte 0) else behind.NoNumber
 
 -- Names
 
 -- a symbol as an operand
-abbrev pub given_symbol : Option SymbolAddress → Given
+abbrev pub given_symbol : Option SymbolAddress → ResolvedOperand
 given_symbol None = behind.Unknown
 given_symbol (Some (address.At place)) = given_place place
 given_symbol (Some elsewhere) = behind.Unfit
 
--- a component as the place that it lies at, in an area or in the data block of a number; a whole ARRAY or STRUCT is
--- no operand
-abbrev pub place_of_kind : Option ℕ → AreaName → Component → Option ElemType → Given
+-- the place of a component as an operand, in an area or in the data block of a number; a whole ARRAY or STRUCT is no
+-- operand
+abbrev pub place_of_kind : Option ℕ → AreaName → Component → Option ElemType → ResolvedOperand
 place_of_kind number name at None = behind.Unfit
 place_of_kind number name at (Some e) =
     given_place (record { block = number; area = name; width = width_of e; byte = at.byte; bit = at.bit })
 
-abbrev pub given_component : Option ℕ → AreaName → Option Component → Given
+abbrev pub given_component : Option ℕ → AreaName → Option Component → ResolvedOperand
 given_component number name None = behind.Unknown
 given_component number name (Some at) = place_of_kind number name at at.kind
 
--- sections that break a rule within a limit; a path into them is not judged
+-- sections break a rule within a limit; a path into them is not judged
 abbrev pub are_refused : ℕ → List (List Declaration) → Bool
 are_refused limit sections = is_some (first_of_all (breaks_in limit sections))
 
--- what a path names in sections
-abbrev pub given_path : ℕ → Option ℕ → AreaName → List (List Declaration) → List PathStep → Given
+-- the operand that a path names in sections
+abbrev pub given_path : ℕ → Option ℕ → AreaName → List (List Declaration) → List PathStep → ResolvedOperand
 given_path limit number name sections path =
     if are_refused limit sections then behind.Unjudged else given_component number name (component_in sections path)
 
@@ -116,27 +117,27 @@ most_in_block = 16384
 abbrev pub most_local : ℕ
 most_local = 256
 
-abbrev pub given_in_kind : ℕ → List PathStep → RawDataKind → Given
+abbrev pub given_in_kind : ℕ → List PathStep → RawDataKind → ResolvedOperand
 given_in_kind n path (data_kind.Own decls) = given_path most_in_block (Some n) area.Db (decls ∷ []) path
 given_in_kind n path (data_kind.Instance name) = behind.Unfit
 
-abbrev pub given_in_data : ℕ → List PathStep → Option RawData → Given
+abbrev pub given_in_data : ℕ → List PathStep → Option RawData → ResolvedOperand
 given_in_data n path None = behind.Unknown
 given_in_data n path (Some d) = given_in_kind n path d.kind
 
--- by the number of a block; where there is none, a name that is not declared, or one of another kind
-abbrev pub given_number : (ℕ → Given) → Result ℕ Reason → Given
+-- the operand by the number of a block; where there is none, a name that is not declared, or one of another kind
+abbrev pub given_number : (ℕ → ResolvedOperand) → Result ℕ Reason → ResolvedOperand
 given_number make (Ok n) = make n
 given_number make (Err UnknownName) = behind.Unknown
 given_number make (Err reason) = behind.Unfit
 
--- OPN: a number that a data block may have
-abbrev pub given_open : (ℕ → Given) → ℕ → Given
+-- the operand of OPN by a number that a data block may have
+abbrev pub given_open : (ℕ → ResolvedOperand) → ℕ → ResolvedOperand
 given_open make n = if may_have block.Db n then make n else behind.NoNumber
 
 -- Operands
 
-abbrev pub given_in : Scope → RawOperand-F RawOperand RawActual RawCall → Given
+abbrev pub given_in : OperandScope → RawOperand-F RawOperand RawActual RawCall → ResolvedOperand
 given_in scope layer.Missing = behind.Nothing
 given_in scope (layer.At place) = given_place place
 given_in scope (layer.Named name) = given_symbol (symbol_named scope.text.symbols name)
@@ -150,17 +151,20 @@ given_in scope layer.DbNo = behind.DbNo
 given_in scope layer.DiNo = behind.DiNo
 given_in scope (layer.Constant constant) = behind.Constant constant
 given_in scope (layer.Pointer p) = given_pointer p
-given_in scope (layer.ByMemory name w place) = given_if (may_stand width.Dword place) name w (ByMemory name place.area place.byte)
+given_in scope (layer.ByMemory name w place) =
+    given_if (may_stand width.Dword place) name w (ByMemory name place.area place.byte)
 given_in scope (layer.ByRegister name w r p) = given_if (is_in_reach p) name w (ByRegister name r (offset_of p))
 given_in scope (layer.Crossing w r p) = given_if (is_in_reach p) area.M w (Crossing r (offset_of p))
 given_in scope layer.OtherAr = behind.OtherAr
-given_in scope (layer.OpenDb name) = given_number (given_open (λ n. behind.Db n)) (block_number scope.text.symbols block.Db name)
-given_in scope (layer.OpenDi name) = given_number (given_open (λ n. behind.Di n)) (block_number scope.text.symbols block.Db name)
+given_in scope (layer.OpenDb name) =
+    given_number (given_open (λ n. behind.Db n)) (block_number scope.text.symbols block.Db name)
+given_in scope (layer.OpenDi name) =
+    given_number (given_open (λ n. behind.Di n)) (block_number scope.text.symbols block.Db name)
 given_in scope (layer.OpenDbBy place) = given_held (λ o. behind.DbBy o) place
 given_in scope (layer.OpenDiBy place) = given_held (λ o. behind.DiBy o) place
 given_in scope (layer.Label label) = behind.Unfit
 given_in scope (layer.Call call) = behind.Unfit
 
--- what stands behind the mnemonic of a raw operand
-unfoldable pub given : Scope → RawOperand → Given
-given scope operand = given_in scope (out-RawOperand operand)
+-- the operand of a mnemonic, from a raw operand
+unfoldable pub resolved_operand : OperandScope → RawOperand → ResolvedOperand
+resolved_operand scope operand = given_in scope (out-RawOperand operand)

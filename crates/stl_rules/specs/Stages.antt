@@ -1,20 +1,22 @@
--- The rules of a raw program, stage by stage: each of them gives all that breaks it.
+-- The rules of a source, by stages. Each stage gives all that breaks its rules: names, blocks and layout, then
+-- brackets, then the text as a whole.
+-- Held against: this project's own rules.
 use Rattle.std.specs.Prelude.{ℕ, zero, suc, Bool, true, false, not, ◌==◌, ◌&&◌, nat_lt, if◌then◌else◌, List, [], ◌∷◌, ◌++◌, map, slice_get, Option, Some, None, Result, Ok, Err}
 use Rattle.std.specs.List.{flat_map, list_any}
 use Rattle.memory_areas.specs.declared.sizes.TheConstants.{MOST_BLOCKS}
 use Rattle.nesting_stack.specs.Entries.{most_open}
-use Rattle.s7_base.specs.Broken.{broken, first_of_all}
-use Rattle.s7_base.specs.declared.broken.Break.{Break}
+use Rattle.s7_base.specs.Broken.{rule_break, first_of_all}
+use Rattle.s7_base.specs.declared.rule_break.Break.{Break}
 use Rattle.s7_base.specs.declared.reason.Line.{Line}
 use Rattle.s7_base.specs.declared.reason.Reason.{Reason}
 use Rattle.s7_base.specs.declared.reason.Reason.TheVariants.{BadAddress, BadOperand, BracketMissing, BracketOpen, DuplicateBlock, DuplicateName, NoBlocks, TooLarge, TooManyBrackets, UnknownName}
 use Rattle.stl_rules.specs.Names.{block_number, is_same_kind, may_have}
 use Rattle.stl_rules.specs.Programs.{op_of}
-use Rattle.stl_rules.specs.Raw.{Scope, are_refused, most_in_block, most_local}
-use Rattle.stl_statements.specs.Mnemonics.{mnemonic_named}
-use Rattle.stl_statements.specs.Statements.{is_in_area}
-use Rattle.stl_statements.specs.declared.mnemonic.Mnemonic.{Mnemonic}
-use Rattle.stl_statements.specs.declared.mnemonic.Mnemonic.TheVariants as is
+use Rattle.stl_rules.specs.Raw.{OperandScope, are_refused, most_in_block, most_local}
+use Rattle.stl_statement_grammar.specs.Mnemonics.{mnemonic_named}
+use Rattle.stl_statement_grammar.specs.Statements.{is_in_area}
+use Rattle.stl_statement_grammar.specs.declared.mnemonic.Mnemonic.{Mnemonic}
+use Rattle.stl_statement_grammar.specs.declared.mnemonic.Mnemonic.TheVariants as is
 use Rattle.stl_tree.specs.declared.raw.BlockKind.{BlockKind}
 use Rattle.stl_tree.specs.declared.raw.BlockKind.TheVariants as block
 use Rattle.stl_tree.specs.declared.raw.Constant.{Constant}
@@ -34,16 +36,16 @@ use Rattle.stl_rules.specs.Extents.{width_of}
 use Rattle.stl_rules.specs.Layouts.{breaks_in}
 use Rattle.stl_rules.specs.Paths.{component_in}
 use Rattle.stl_rules.specs.DeclarationRules.{fits_width, is_named, key_of, with_name}
-use Rattle.stl_rules.specs.declared.laid.Component.{Component}
+use Rattle.stl_rules.specs.declared.layout.Component.{Component}
 
 -- Names, blocks and layout
 
--- a rule that is broken on a line, where something holds
+-- the rule that is broken on a line where a condition is true
 abbrev pub broken_if : Bool → Line → Reason → List Break
-broken_if true line rule = broken line rule
+broken_if true line rule = rule_break line rule
 broken_if false line rule = []
 
--- the symbol table: a name stands once, and an address is one of its area or a number of its kind
+-- the rules of the symbol table: a name is declared once, and an address is one of its area or a number of its kind
 abbrev pub is_address : SymbolAddress → Bool
 is_address (address.At place) = is_in_area place
 is_address (address.Block kind n) = may_have kind n
@@ -60,10 +62,10 @@ symbols_behind before (line ∷ lines) =
 abbrev pub is_among : BlockKind → ℕ → List (BlockKind × ℕ) → Bool
 is_among kind n blocks = list_any (λ (b : BlockKind × ℕ). is_same_kind kind b.0 && b.1 == n) blocks
 
--- a heading: its name is declared for a block of its kind, its number is one of its kind, and no block before has the
--- same kind and number
+-- the rules that a heading breaks: its name is declared for a block of its kind, its number is one of its kind, and
+-- no block before has the same kind and number
 abbrev pub heading_breaks : BlockKind → Line → List (BlockKind × ℕ) → Result ℕ Reason → List Break
-heading_breaks kind line before (Err reason) = broken line reason
+heading_breaks kind line before (Err reason) = rule_break line reason
 heading_breaks kind line before (Ok n) =
     broken_if (not (may_have kind n)) line BadAddress ++ broken_if (is_among kind n before) line DuplicateBlock
 
@@ -77,30 +79,32 @@ abbrev pub fits_kind : Constant → Option ElemType → Bool
 fits_kind c None = false
 fits_kind c (Some e) = fits_width (width_of e) c
 
--- an initial value: its path names a component of the declarations, which has the width of the constant
+-- the rules that an initial value breaks: its path names a component of the declarations, which has the width of the
+-- constant
 abbrev pub value_breaks : Constant → Option Component → List Reason
 value_breaks c None = UnknownName ∷ []
 value_breaks c (Some at) = if fits_kind c at.kind then [] else BadOperand ∷ []
 
--- what it breaks at a component, and in sections
+-- the rules that an initial value breaks at a component, and in sections
 abbrev pub breaks_at : RawInitial → Option Component → List Break
 breaks_at v at = map (λ reason. record { line = v.line; rule = reason }) (value_breaks v.value at)
 
 abbrev pub initial_breaks : List (List Declaration) → RawInitial → List Break
 initial_breaks sections v = breaks_at v (component_in sections v.path)
 
--- what sections and initial values of a data block break; a path into sections that break a rule breaks none
+-- the rules that sections and initial values of a data block break; a path into sections that break a rule breaks
+-- none
 abbrev pub valued_breaks : List (List Declaration) → List RawInitial → List Break
 valued_breaks sections values =
     breaks_in most_in_block sections
     ++ (if are_refused most_in_block sections then [] else flat_map (initial_breaks sections) values)
 
--- what a data block breaks: the declarations of its own are one section
+-- the rules that a data block breaks: the declarations of its own are one section
 abbrev pub content_breaks : List RawInitial → RawDataKind → List Break
 content_breaks values (data_kind.Own decls) = valued_breaks (decls ∷ []) values
 content_breaks values (data_kind.Instance name) = []
 
--- data blocks, where these stand before
+-- the rules that data blocks break after these blocks
 abbrev pub dbs_behind : List SymbolLine → List (BlockKind × ℕ) → List RawData → List Break
 dbs_behind symbols before [] = []
 dbs_behind symbols before (d ∷ dbs) =
@@ -108,21 +112,21 @@ dbs_behind symbols before (d ∷ dbs) =
     heading_breaks block.Db d.line before number ++ content_breaks d.initial d.kind
     ++ dbs_behind symbols (with_block_number block.Db before number) dbs
 
--- a data block too many, whatever their numbers are
+-- the rule that is broken where there is a data block too many, whatever their numbers are
 abbrev pub one_too_many : Option RawData → List Break
 one_too_many None = []
-one_too_many (Some d) = broken d.line TooLarge
+one_too_many (Some d) = rule_break d.line TooLarge
 
--- the rule that is broken on a line where there is no such thing
+-- the broken rule of a result, on a line
 abbrev pub broken_by : {X : Type 0} → Line → Result X Reason → List Break
 broken_by line (Ok x) = []
-broken_by line (Err rule) = broken line rule
+broken_by line (Err rule) = rule_break line rule
 
--- what an instruction breaks
-abbrev pub instr_breaks : Scope → RawInstr → List Break
+-- the rule that an instruction breaks
+abbrev pub instr_breaks : OperandScope → RawInstr → List Break
 instr_breaks scope raw = broken_by raw.line (op_of scope raw.op)
 
--- blocks, where these stand before: headings, temporaries and instructions
+-- the rules that blocks break after these blocks: in headings, temporaries and instructions
 abbrev pub blocks_behind : RawProgram → List (BlockKind × ℕ) → List RawBlock → List Break
 blocks_behind text before [] = []
 blocks_behind text before (raw ∷ raws) =
@@ -138,26 +142,27 @@ names raw =
 
 -- Bodies: brackets
 
--- what an instruction breaks before which so many brackets are open: one opens where there is no room for it, or one
--- closes where none is open
+-- the rule that an instruction breaks before which this many brackets are open: a bracket opens where there is no
+-- room for it, or one closes where none is open
 abbrev pub brackets_at : Line → Option Mnemonic → ℕ → List Break
-brackets_at line (Some (is.Bracket c)) n = if nat_lt n most_open then [] else broken line TooManyBrackets
-brackets_at line (Some is.Close) zero = broken line BracketMissing
+brackets_at line (Some (is.Bracket c)) n = if nat_lt n most_open then [] else rule_break line TooManyBrackets
+brackets_at line (Some is.Close) zero = rule_break line BracketMissing
 brackets_at line other n = []
 
--- how many brackets are open behind an instruction; one for which there is no room is open all the same
+-- how many brackets are open after an instruction; one for which there is no room is open too
 abbrev pub open_then : Option Mnemonic → ℕ → ℕ
 open_then (Some (is.Bracket c)) n = suc n
 open_then (Some is.Close) zero = zero
 open_then (Some is.Close) (suc n) = n
 open_then other n = n
 
--- brackets that are open at the end of a block
+-- the rule that is broken where brackets are open at the end of a block
 abbrev pub open_at_end : Line → ℕ → List Break
 open_at_end line zero = []
-open_at_end line (suc n) = broken line BracketOpen
+open_at_end line (suc n) = rule_break line BracketOpen
 
--- what instructions break before which so many brackets are open, where the block ends on a line
+-- the rules of brackets that instructions break before which this many brackets are open, where the block ends on a
+-- line
 abbrev pub brackets_from : Line → ℕ → List RawInstr → List Break
 brackets_from end n [] = open_at_end end n
 brackets_from end n (raw ∷ rest) =
@@ -172,9 +177,9 @@ bodies raw = flat_map body_breaks raw.blocks
 
 -- The text as a whole
 
--- a text without a block
+-- the rule that a text without a block breaks
 abbrev pub none_among : List RawBlock → List Break
-none_among [] = broken (record { 0 = 1 }) NoBlocks
+none_among [] = rule_break (record { 0 = 1 }) NoBlocks
 none_among (block ∷ rest) = []
 
 abbrev pub no_blocks : RawProgram → List Break
@@ -182,7 +187,7 @@ no_blocks raw = none_among raw.blocks
 
 -- The stages
 
--- all that a raw program breaks, a list a stage
+-- all rules that a raw program breaks, a list for each stage
 abbrev pub stages : RawProgram → List (List Break)
 stages raw = names raw ∷ bodies raw ∷ no_blocks raw ∷ []
 

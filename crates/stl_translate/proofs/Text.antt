@@ -17,8 +17,8 @@ use Rattle.memory_areas.specs.declared.call.Call.{Call}
 use Rattle.stl_tree.specs.declared.program.Program.{Program}
 use Rattle.st_tree.specs.Calls.{calls_to}
 use Rattle.st_tree.specs.GraphRun.{Counting, FitsGraph, counted_run, each_node, each_pass, exit_meaning, graph_calls, heads_of, longest, most_nodes, nodes_do, run_of_graph}
-use Rattle.st_tree.specs.Meaning.{Calls, Continues, Exits, Faults, NoUnits, Normal, Out, Returns, Sem, area_assigned, assigned, body_meaning, changed, then_do}
-use Rattle.graph_rules.specs.Plain.{Plain, listed, test_of}
+use Rattle.st_tree.specs.Meaning.{Calls, Continues, Exits, Faults, NoUnits, Normal, Out, Returns, Sem, area_assignment, assignment, body_meaning, state_or_fault, then_do}
+use Rattle.graph_rules.specs.Plain.{Plain, node_statements, test_of}
 use Rattle.st_tree.specs.Proper.{Proper}
 use Rattle.st_tree.specs.StRun.{FitFormals, FitsIfThere, FitsSt, FitsUnit, end_seen, is_meant, run_of_unit, st_run, state_at_start}
 use Rattle.st_tree.specs.State.{State}
@@ -40,7 +40,7 @@ use Rattle.stl_tree.specs.Accepted.{IsAccepted, IsAcceptedBlock, IsEnded}
 use Rattle.stl_tree.specs.declared.program.Instr.{Instr}
 use Rattle.stl_tree.specs.declared.program.Op.{Op}
 use Rattle.instruction_lowering.specs.Lowered.{AreNodesOf, AreUnitsOf, IsExitBehind, IsExitOf, Lowered, blocks_of}
-use Rattle.row_templates.specs.Writes.{AreWrites}
+use Rattle.template_parts.specs.Writes.{AreWrites}
 use Rattle.stl_translate.specs.Same.{Same}
 use Rattle.stl_translate.specs.inner.Straight.{last_steps, straight, straight_unit}
 
@@ -69,7 +69,8 @@ left_by_end [] e h k = elim h [ ]
 left_by_end (i ∷ []) e h k = subst (λ (o : Op). IsExitBehind o e) h k
 left_by_end (i ∷ j ∷ rest) e h k = left_by_end (j ∷ rest) e h k
 
-one_node : (body : List Instr) (unit : GraphPou) (nodes : List StNode) → IsEnded body → unit.graph.nodes ≡ nodes → AreNodesOf (blocks_of body) nodes → IsStraight unit
+one_node : (body : List Instr) (unit : GraphPou) (nodes : List StNode) → IsEnded body
+    → unit.graph.nodes ≡ nodes → AreNodesOf (blocks_of body) nodes → IsStraight unit
 one_node body unit [] h e k = elim k [ ]
 one_node body unit (node ∷ []) h e k = record { node = node; nodes = e; exit = left_by_end body node.exit h k.0.exit; steps = k.0.steps }
 one_node body unit (node ∷ next ∷ rest) h e k = elim k.1 [ ]
@@ -93,7 +94,8 @@ found_straight test (x ∷ xs) each u e = by_test (test x) x u (find test xs) e 
 
 -- what is made of each unit is found where the unit is
 module _ (of : GraphPou → Pou) (test : Pou → Bool) where
-  chosen : (found : Bool) (x : GraphPou) (o : Option GraphPou) (o' : Option Pou) → o' ≡ option_map of o → cond found (Some (of x)) o' ≡ option_map of (cond found (Some x) o)
+  chosen : (found : Bool) (x : GraphPou) (o : Option GraphPou) (o' : Option Pou)
+      → o' ≡ option_map of o → cond found (Some (of x)) o' ≡ option_map of (cond found (Some x) o)
   chosen true x o o' e = refl
   chosen false x o o' e = e
 
@@ -104,7 +106,8 @@ module _ (of : GraphPou → Pou) (test : Pou → Bool) where
 -- Calls from outside
 
 -- what a call asks of a unit it asks of its formals
-fits_moves : (blocks : List DataBlock) (a b : Pou) → a.formals ≡ b.formals → (called : BlockName) (instance : ℕ) (actuals : List (Place × Width)) → FitsUnit blocks a called instance actuals → FitsUnit blocks b called instance actuals
+fits_moves : (blocks : List DataBlock) (a b : Pou) → a.formals ≡ b.formals → (called : BlockName) (instance : ℕ) (actuals : List (Place × Width))
+    → FitsUnit blocks a called instance actuals → FitsUnit blocks b called instance actuals
 fits_moves blocks a b e (name.Ob n) instance actuals h = tt
 fits_moves blocks a b e (name.Fc n) instance actuals h = subst (λ (formals : List Local). FitFormals blocks formals actuals) e h
 fits_moves blocks a b e (name.Fb n) instance actuals h = record { formals = sym e ∙ h.formals; block = h.block }
@@ -112,20 +115,21 @@ fits_moves blocks a b e (name.Fb n) instance actuals h = record { formals = sym 
 -- Runs
 
 changed_alike : (r : Result State Fault) (units others : ℕ) (s : State) (f h : Sem) → ((t : State) → end_seen (f units t) ≡ end_seen (h others t))
-    → end_seen (then_do (changed r units s) f) ≡ end_seen (then_do (changed r others s) h)
+    → end_seen (then_do (state_or_fault r units s) f) ≡ end_seen (then_do (state_or_fault r others s) h)
 changed_alike (Ok t) units others s f h more = more t
 changed_alike (Err x) units others s f h more = refl
 
 -- assignments and area writes end alike, whatever the calls are and however many units are left
-written_alike : (g : List Located) (c d : Calls) (xs : List Stmt) → AreWrites xs → (units others : ℕ) (s : State) → end_seen (body_meaning g c xs units s) ≡ end_seen (body_meaning g d xs others s)
+written_alike : (g : List Located) (c d : Calls) (xs : List Stmt) → AreWrites xs → (units others : ℕ) (s : State)
+    → end_seen (body_meaning g c xs units s) ≡ end_seen (body_meaning g d xs others s)
 written_alike g c d [] h units others s = refl
 written_alike g c d (stmt.Assign v e ∷ xs) h units others s =
     ap (λ (o : Out). end_seen (then_do o (body_meaning g c xs))) (meaning_assign g c units s v e)
-    ∙ changed_alike (assigned g v e s) units others s (body_meaning g c xs) (body_meaning g d xs) (written_alike g c d xs h units others)
+    ∙ changed_alike (assignment g v e s) units others s (body_meaning g c xs) (body_meaning g d xs) (written_alike g c d xs h units others)
     ∙ sym (ap (λ (o : Out). end_seen (then_do o (body_meaning g d xs))) (meaning_assign g d others s v e))
 written_alike g c d (stmt.AreaWrite w p e ∷ xs) h units others s =
     ap (λ (o : Out). end_seen (then_do o (body_meaning g c xs))) (meaning_area_write g c units s w p e)
-    ∙ changed_alike (area_assigned g w p e s) units others s (body_meaning g c xs) (body_meaning g d xs) (written_alike g c d xs h units others)
+    ∙ changed_alike (area_assignment g w p e s) units others s (body_meaning g c xs) (body_meaning g d xs) (written_alike g c d xs h units others)
     ∙ sym (ap (λ (o : Out). end_seen (then_do o (body_meaning g d xs))) (meaning_area_write g d others s w p e))
 written_alike g c d (x ∷ xs) h units others s = elim h [ ]
 
@@ -154,7 +158,8 @@ module _ (graph : GraphProgram) (call : Call) (memory : Areas) where
       ap (λ (nodes : List StNode). end_seen (body_meaning graph.globals (calls_to units tree) (last_steps nodes) units s)) shape.nodes
       ∙ written_alike graph.globals (calls_to units tree) calls node.steps shape.steps units others s
       ∙ sym (ended (body_meaning graph.globals calls node.steps others s))
-      ∙ sym (ap (λ (e : StExit). end_seen (then_do (body_meaning graph.globals calls node.steps others s) (exit_meaning graph.globals counts (nodes_do counts graph most (node ∷ [])) 0 e))) shape.exit)
+      ∙ sym (ap (λ (e : StExit). end_seen (then_do (body_meaning graph.globals calls node.steps others s)
+      (exit_meaning graph.globals counts (nodes_do counts graph most (node ∷ [])) 0 e))) shape.exit)
       ∙ sym (ap (λ (m : ℕ). end_seen (nodes_do counts graph m (node ∷ []) 0 others s)) some)
       ∙ sym (ap (λ (nodes : List StNode). end_seen (nodes_do counts graph (most_nodes graph (suc others)) nodes 0 others s)) shape.nodes)
 
@@ -167,7 +172,8 @@ module _ (graph : GraphProgram) (call : Call) (memory : Areas) where
   runs_alike : Each graph.pous → (counts : Counting) (units others : ℕ) → st_run tree call memory units ≡ counted_run counts graph call memory (suc others)
   runs_alike each counts units others =
       ap (λ (o : Option Pou). run_of_unit tree o call memory units) (found_of straight_unit (is_meant call.block) graph.pous)
-      ∙ by_unit counts (find (λ (u : GraphPou). is_meant call.block u.head) graph.pous) (found_straight (λ (u : GraphPou). is_meant call.block u.head) graph.pous each) units others
+      ∙ by_unit counts (find (λ (u : GraphPou). is_meant call.block u.head) graph.pous)
+      (found_straight (λ (u : GraphPou). is_meant call.block u.head) graph.pous each) units others
 
   -- a graph that may not begin a node goes on
   none_begun : (counts : Counting) (o : Option GraphPou) → run_of_graph counts graph o call memory 0 ≡ Going
@@ -196,12 +202,14 @@ module _ (program : Program) (accepted : IsAccepted program) (graph : GraphProgr
   in_text : (call : Call) → FitsGraph graph call → FitsSt (straight graph) call
   in_text call fits =
       subst (λ (o : Option Pou). FitsIfThere (straight graph) call o) (sym (found_of straight_unit (is_meant call.block) graph.pous))
-      (fits_text graph call (found call) (subst (λ (o : Option Pou). FitsIfThere (heads_of graph) call o) (found_of (λ (u : GraphPou). u.head) (is_meant call.block) graph.pous) fits))
+      (fits_text graph call (found call)
+      (subst (λ (o : Option Pou). FitsIfThere (heads_of graph) call o) (found_of (λ (u : GraphPou). u.head) (is_meant call.block) graph.pous) fits))
 
   in_graph : (call : Call) → FitsSt (straight graph) call → FitsGraph graph call
   in_graph call fits =
       subst (λ (o : Option Pou). FitsIfThere (heads_of graph) call o) (sym (found_of (λ (u : GraphPou). u.head) (is_meant call.block) graph.pous))
-      (fits_heads graph call (found call) (subst (λ (o : Option Pou). FitsIfThere (straight graph) call o) (found_of straight_unit (is_meant call.block) graph.pous) fits))
+      (fits_heads graph call (found call)
+      (subst (λ (o : Option Pou). FitsIfThere (straight graph) call o) (found_of straight_unit (is_meant call.block) graph.pous) fits))
 
   text_ends : (call : Call) → Fits program call → (memory : Areas) → IsMemoryOf program.dbs memory → (n : ℕ) (after : Areas) (fault : Option Fault)
       → stl_run program call memory n ≡ Ended after fault → st_run (straight graph) call memory (2 * n) ≡ Ended after fault
@@ -229,18 +237,21 @@ module _ (program : Program) (accepted : IsAccepted program) (graph : GraphProgr
         runs = λ call fits. record { forth = text_ends call fits; back = program_ends call fits };
       }
 
-  listed_unit : (u : GraphPou) → IsStraight u → record u.head { body = listed u.graph.nodes } ≡ straight_unit u
+  listed_unit : (u : GraphPou) → IsStraight u → record u.head { body = node_statements u.graph.nodes } ≡ straight_unit u
   listed_unit u shape =
       ap (λ (body : List Stmt). record u.head { body = body })
-      (ap listed shape.nodes
+      (ap node_statements shape.nodes
       ∙ append-nil (shape.node.steps ++ test_of shape.node.exit)
       ∙ ap (λ (e : StExit). shape.node.steps ++ test_of e) shape.exit
       ∙ append-nil shape.node.steps
       ∙ sym (ap last_steps shape.nodes))
 
-  listed_units : (units : List GraphPou) → Each units → map (λ (u : GraphPou). record u.head { body = listed u.graph.nodes }) units ≡ map straight_unit units
+  listed_units : (units : List GraphPou) → Each units
+      → map (λ (u : GraphPou). record u.head { body = node_statements u.graph.nodes }) units ≡ map straight_unit units
   listed_units [] h = refl
-  listed_units (u ∷ us) h = ap (λ (x : Pou). x ∷ map (λ (u : GraphPou). record u.head { body = listed u.graph.nodes }) us) (listed_unit u h.0) ∙ ap (λ (xs : List Pou). straight_unit u ∷ xs) (listed_units us h.1)
+  listed_units (u ∷ us) h =
+      ap (λ (x : Pou). x ∷ map (λ (u : GraphPou). record u.head { body = node_statements u.graph.nodes }) us) (listed_unit u h.0)
+      ∙ ap (λ (xs : List Pou). straight_unit u ∷ xs) (listed_units us h.1)
 
   pub proper_text : Plain graph → Proper (straight graph)
   proper_text plain =

@@ -1,4 +1,6 @@
--- A text that means the same as a program.
+-- When text and program mean the same. They have the same data blocks, the same calls fit them, and their runs from a
+-- memory end alike.
+-- Held against: this project's own claim.
 use Rattle.std.specs.Prelude.{◌≡◌, ℕ, ◌+◌, ◌*◌, List, Option}
 use Rattle.memory_areas.specs.Areas.{Areas, IsMemoryOf}
 use Rattle.memory_areas.specs.End.{End, Ended}

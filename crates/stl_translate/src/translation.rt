@@ -23,7 +23,7 @@ pub fn translate(alloc: Global, program: &Program) -> Result<StProgram, NoMemory
     straight(alloc, graph)
 }
 
-/// The text of a graph program whose units are one node each.
+/// The tree of a graph program whose units are one node each.
 fn straight(alloc: Global, graph: GraphProgram) -> Result<StProgram, NoMemory>
     ensures { IfOk result (λ tree. tree ≡ straight graph) }
 {
@@ -46,7 +46,7 @@ fn straight_unit(alloc: Global, unit: GraphPou) -> Pou
     head
 }
 
-/// The steps of the last node, which here is the only one.
+/// The steps of the last node; here it is the only one.
 #[tactic(auto, using(crate::proofs::Text::last_behind))]
 fn last_steps(alloc: Global, nodes: List<StNode>) -> List<Stmt>
     ensures { result ≡ last_steps nodes }

@@ -1,7 +1,7 @@
-mod AccumulatorRows
-pub mod AddressRows
-mod DataBlockRows
+mod AccumulatorCases
+pub mod AddressCases
+mod DataBlockCases
 pub mod RowForms
-pub mod RunRows
+pub mod RunCases
 pub mod Runs
 pub mod ShiftForms

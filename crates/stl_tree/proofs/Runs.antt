@@ -3,7 +3,7 @@ use Rattle.std.proofs.Common.{◌≡◌, ℕ, zero, suc, ◌+◌, ◌-◌, ◌�
 use Rattle.memory_areas.specs.Areas.{Areas, Contents}
 use Rattle.memory_areas.specs.End.{Ended}
 use Rattle.s7_base.specs.declared.outcome.Fault.{Fault}
-use Rattle.stl_tree.specs.StlRun.{Standing, running, over, step, steps_on, end_of, begun}
+use Rattle.stl_tree.specs.StlRun.{Standing, running, over, step, steps_on, end_of, at_run_start}
 use Rattle.stl_tree.specs.RunLaws.{EndStays, StepsAdd}
 
 pub over_stays : (n : ℕ) (memory : Contents) (f : Option Fault) → steps_on n (over memory f) ≡ over memory f
@@ -19,7 +19,8 @@ stays_ended : (s : Standing) (k : ℕ) (memory : Areas) (f : Option Fault) → e
 stays_ended (running program now) k memory f e = cc
 stays_ended (over m g) k memory f e = ap end_of (over_stays k m g) ∙ e
 
-pub end_kept : (s : Standing) (n more : ℕ) (memory : Areas) (f : Option Fault) → n ≤ more → end_of (steps_on n s) ≡ Ended memory f → end_of (steps_on more s) ≡ Ended memory f
+pub end_kept : (s : Standing) (n more : ℕ) (memory : Areas) (f : Option Fault) → n ≤ more
+    → end_of (steps_on n s) ≡ Ended memory f → end_of (steps_on more s) ≡ Ended memory f
 end_kept s n more memory f h e =
     let all : n + (more - n) ≡ more = omega arith in
     ap (λ k. end_of (steps_on k s)) (sym all)
@@ -27,7 +28,7 @@ end_kept s n more memory f h e =
     ∙ stays_ended (steps_on n s) (more - n) memory f e
 
 pub runs_end_stays : EndStays
-runs_end_stays program call memory n more after f h e = end_kept (begun program call memory) n more after f h e
+runs_end_stays program call memory n more after f h e = end_kept (at_run_start program call memory) n more after f h e
 
 pub runs_steps_add : StepsAdd
-runs_steps_add program call memory n j = ap end_of (steps_on-add n j (begun program call memory))
+runs_steps_add program call memory n j = ap end_of (steps_on-add n j (at_run_start program call memory))

@@ -1,4 +1,6 @@
--- The rules that a program keeps where the verdict gives it.
+-- Rules that an accepted program keeps. Its operands, brackets, ends, names, numbers, data blocks and symbols are as
+-- the verdict lets them be.
+-- Held against: this project's own rules.
 use Rattle.std.specs.Prelude.{◌≡◌, ◌≢◌, ℕ, ◌≤◌, ◌<◌, ◌^◌, Bool, true, false, Option, Some, List, [], ◌∷◌, All, None}
 use Rattle.memory_areas.specs.Access.{bits_wide, is_byte_in, is_unaligned}
 use Rattle.memory_areas.specs.Areas.{AreBlocks}
@@ -40,7 +42,7 @@ use Rattle.stl_tree.specs.declared.program.Symbol.{Symbol}
 
 -- Operands
 
--- the number of a data block
+-- a number of 16 bits that a data block may have
 abbrev pub IsBlockOpened : ℕ → Type 0
 IsBlockOpened n = (1 ≤ n) × (n ≤ 65535)
 
@@ -48,7 +50,7 @@ IsBlockOpened n = (1 ≤ n) × (n ≤ 65535)
 abbrev pub IsOffset : ℕ → Type 0
 IsOffset offset = offset < 2 ^ 19
 
--- the areas that a pointer may stand in, and the operands that lie in one of them
+-- the areas where a pointer may be stored, and the operands that lie in one of them
 abbrev pub may_hold_pointers : AreaName → Bool
 may_hold_pointers area.I = false
 may_hold_pointers area.Q = false
@@ -75,7 +77,7 @@ IsOperand w (operand.ByMemory a pointer_area byte) =
 IsOperand w (operand.ByRegister a r offset) = IsOffset offset
 IsOperand w (operand.Crossing r offset) = IsOffset offset
 
--- an operand that may hold a pointer
+-- a pointer may be stored at an operand
 abbrev pub MayHoldPointer : Width → Operand → Type 0
 MayHoldPointer w o = (is_of_pointers o ≡ true) × IsOperand w o
 
@@ -87,35 +89,37 @@ is_of_numbers elsewhere = false
 abbrev pub IsNumberHolder : Operand → Type 0
 IsNumberHolder o = (is_of_numbers o ≡ true) × IsOperand width.Word o
 
--- OPN opens a data block by its number, or by that in a word
+-- OPN opens a data block by its number, or by the number in a word
 abbrev pub IsOpenArg : OpenArg → Type 0
 IsOpenArg (open_arg.Number n) = IsBlockOpened n
 IsOpenArg (open_arg.At o) = IsNumberHolder o
 
--- an address register is loaded with a pointer of 32 bits, wherever it stands; from the other one AR1 alone
+-- an address register may be loaded with a pointer of 32 bits, a constant or in memory; from the other register AR1
+-- alone
 abbrev pub IsPointerLoad : Ar → ArLoad → Type 0
 IsPointerLoad a ar_load.Accu1 = Unit {0}
 IsPointerLoad a (ar_load.Constant p) = p < 2 ^ 32
 IsPointerLoad a (ar_load.At o) = MayHoldPointer width.Dword o
 IsPointerLoad a ar_load.OtherAr = a ≡ ar.One
 
--- an address register is stored likewise
+-- an address register may be stored in ACCU1, at a double word where a pointer may be stored, or in the other
+-- register, from AR1 alone
 abbrev pub IsPointerStore : Ar → ArStore → Type 0
 IsPointerStore a ar_store.Accu1 = Unit {0}
 IsPointerStore a (ar_store.At o) = MayHoldPointer width.Dword o
 IsPointerStore a ar_store.OtherAr = a ≡ ar.One
 
--- what is added to an address register is an offset, or stands in ACCU1
+-- the amount that is added to an address register is an offset, or is in ACCU1
 abbrev pub IsAmount : Option ℕ → Type 0
 IsAmount None = Unit {0}
 IsAmount (Some offset) = IsOffset offset
 
--- a byte, a word or a double word
+-- a width is that of a byte, a word or a double word
 abbrev pub IsNumberWidth : Width → Type 0
 IsNumberWidth width.Bit = ⊥
 IsNumberWidth w = Unit {0}
 
--- what L loads is a number, or a constant of 32 bits
+-- the operand of L is a number, or a constant of 32 bits
 abbrev pub IsLoadable : LoadArg → Type 0
 IsLoadable (load.At o w) = IsNumberWidth w × IsOperand w o
 IsLoadable (load.Constant c) = c < 2 ^ 32
@@ -126,12 +130,12 @@ IsComparison t width.Word = is_comparison t ≡ true
 IsComparison t width.Dword = is_comparison t ≡ true
 IsComparison t w = ⊥
 
--- a count is one that a row may have as a constant
+-- a count is one that a shift or a rotation may have as a constant
 abbrev pub IsCount : ShiftRow → Option ℕ → Type 0
 IsCount s None = Unit {0}
 IsCount s (Some n) = n ≤ most_steps s
 
--- a constant has the width of its row
+-- a constant has the width of its word logic instruction
 abbrev pub IsOfWidth : Width → Option ℕ → Type 0
 IsOfWidth w None = Unit {0}
 IsOfWidth w (Some c) = c < 2 ^ bits_wide w
@@ -209,8 +213,8 @@ AreDistinct (b ∷ rest) = (block_named b.name rest ≡ None) × AreDistinct res
 
 -- The rules, a record a group
 
--- what stands in a block: its operands lie in their areas, its brackets are nested, it ends with an end word,
--- its number is in range, and it has no formals, since none are read yet
+-- the rules for a block: its operands lie in their areas, its brackets are nested, it ends with an end word, its
+-- number is in range, and it has no formals, since none are read yet
 pub record IsAcceptedBlock (block : Block) : Type 0 where
   pub operands : HaveOperands block.body
   pub brackets : AreNested block.body 0
@@ -228,7 +232,8 @@ AreSymbolBytes elsewhere w byte = ⊥
 -- a symbol is a place in one of these three, with a bit number that its width has
 abbrev pub IsSymbol : Symbol → Type 0
 IsSymbol symbol =
-    AreSymbolBytes symbol.place.area symbol.width symbol.place.byte × (is_unaligned symbol.width symbol.place.bit ≡ false)
+    AreSymbolBytes symbol.place.area symbol.width symbol.place.byte
+    × (is_unaligned symbol.width symbol.place.bit ≡ false)
 
 -- a program keeps the rules: there is a block, each of its blocks keeps them, no two have one name; its data blocks
 -- are ones that a memory may have; its symbols are places. No data block is an instance, since none is read yet

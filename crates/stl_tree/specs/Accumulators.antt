@@ -1,4 +1,6 @@
--- The accumulators and their parts, and the instructions that load, store and move them.
+-- Instructions on the accumulators. The accumulators and their parts; what L, T, TAK, PUSH, POP, INC, DEC and adding
+-- a constant make of them.
+-- Held against: the manual's chapters 'Load and Transfer', 'Integer Math' and 'Accumulator Instructions'.
 use Rattle.std.specs.Prelude.{ℕ, ◌+◌, ◌-◌, ◌*◌, ◌/◌, ◌%◌, ◌^◌, ◌==◌, ℤ, ◌+ℤ◌, Result, Ok}
 use Rattle.std.specs.Int.{from_bool}
 use Rattle.memory_areas.specs.Access.{and_then, bits_wide, read_bit, read_byte, read_word, read_dword, write_bit, write_byte, write_word, write_dword}
@@ -13,7 +15,7 @@ use Rattle.stl_tree.specs.Registers.{RegisterValues}
 
 -- Parts
 
--- the lowest bits of an accumulator, so many as a width has
+-- the lowest bits of an accumulator, as many as a width has
 abbrev pub part : Width → ℕ → ℕ
 part w a = a % 2 ^ bits_wide w
 
@@ -21,19 +23,19 @@ part w a = a % 2 ^ bits_wide w
 abbrev pub with_part : Width → ℕ → ℕ → ℕ
 with_part w a p = a / 2 ^ bits_wide w * 2 ^ bits_wide w + p
 
--- the number that they stand for, the highest of them being the sign
+-- the number of the lowest bits of an accumulator, the highest of them being the sign
 abbrev pub signed_part : Width → ℕ → ℤ
 signed_part w a = number (bits_wide w) (part w a)
 
--- an accumulator whose lowest bits take what is left there of a number
+-- an accumulator whose lowest bits are the pattern of a number
 abbrev pub with_number : Width → ℕ → ℤ → ℕ
 with_number w a z = with_part w a (pattern (bits_wide w) z)
 
 -- Loading and storing
 
--- L: what is loaded goes to ACCU1, extended by zeros, and what stood there to ACCU2
-abbrev pub loaded : ℕ → RegisterValues → RegisterValues
-loaded v r = record r { accu1 = v; accu2 = r.accu1 }
+-- L: ACCU2 takes ACCU1, and ACCU1 takes the value, extended by zeros
+abbrev pub after_load : ℕ → RegisterValues → RegisterValues
+after_load v r = record r { accu1 = v; accu2 = r.accu1 }
 
 -- the number at a place, of a width
 abbrev pub read_number : Width → Place → Contents → Result ℕ Fault
@@ -49,9 +51,9 @@ write_number width.Byte p v m = write_byte p v m
 write_number width.Word p v m = write_word p v m
 write_number width.Dword p v m = write_dword p v m
 
--- L STW
+-- L STW: loads the status word
 abbrev pub status_loaded : RegisterValues → RegisterValues
-status_loaded r = loaded (word_of r.status) r
+status_loaded r = after_load (word_of r.status) r
 
 -- T STW: six bits of the status word from ACCU1, each from the bit at its place
 abbrev pub status_stored : RegisterValues → RegisterValues
@@ -59,23 +61,23 @@ status_stored r = record r { status = from_word (bits_of r.accu1) r.status }
 
 -- Moving
 
--- TAK
+-- TAK: ACCU1 and ACCU2 exchange their values
 abbrev pub accus_exchanged : RegisterValues → RegisterValues
 accus_exchanged r = record r { accu1 = r.accu2; accu2 = r.accu1 }
 
--- PUSH
+-- PUSH: ACCU2 takes the value of ACCU1
 abbrev pub accu_pushed : RegisterValues → RegisterValues
 accu_pushed r = record r { accu2 = r.accu1 }
 
--- POP
+-- POP: ACCU1 takes the value of ACCU2
 abbrev pub accu_popped : RegisterValues → RegisterValues
 accu_popped r = record r { accu1 = r.accu2 }
 
 -- Adding a constant
 
 -- + n and + L#n: a part of ACCU1 takes the sum of itself and a number, wrapped; no bit of the status word shows it
-abbrev pub increased : Width → ℤ → RegisterValues → RegisterValues
-increased w n r = record r { accu1 = with_number w r.accu1 (signed_part w r.accu1 +ℤ n) }
+abbrev pub after_addition : Width → ℤ → RegisterValues → RegisterValues
+after_addition w n r = record r { accu1 = with_number w r.accu1 (signed_part w r.accu1 +ℤ n) }
 
 -- INC and DEC: the lowest byte of ACCU1, from 0 to 255, plus or minus a number from 0 to 255, wrapped
 abbrev pub counted_up : ℕ → RegisterValues → RegisterValues

@@ -1,4 +1,5 @@
--- Open brackets: what opening and closing one does, and where brackets may stand in a body.
+-- Opening and closing a bracket. What that does to the state, and where brackets may be in a body.
+-- Held against: the manual's chapter 'Bit Logic'.
 use Rattle.std.specs.Prelude.{ℕ, zero, suc, nat_lt, if◌then◌else◌, List, [], ◌∷◌, length, Option, Some, None}
 use Rattle.s7_base.specs.declared.check.Check.{Check}
 use Rattle.s7_base.specs.declared.check.Entry.{Entry}
@@ -9,26 +10,26 @@ use Rattle.stl_tree.specs.declared.program.Instr.{Instr}
 use Rattle.stl_tree.specs.declared.program.Op.{Op}
 use Rattle.stl_tree.specs.declared.program.Op.TheVariants as op
 
--- a further open bracket, where there is room for one
-abbrev pub pushed : Entry → List Entry → List Entry
-pushed e entries = if nat_lt (length entries) most_open then e ∷ entries else entries
+-- the open brackets with one more, where there is room for it
+abbrev pub push_bracket : Entry → List Entry → List Entry
+push_bracket e entries = if nat_lt (length entries) most_open then e ∷ entries else entries
 
 -- the state in a bracket of a check
-abbrev pub opened : Check → Now → Now
-opened c now = with_status after_open (record now { brackets = pushed (entry_of c now.registers.status) now.brackets })
+abbrev pub in_bracket_of : Check → Now → Now
+in_bracket_of c now =
+    with_status after_open (record now { brackets = push_bracket (entry_of c now.registers.status) now.brackets })
 
--- the state behind the bracket that is closed, given those that are open
+-- the state after a bracket is closed, given those that are open
 abbrev pub closed_with : List Entry → Now → Now
 closed_with [] now = now
 closed_with (e ∷ outer) now = with_status (after_close e) (record now { brackets = outer })
 
--- the state behind the innermost open bracket
-abbrev pub closed : Now → Now
-closed now = closed_with now.brackets now
+-- the state after the innermost open bracket is closed
+abbrev pub after_bracket : Now → Now
+after_bracket now = closed_with now.brackets now
 
--- how many brackets are open behind an instruction before which so many are, where it may stand there: a
--- bracket opens where there is room for one, one closes where one is open, and none is open at the end of
--- a block
+-- how many brackets are open after an instruction before which this many are, where it may be there: a bracket opens
+-- where there is room for one, one closes where one is open, and none is open at the end of a block
 abbrev pub open_behind : Op → ℕ → Option ℕ
 open_behind (op.Bracket c) n = if nat_lt n most_open then Some (suc n) else None
 open_behind op.Close zero = None
@@ -75,12 +76,12 @@ open_behind (op.OpenDi d) n = Some n
 open_behind op.ExchangeDb n = Some n
 open_behind op.Nop n = Some n
 
--- what holds of a number that is there
+-- a property of a number, which must exist
 abbrev pub WithNumber : Option ℕ → (ℕ → Type 0) → Type 0
 WithNumber None P = ⊥
 WithNumber (Some n) P = P n
 
--- each instruction may stand where it stands, so many brackets being open before the first
+-- each instruction may be at its place, this many brackets being open before the first
 abbrev pub AreNested : List Instr → ℕ → Type 0
 AreNested [] n = Unit {0}
 AreNested (i ∷ rest) n = WithNumber (open_behind i.op n) (AreNested rest)

@@ -1,4 +1,5 @@
--- What works on ACCU1 alone: numbers in decimal digits, the sign, inverted bits, bytes in reverse order.
+-- Conversions in ACCU1. Numbers to and from decimal digits, the sign extended, bits inverted, bytes in reverse order.
+-- Held against: the manual's chapter 'Conversion'.
 use Rattle.std.specs.Prelude.{ℕ, ◌-◌, ◌^◌, ℤ, true, false, reverse, Option, Some, None, Result, Ok, Err}
 use Rattle.bcd_words.specs.Bcd.{bcd_of, bcd_value}
 use Rattle.memory_areas.specs.Areas.{bytes_of_dword, bytes_of_word, dword_at, word_at}
@@ -9,14 +10,14 @@ use Rattle.s7_base.specs.declared.word.Width.TheVariants as width
 use Rattle.status_word.specs.Results.{after_converted}
 use Rattle.memory_areas.specs.Access.{bits_wide}
 use Rattle.stl_tree.specs.Accumulators.{part, signed_part, with_number, with_part}
-use Rattle.stl_tree.specs.Arithmetic.{negated}
+use Rattle.stl_tree.specs.Arithmetic.{after_negation}
 use Rattle.stl_tree.specs.Registers.{RegisterValues}
 use Rattle.stl_tree.specs.declared.accumulator.UnaryRow.{UnaryRow}
 use Rattle.stl_tree.specs.declared.accumulator.UnaryRow.TheVariants as row
 
 -- a part of ACCU1 takes other bits
-abbrev pub replaced : Width → ℕ → RegisterValues → RegisterValues
-replaced w p r = record r { accu1 = with_part w r.accu1 p }
+abbrev pub with_accu1_part : Width → ℕ → RegisterValues → RegisterValues
+with_accu1_part w p r = record r { accu1 = with_part w r.accu1 p }
 
 -- BTI and BTD: a part of ACCU1 takes the number that its digits say, where each is a decimal one
 abbrev pub with_value_of_digits : Width → RegisterValues → Result ℤ Fault → Result RegisterValues Fault
@@ -35,32 +36,32 @@ with_digits w None r = record r { status = after_converted true r.status }
 abbrev pub to_digits : Width → ℕ → RegisterValues → RegisterValues
 to_digits w count r = with_digits w (bcd_of count (signed_part w r.accu1)) r
 
--- ITD: the low word, extended by its sign
-abbrev pub extended : RegisterValues → RegisterValues
-extended r = record r { accu1 = pattern 32 (signed_part width.Word r.accu1) }
+-- ITD: the low word of ACCU1, extended by its sign
+abbrev pub after_extension : RegisterValues → RegisterValues
+after_extension r = record r { accu1 = pattern 32 (signed_part width.Word r.accu1) }
 
--- INVI and INVD: each bit of a part inverted
-abbrev pub inverted : Width → RegisterValues → RegisterValues
-inverted w r = replaced w (2 ^ bits_wide w - 1 - part w r.accu1) r
+-- INVI and INVD: each bit of a part of ACCU1 inverted
+abbrev pub after_inversion : Width → RegisterValues → RegisterValues
+after_inversion w r = with_accu1_part w (2 ^ bits_wide w - 1 - part w r.accu1) r
 
--- CAW: the two bytes of the low word, the other way round
+-- CAW: the two bytes of the low word of ACCU1, the other way round
 abbrev pub word_reversed : RegisterValues → RegisterValues
-word_reversed r = replaced width.Word (word_at (reverse (bytes_of_word (part width.Word r.accu1))) 0) r
+word_reversed r = with_accu1_part width.Word (word_at (reverse (bytes_of_word (part width.Word r.accu1))) 0) r
 
--- CAD: the four bytes, the other way round
+-- CAD: the four bytes of ACCU1, the other way round
 abbrev pub dword_reversed : RegisterValues → RegisterValues
-dword_reversed r = replaced width.Dword (dword_at (reverse (bytes_of_dword (part width.Dword r.accu1))) 0) r
+dword_reversed r = with_accu1_part width.Dword (dword_at (reverse (bytes_of_dword (part width.Dword r.accu1))) 0) r
 
--- the registers after each row, or its fault
-abbrev pub converted : UnaryRow → RegisterValues → Result RegisterValues Fault
-converted row.Bti r = from_digits width.Word 3 r
-converted row.Btd r = from_digits width.Dword 7 r
-converted row.Itb r = Ok (to_digits width.Word 3 r)
-converted row.Dtb r = Ok (to_digits width.Dword 7 r)
-converted row.Itd r = Ok (extended r)
-converted row.Invi r = Ok (inverted width.Word r)
-converted row.Invd r = Ok (inverted width.Dword r)
-converted row.Caw r = Ok (word_reversed r)
-converted row.Cad r = Ok (dword_reversed r)
-converted row.Negi r = Ok (negated width.Word r)
-converted row.Negd r = Ok (negated width.Dword r)
+-- the registers after each instruction on ACCU1 alone, or its fault
+abbrev pub after_conversion : UnaryRow → RegisterValues → Result RegisterValues Fault
+after_conversion row.Bti r = from_digits width.Word 3 r
+after_conversion row.Btd r = from_digits width.Dword 7 r
+after_conversion row.Itb r = Ok (to_digits width.Word 3 r)
+after_conversion row.Dtb r = Ok (to_digits width.Dword 7 r)
+after_conversion row.Itd r = Ok (after_extension r)
+after_conversion row.Invi r = Ok (after_inversion width.Word r)
+after_conversion row.Invd r = Ok (after_inversion width.Dword r)
+after_conversion row.Caw r = Ok (word_reversed r)
+after_conversion row.Cad r = Ok (dword_reversed r)
+after_conversion row.Negi r = Ok (after_negation width.Word r)
+after_conversion row.Negd r = Ok (after_negation width.Dword r)

@@ -1,20 +1,21 @@
--- The instruction table: what each instruction does to the state that it finds.
+-- The instruction table. What each supported instruction does to the state that it finds.
+-- Held against: each chapter of the manual.
 use Rattle.std.specs.Prelude.{ℕ, Bool, true, false, if◌then◌else◌}
 use Rattle.memory_areas.specs.Access.{read_bit, write_bit}
 use Rattle.status_word.specs.StatusBits.{StatusBits, after_check, after_clear, after_edge, after_end, after_not, after_or, after_save, after_set, after_store}
 use Rattle.s7_base.specs.declared.word.Width.{Width}
 use Rattle.s7_base.specs.declared.word.Width.TheVariants as width
-use Rattle.stl_tree.specs.Accumulators.{accu_popped, accu_pushed, accus_exchanged, counted_down, counted_up, increased, loaded, part, read_number, status_loaded, status_stored, write_number}
+use Rattle.stl_tree.specs.Accumulators.{accu_popped, accu_pushed, accus_exchanged, counted_down, counted_up, after_addition, after_load, part, read_number, status_loaded, status_stored, write_number}
 use Rattle.stl_tree.specs.AddressRegisters.{accu1_pointed, other_loaded, other_stored, pointer_in, pointer_loaded, pointer_moved, pointers_exchanged, with_pointer}
-use Rattle.stl_tree.specs.Arithmetic.{calculated, compared}
-use Rattle.stl_tree.specs.Brackets.{closed, opened}
-use Rattle.stl_tree.specs.Conversions.{converted}
+use Rattle.stl_tree.specs.Arithmetic.{after_arithmetic, after_comparison}
+use Rattle.stl_tree.specs.Brackets.{after_bracket, in_bracket_of}
+use Rattle.stl_tree.specs.Conversions.{after_conversion}
 use Rattle.stl_tree.specs.DataBlocks.{db_number_loaded, db_opened, dbs_exchanged, di_number_loaded, di_opened}
 use Rattle.stl_tree.specs.Now.{Now, Effect, next, leave, with_memory, with_registers, with_status, with_value}
 use Rattle.stl_tree.specs.Operands.{with_checked, with_place}
 use Rattle.stl_tree.specs.Registers.{RegisterValues}
 use Rattle.stl_tree.specs.Shifts.{after_shift, around_left_through_cc1, around_right_through_cc1}
-use Rattle.stl_tree.specs.WordLogic.{after_logic_row}
+use Rattle.stl_tree.specs.WordLogic.{after_word_logic}
 use Rattle.stl_tree.specs.declared.accumulator.UnaryRow.{UnaryRow}
 use Rattle.stl_tree.specs.declared.program.Ar.{Ar}
 use Rattle.stl_tree.specs.declared.program.ArLoad.{ArLoad}
@@ -29,79 +30,80 @@ use Rattle.stl_tree.specs.declared.program.OpenArg.{OpenArg}
 use Rattle.stl_tree.specs.declared.program.OpenArg.TheVariants as open_arg
 use Rattle.stl_tree.specs.declared.program.Operand.{Operand}
 
--- the bits of the status word become others
+-- the effect of an instruction that changes the status word alone
 abbrev pub on_status : (StatusBits → StatusBits) → Now → Effect
 on_status row now = next (with_status row now)
 
--- S and R: where the RLO is 1 the bit of an operand takes a value, else it stays; it is read in every case
-abbrev pub stored : Bool → Operand → Now → Effect
-stored value o now =
+-- the effect of S and R: where the RLO is 1 the bit of an operand takes a value, else it stays; it is read in every
+-- case
+abbrev pub store_where_rlo : Bool → Operand → Now → Effect
+store_where_rlo value o now =
     with_place o now (λ p after. with_value (read_bit p after.memory) (λ b.
     let bit = if after.registers.status.rlo then value else b in
     with_memory (write_bit p bit after.memory) after (on_status (after_store bit))))
 
--- FP and FN: the bit of an operand, which keeps the RLO of the last time, is read, and takes the RLO
+-- the effect of FP and FN: the bit of an operand, which keeps the RLO of the last time, is read, and takes the RLO
 abbrev pub at_edge : Bool → Operand → Now → Effect
 at_edge rising o now =
     with_place o now (λ p after. with_value (read_bit p after.memory) (λ e.
     with_memory (write_bit p after.registers.status.rlo after.memory) after (on_status (after_edge rising e))))
 
--- the registers become others
+-- the effect of an instruction on the registers alone
 abbrev pub on_registers : (RegisterValues → RegisterValues) → Now → Effect
 on_registers row now = next (with_registers row now)
 
--- the registers take a number at an operand
+-- the effect of an instruction whose registers take a number at an operand
 abbrev pub taken : Width → (ℕ → RegisterValues → RegisterValues) → Operand → Now → Effect
 taken w row o now =
     with_place o now (λ p after. with_value (read_number w p after.memory) (λ v. on_registers (row v) after))
 
--- a number is written at an operand
-abbrev pub put : Width → (RegisterValues → ℕ) → Operand → Now → Effect
-put w value o now =
+-- the effect of an instruction that writes a number at an operand
+abbrev pub write_operand : Width → (RegisterValues → ℕ) → Operand → Now → Effect
+write_operand w value o now =
     with_place o now (λ p after. with_memory (write_number w p (value after.registers) after.memory) after next)
 
--- L
+-- the effect of L
 abbrev pub loaded_from : LoadArg → Now → Effect
-loaded_from (arg.At o w) now = taken w loaded o now
-loaded_from (arg.Constant c) now = on_registers (loaded c) now
+loaded_from (arg.At o w) now = taken w after_load o now
+loaded_from (arg.Constant c) now = on_registers (after_load c) now
 
--- T: the lowest bits of ACCU1, so many as the width has
-abbrev pub transferred : Operand → Width → Now → Effect
-transferred o w now = put w (λ r. part w r.accu1) o now
+-- the effect of T: it writes the lowest bits of ACCU1, as many as the width has
+abbrev pub transfer_accu1 : Operand → Width → Now → Effect
+transfer_accu1 o w now = write_operand w (λ r. part w r.accu1) o now
 
--- LAR1 and LAR2
+-- the effect of LAR1 and LAR2
 abbrev pub pointed_from : Ar → ArLoad → Now → Effect
 pointed_from a ar_load.Accu1 now = on_registers (accu1_pointed a) now
 pointed_from a (ar_load.Constant p) now = on_registers (with_pointer a p) now
 pointed_from a (ar_load.At o) now = taken width.Dword (with_pointer a) o now
 pointed_from a ar_load.OtherAr now = on_registers (other_loaded a) now
 
--- TAR1 and TAR2
+-- the effect of TAR1 and TAR2
 abbrev pub pointer_stored : Ar → ArStore → Now → Effect
 pointer_stored a ar_store.Accu1 now = on_registers (pointer_loaded a) now
-pointer_stored a (ar_store.At o) now = put width.Dword (pointer_in a) o now
+pointer_stored a (ar_store.At o) now = write_operand width.Dword (pointer_in a) o now
 pointer_stored a ar_store.OtherAr now = on_registers (other_stored a) now
 
--- OPN: a register of data blocks takes a number, or the word at an operand; nothing is tested
+-- the effect of OPN: a register of data blocks takes a number, or the word at an operand; nothing is tested
 abbrev pub block_opened : (ℕ → RegisterValues → RegisterValues) → OpenArg → Now → Effect
 block_opened row (open_arg.Number n) now = on_registers (row n) now
 block_opened row (open_arg.At o) now = taken width.Word row o now
 
--- an instruction on ACCU1 alone, which may meet a fault
+-- the effect of an instruction on ACCU1 alone, which may have a fault
 abbrev pub on_accu1 : UnaryRow → Now → Effect
-on_accu1 u now = with_value (converted u now.registers) (λ r. next (record now { registers = r }))
+on_accu1 u now = with_value (after_conversion u now.registers) (λ r. next (record now { registers = r }))
 
--- the row of each instruction
+-- the effect of each instruction
 abbrev pub effect_of : Op → Now → Effect
 effect_of (op.Check c b) now = with_checked b now (λ v. on_status (after_check c v))
 effect_of op.OrAlone now = on_status after_or now
-effect_of (op.Bracket c) now = next (opened c now)
-effect_of op.Close now = next (closed now)
+effect_of (op.Bracket c) now = next (in_bracket_of c now)
+effect_of op.Close now = next (after_bracket now)
 effect_of (op.Assign o) now =
     with_place o now (λ p after. with_memory (write_bit p after.registers.status.rlo after.memory) after
     (λ done. next (with_status (after_store done.registers.status.rlo) done)))
-effect_of (op.Set o) now = stored true o now
-effect_of (op.Reset o) now = stored false o now
+effect_of (op.Set o) now = store_where_rlo true o now
+effect_of (op.Reset o) now = store_where_rlo false o now
 effect_of op.SetRlo now = on_status after_set now
 effect_of op.ClearRlo now = on_status after_clear now
 effect_of op.NotRlo now = on_status after_not now
@@ -109,21 +111,21 @@ effect_of op.Save now = on_status after_save now
 effect_of (op.EdgeUp o) now = at_edge true o now
 effect_of (op.EdgeDown o) now = at_edge false o now
 effect_of (op.Load a) now = loaded_from a now
-effect_of (op.Transfer o w) now = transferred o w now
+effect_of (op.Transfer o w) now = transfer_accu1 o w now
 effect_of op.LoadStw now = on_registers status_loaded now
 effect_of op.TransferStw now = on_registers status_stored now
 effect_of op.LoadDbNo now = on_registers db_number_loaded now
 effect_of op.LoadDiNo now = on_registers di_number_loaded now
-effect_of (op.Arith a) now = on_registers (calculated a) now
-effect_of (op.AddWord n) now = on_registers (increased width.Word n) now
-effect_of (op.AddDword n) now = on_registers (increased width.Dword n) now
+effect_of (op.Arith a) now = on_registers (after_arithmetic a) now
+effect_of (op.AddWord n) now = on_registers (after_addition width.Word n) now
+effect_of (op.AddDword n) now = on_registers (after_addition width.Dword n) now
 effect_of (op.Inc n) now = on_registers (counted_up n) now
 effect_of (op.Dec n) now = on_registers (counted_down n) now
-effect_of (op.Compare t w) now = on_registers (compared t w) now
+effect_of (op.Compare t w) now = on_registers (after_comparison t w) now
 effect_of (op.Shift s count) now = on_registers (after_shift s count) now
 effect_of op.Rlda now = on_registers around_left_through_cc1 now
 effect_of op.Rrda now = on_registers around_right_through_cc1 now
-effect_of (op.Logic l c) now = on_registers (after_logic_row l c) now
+effect_of (op.Logic l c) now = on_registers (after_word_logic l c) now
 effect_of (op.Unary u) now = on_accu1 u now
 effect_of op.Tak now = on_registers accus_exchanged now
 effect_of op.Push now = on_registers accu_pushed now

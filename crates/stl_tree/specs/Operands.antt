@@ -1,6 +1,8 @@
--- What an operand names.
+-- The place that an operand names. An operand is a written place, or has a pointer in memory or in an address
+-- register; the first fault on the way to its place is named.
+-- Held against: the manual's chapters 'Load and Transfer' and 'Data Block'.
 use Rattle.std.specs.Prelude.{ℕ, Bool, Result, Ok}
-use Rattle.memory_areas.specs.Access.{Aim, and_then, area_named, place_aimed, pointed, pointed_in, read_bit, read_dword}
+use Rattle.memory_areas.specs.Access.{Aim, and_then, area_named, place_aimed, aim_of_pointer, pointed_in, read_bit, read_dword}
 use Rattle.memory_areas.specs.Pointers.{with_offset}
 use Rattle.memory_areas.specs.declared.place.AreaName.{AreaName}
 use Rattle.memory_areas.specs.declared.place.AreaName.TheVariants as area
@@ -16,7 +18,7 @@ use Rattle.stl_tree.specs.declared.program.Operand.{Operand}
 use Rattle.stl_tree.specs.declared.program.Operand.TheVariants as operand
 
 -- an operand that was found: its place, and the state after it was found
-pub record Found : Type 0 where
+pub record OperandPlace : Type 0 where
   pub place : Place
   pub after : Now
 
@@ -25,35 +27,37 @@ abbrev pub place_in : AreaName → ℕ → ℕ → Now → Place
 place_in a byte x now =
     record { area = area_named a now.registers.db now.registers.di (depth now.activations); byte = byte; bit = x }
 
--- the place in a named area that a pointer is aimed at, and the one that a pointer with its area is aimed at
+-- the aim of a pointer in a named area, and that of a pointer in its own area
 abbrev pub aimed_in : AreaName → ℕ → Now → Aim
 aimed_in a p now = pointed_in a p now.registers.db now.registers.di (depth now.activations)
 
 abbrev pub aimed_by : ℕ → Now → Aim
-aimed_by p now = pointed p now.registers.db now.registers.di (depth now.activations)
+aimed_by p now = aim_of_pointer p now.registers.db now.registers.di (depth now.activations)
 
 -- the place that an access is aimed at, if its code has an area
-abbrev pub found_at : Aim → Now → Result Found Fault
+abbrev pub found_at : Aim → Now → Result OperandPlace Fault
 found_at aim now = and_then (place_aimed aim) (λ p. Ok (record { place = p; after = now }))
 
--- what an operand names, or the first fault on the way to its place. A written place has none; one with the number
--- of its data block, as `DB5.DBX 0.0`, is found with that number in the DB register. `M [MD 4]` is found by an access
--- to the pointer first. `M [AR1,P#2.0]` takes byte and bit of an address register, and `[AR1,P#2.0]` its area too, whose
--- code may name none. A formal will be what its activation says. Each of them is a case here.
-abbrev pub found : Operand → Now → Result Found Fault
-found (operand.Direct a byte x) now = Ok (record { place = place_in a byte x now; after = now })
-found (operand.Opened n byte x) now =
+-- the place that an operand names, or the first fault before it is found. A written place has none; one with the
+-- number of its data block, as `DB5.DBX 0.0`, is found with that number in the DB register. `M [MD 4]` is found by an
+-- access to the pointer first. `M [AR1,P#2.0]` takes byte and bit of an address register, and `[AR1,P#2.0]` its area
+-- too, whose code may name none. A formal will be what its activation says. Each of them is a case here.
+abbrev pub place_of_operand : Operand → Now → Result OperandPlace Fault
+place_of_operand (operand.Direct a byte x) now = Ok (record { place = place_in a byte x now; after = now })
+place_of_operand (operand.Opened n byte x) now =
     let after = with_registers (db_opened n) now in Ok (record { place = place_in area.Db byte x after; after = after })
-found (operand.ByMemory a pointer_area byte) now =
+place_of_operand (operand.ByMemory a pointer_area byte) now =
     and_then (read_dword (place_in pointer_area byte 0 now) now.memory) (λ p. found_at (aimed_in a p now) now)
-found (operand.ByRegister a r offset) now = found_at (aimed_in a (with_offset (pointer_in r now.registers) offset) now) now
-found (operand.Crossing r offset) now = found_at (aimed_by (with_offset (pointer_in r now.registers) offset) now) now
+place_of_operand (operand.ByRegister a r offset) now =
+    found_at (aimed_in a (with_offset (pointer_in r now.registers) offset) now) now
+place_of_operand (operand.Crossing r offset) now =
+    found_at (aimed_by (with_offset (pointer_in r now.registers) offset) now) now
 
 -- the effect by the place of an operand, in the state after it was found
 abbrev pub with_place : Operand → Now → (Place → Now → Effect) → Effect
-with_place o now effect = with_value (found o now) (λ f. effect f.place f.after)
+with_place o now effect = with_value (place_of_operand o now) (λ f. effect f.place f.after)
 
--- the effect by what a check looks at: the bit of an operand, or the answer of the status word
+-- the effect by what a check tests: the bit of an operand, or the answer of the status word
 abbrev pub with_checked : BitArg → Now → (Bool → Now → Effect) → Effect
 with_checked (arg.At o) now effect =
     with_place o now (λ p after. with_value (read_bit p after.memory) (λ b. effect b after))

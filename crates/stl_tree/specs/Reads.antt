@@ -29,7 +29,7 @@ use Rattle.stl_tree.specs.declared.program.BitArg.TheVariants as arg
 use Rattle.stl_tree.specs.declared.program.Op.{Op}
 use Rattle.stl_tree.specs.declared.program.Op.TheVariants as op
 
--- what a question to the status word asks
+-- the registers that a test of the status word reads
 abbrev pub asked_by : Test → List Reg
 asked_by test.Eq = reg.Cc1 ∷ reg.Cc0 ∷ []
 asked_by test.Ne = reg.Cc1 ∷ reg.Cc0 ∷ []
@@ -47,8 +47,9 @@ abbrev pub register_of : Ar → Reg
 register_of ar.One = reg.Ar1
 register_of ar.Two = reg.Ar2
 
--- what an operand is found by: an address register, and where that has the area too, the numbers of both data blocks;
--- the number of the data block that a written area means is a register of the access, not of the row
+-- the registers by which an operand is found: an address register, and where that has the area too, the numbers of
+-- both data blocks; the number of the data block that a written area means is a register of the access, not of the
+-- instruction
 abbrev pub found_by : Operand → List Reg
 found_by (operand.Direct a byte x) = []
 found_by (operand.Opened n byte x) = []
@@ -56,12 +57,12 @@ found_by (operand.ByMemory a pointer_area byte) = []
 found_by (operand.ByRegister a r offset) = register_of r ∷ []
 found_by (operand.Crossing r offset) = register_of r ∷ reg.DbNo ∷ reg.DiNo ∷ []
 
--- what a check looks at
+-- the registers by which a check finds its bit, or which it tests
 abbrev pub looked_at : BitArg → List Reg
 looked_at (arg.At o) = found_by o
 looked_at (arg.Flag t) = asked_by t
 
--- the chain that a check goes on with: an AND reads OR too
+-- the registers of the chain that a check continues: an AND reads OR too
 abbrev pub chain_read : Check → List Reg
 chain_read check.A = reg.Rlo ∷ reg.Nfc ∷ reg.Orb ∷ []
 chain_read check.An = reg.Rlo ∷ reg.Nfc ∷ reg.Orb ∷ []
@@ -70,20 +71,21 @@ chain_read check.On = reg.Rlo ∷ reg.Nfc ∷ []
 chain_read check.X = reg.Rlo ∷ reg.Nfc ∷ []
 chain_read check.Xn = reg.Rlo ∷ reg.Nfc ∷ []
 
--- what an arithmetic row reads; where nothing overflows OS is kept
+-- the registers that an arithmetic instruction reads; where nothing overflows OS is kept
 abbrev pub calculated_with : List Reg
 calculated_with = reg.Accu1 ∷ reg.Accu2 ∷ reg.Os ∷ []
 
--- + n, INC and DEC read ACCU1, but a constant 0 changes nothing
+-- the registers that + n, INC and DEC read: ACCU1, but a constant 0 changes nothing
 abbrev pub increased_by : ℤ → List Reg
 increased_by n = if int_eq n (pos 0) then [] else reg.Accu1 ∷ []
 
--- a shift; one by the constant 0 changes nothing, and one by a count of 0 in ACCU2 keeps the flags
+-- the registers that a shift or a rotation reads; one by the constant 0 changes nothing, and one by a count of 0 in
+-- ACCU2 keeps the flags
 abbrev pub shifted_by : Option ℕ → List Reg
 shifted_by None = reg.Accu1 ∷ reg.Accu2 ∷ reg.Cc1 ∷ reg.Cc0 ∷ reg.Ov ∷ []
 shifted_by (Some n) = if n == 0 then [] else reg.Accu1 ∷ []
 
--- word logic with a constant gives the same whatever ACCU1 holds: AD with no bit, OD with all bits
+-- word logic with a constant has one result for every value of ACCU1: AD with no bit, OD with all bits
 abbrev pub is_fixed : LogicRow → ℕ → Bool
 is_fixed logic.Ad c = c == 0
 is_fixed logic.Od c = c == 2 ^ 32 - 1
@@ -93,7 +95,7 @@ abbrev pub combined_with : LogicRow → Option ℕ → List Reg
 combined_with l None = reg.Accu1 ∷ reg.Accu2 ∷ []
 combined_with l (Some c) = if is_fixed l c then [] else reg.Accu1 ∷ []
 
--- what works on ACCU1 alone; where nothing overflows OS is kept
+-- the registers that an instruction on ACCU1 alone reads; where nothing overflows OS is kept
 abbrev pub converted_with : UnaryRow → List Reg
 converted_with unary.Itb = reg.Accu1 ∷ reg.Os ∷ []
 converted_with unary.Dtb = reg.Accu1 ∷ reg.Os ∷ []
@@ -101,30 +103,30 @@ converted_with unary.Negi = reg.Accu1 ∷ reg.Os ∷ []
 converted_with unary.Negd = reg.Accu1 ∷ reg.Os ∷ []
 converted_with other = reg.Accu1 ∷ []
 
--- what L loads
+-- the registers that L reads
 abbrev pub loaded_by : LoadArg → List Reg
 loaded_by (load.At o w) = found_by o
 loaded_by (load.Constant c) = []
 
--- LAR1 and LAR2
+-- the registers that LAR1 and LAR2 read
 abbrev pub pointed_by : Ar → ArLoad → List Reg
 pointed_by a ar_load.Accu1 = reg.Accu1 ∷ []
 pointed_by a (ar_load.Constant p) = []
 pointed_by a (ar_load.At o) = found_by o
 pointed_by a ar_load.OtherAr = register_of (other_of a) ∷ []
 
--- TAR1 and TAR2
+-- the registers that TAR1 and TAR2 read
 abbrev pub stored_by : Ar → ArStore → List Reg
 stored_by a ar_store.Accu1 = register_of a ∷ reg.Accu1 ∷ []
 stored_by a (ar_store.At o) = register_of a ∷ found_by o
 stored_by a ar_store.OtherAr = register_of a ∷ []
 
--- +AR1 and +AR2; an offset of 0 changes nothing
+-- the registers that +AR1 and +AR2 read; an offset of 0 changes nothing
 abbrev pub moved_by : Ar → Option ℕ → List Reg
 moved_by a None = register_of a ∷ reg.Accu1 ∷ []
 moved_by a (Some offset) = if offset == 0 then [] else register_of a ∷ []
 
--- OPN
+-- the registers that OPN reads
 abbrev pub opened_by : OpenArg → List Reg
 opened_by (open_arg.Number n) = []
 opened_by (open_arg.At o) = found_by o

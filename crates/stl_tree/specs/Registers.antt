@@ -1,4 +1,6 @@
--- The registers of a controller as an STL run sees them.
+-- The registers of a controller. The accumulators, the address registers, the numbers of the open data block and of
+-- the open instance, and the bits of the status word; at the start of a run all are zero.
+-- Held against: the manual's chapter 'Accumulator Instructions'.
 use Rattle.std.specs.Prelude.{ℕ}
 use Rattle.status_word.specs.StatusBits.{StatusBits, all_clear}
 

@@ -1,10 +1,11 @@
--- What a program does when one of its blocks is called: its instructions one after another, within a
--- bound on their number.
+-- The run of a called block. The instructions of a program are taken one after another, within a bound on their
+-- number; which calls fit, and what can be seen of a run.
+-- Held against: the manual's chapter 'Program Control'.
 use Rattle.std.specs.Prelude.{ℕ, zero, suc, ◌+◌, ◌^◌, ◌<◌, Bool, false, ◌==◌, if◌then◌else◌, List, [], ◌∷◌, length, map, slice_get, IsSome, Option, Some, None, option_and_then}
 use Rattle.std.specs.List.{position}
 use Rattle.s7_base.specs.Numbers.{greatest}
 use Rattle.s7_base.specs.declared.outcome.Fault.{Fault}
-use Rattle.memory_areas.specs.Areas.{Areas, Contents, cleared, with_areas}
+use Rattle.memory_areas.specs.Areas.{Areas, Contents, with_zero_activation, with_areas}
 use Rattle.memory_areas.specs.End.{End, Ended, Going}
 use Rattle.stl_tree.specs.Instructions.{effect_of}
 use Rattle.stl_tree.specs.Now.{Activation, Now, Effect, next, go, enter, leave, fault}
@@ -19,7 +20,7 @@ use Rattle.stl_tree.specs.declared.program.Program.{Program}
 
 -- Blocks and calls
 
--- two names are the same: kind and number
+-- two names are equal: kind and number
 abbrev pub is_same_name : BlockName → BlockName → Bool
 is_same_name (name.Ob m) (name.Ob n) = m == n
 is_same_name (name.Fc m) (name.Fc n) = m == n
@@ -35,9 +36,8 @@ is_same_name (name.Fb m) (name.Fc n) = false
 abbrev pub block_named : BlockName → List Block → Option ℕ
 block_named called blocks = position (λ (b : Block). is_same_name b.name called) blocks
 
--- the position of the block that a call from outside runs, if it fits: an organization block, which has no
--- formals, so the call's actuals are not looked at; functions and function blocks are not built, so no
--- call of one fits
+-- the position of the block that a call from outside runs, if it fits: an organization block, which has no formals,
+-- so the actuals of its call are not tested; functions and function blocks are not built, so no call of one fits
 abbrev pub block_called : BlockName → List Block → Option ℕ
 block_called (name.Ob n) blocks = block_named (name.Ob n) blocks
 block_called (name.Fc n) blocks = None
@@ -60,17 +60,17 @@ size_of program = greatest (map (λ (b : Block). length b.body) program.blocks)
 
 -- Runs
 
--- where a run stands: the program goes on with this state, or the run has ended
+-- a run between two steps: the program goes on with this state, or the run has ended
 pub data Standing : Type 0 where
   running : Program → Now → Standing
   over : Contents → Option Fault → Standing
 
--- the activations, of which the running one goes on at a position
+-- the activations, of which the running one continues at a position
 abbrev pub going_on_at : ℕ → List Activation → List Activation
 going_on_at to [] = []
 going_on_at to (a ∷ waiting) = record a { at = to } ∷ waiting
 
--- the activations, of which the running one goes on behind its instruction
+-- the activations, of which the running one continues after its instruction
 abbrev pub going_on : List Activation → List Activation
 going_on [] = []
 going_on (a ∷ waiting) = record a { at = a.at + 1 } ∷ waiting
@@ -79,14 +79,14 @@ going_on (a ∷ waiting) = record a { at = a.at + 1 } ∷ waiting
 abbrev pub instance_or : ℕ → ℕ → ℕ
 instance_or instance di = if instance == 0 then di else instance
 
--- where a run stands when a block is called: it begins, its local data and constant actuals zero; the DB and
--- the DI register are put back when it ends, and its caller goes on behind the call. Once calls with formals
--- are built, their actuals are found here, and copied into an instance; the fault of one of them ends the run
-abbrev pub entered : Program → BlockCall → Now → Standing
-entered program call now =
+-- the run after a block is called: the block begins, its local data and constant actuals zero; the DB and the DI
+-- register are put back when it ends, and its caller continues after the call. Once calls with formals are built,
+-- their actuals are found here, and copied into an instance; the fault of one of them ends the run
+abbrev pub at_block_entry : Program → BlockCall → Now → Standing
+at_block_entry program call now =
     running program (record now {
       registers = record now.registers { di = instance_or call.instance now.registers.di };
-      memory = cleared (length now.activations) now.memory;
+      memory = with_zero_activation (length now.activations) now.memory;
       activations =
           record {
             block = call.block;
@@ -99,32 +99,33 @@ entered program call now =
           ∷ going_on now.activations;
     })
 
--- where a run stands when the first of these activations has ended: with the one that waited for it, the DB
--- and the DI register put back; or the run is over. What an instance gives back is copied here likewise
-abbrev pub returned : Program → List Activation → Now → Standing
-returned program [] now = over now.memory None
-returned program (done ∷ []) now = over now.memory None
-returned program (done ∷ caller ∷ waiting) now =
+-- the run after the first of these activations has ended: the one that waited for it continues, the DB and the DI
+-- register put back; or the run is over. What an instance gives back is copied here likewise
+abbrev pub after_return : Program → List Activation → Now → Standing
+after_return program [] now = over now.memory None
+after_return program (done ∷ []) now = over now.memory None
+after_return program (done ∷ caller ∷ waiting) now =
     running program (record now {
       registers = record now.registers { db = done.db; di = done.di };
       activations = caller ∷ waiting;
     })
 
--- where a run stands after an effect; by a fault the memory stays as it was
+-- the run after an effect; by a fault the memory stays as it was
 abbrev pub after_effect : Program → Now → Effect → Standing
 after_effect program now (next n) = running program (record n { activations = going_on n.activations })
 after_effect program now (go to n) = running program (record n { activations = going_on_at to n.activations })
-after_effect program now (enter call n) = entered program call n
-after_effect program now (leave n) = returned program n.activations n
+after_effect program now (enter call n) = at_block_entry program call n
+after_effect program now (leave n) = after_return program n.activations n
 after_effect program now (fault f) = over now.memory (Some f)
 
--- the instruction to come
+-- the next instruction
 abbrev pub instruction : Program → List Activation → Option Instr
 instruction program [] = None
 instruction program (a ∷ waiting) =
     option_and_then (λ (b : Block). slice_get b.body a.at) (slice_get program.blocks a.block)
 
--- the step of an instruction; where there is none, as in a block that is not there, a run stays for ever
+-- the run after the step of an instruction; where there is none, as in a block that does not exist, the run stays as
+-- it is for ever
 abbrev pub step_by : Option Instr → Program → Now → Standing
 step_by None program now = running program now
 step_by (Some i) program now = after_effect program now (effect_of i.op now)
@@ -134,12 +135,12 @@ abbrev pub step : Standing → Standing
 step (running program now) = step_by (instruction program now.activations) program now
 step (over memory f) = over memory f
 
--- where a run stands n steps on
+-- the run after n more steps
 abbrev pub steps_on : ℕ → Standing → Standing
 steps_on zero s = s
 steps_on (suc n) s = steps_on n (step s)
 
--- what can be seen of a run that stands here
+-- what can be seen of a run between two steps
 abbrev pub end_of : Standing → End
 end_of (running program now) = Going
 end_of (over memory f) = Ended memory.areas f
@@ -149,9 +150,9 @@ abbrev pub first_activation : Option ℕ → List Activation
 first_activation None = []
 first_activation (Some block) = record { block = block; at = 0; instance = 0; db = 0; di = 0; formals = [] } ∷ []
 
--- where the run of a call begins; registers, local data and constant actuals are zero, no bracket is open
-abbrev pub begun : Program → Call → Areas → Standing
-begun program call memory =
+-- the run of a call before its first step; registers, local data and constant actuals are zero, no bracket is open
+abbrev pub at_run_start : Program → Call → Areas → Standing
+at_run_start program call memory =
     running program (record {
       registers = start;
       brackets = [];
@@ -161,4 +162,4 @@ begun program call memory =
 
 -- the run of a call within n steps
 abbrev pub stl_run : Program → Call → Areas → ℕ → End
-stl_run program call memory n = end_of (steps_on n (begun program call memory))
+stl_run program call memory n = end_of (steps_on n (at_run_start program call memory))

@@ -1,4 +1,5 @@
--- Word logic: ACCU1, or its low word, with ACCU2 or a constant, bit by bit.
+-- Word logic, bit by bit. ACCU1, or its low word, is combined with ACCU2 or a constant.
+-- Held against: the manual's chapter 'Word Logic'.
 use Rattle.std.specs.Prelude.{ℕ, ◌==◌, bit_and, bit_or, bit_xor, not, Option, Some, None}
 use Rattle.s7_base.specs.declared.word.Width.{Width}
 use Rattle.s7_base.specs.declared.word.Width.TheVariants as width
@@ -8,7 +9,7 @@ use Rattle.stl_tree.specs.Registers.{RegisterValues}
 use Rattle.stl_tree.specs.declared.accumulator.LogicRow.{LogicRow}
 use Rattle.stl_tree.specs.declared.accumulator.LogicRow.TheVariants as row
 
--- the width that a row works on
+-- the width that a word logic instruction works on
 abbrev pub width_of : LogicRow → Width
 width_of row.Aw = width.Word
 width_of row.Ow = width.Word
@@ -17,14 +18,14 @@ width_of row.Ad = width.Dword
 width_of row.Od = width.Dword
 width_of row.Xod = width.Dword
 
--- two patterns, bit by bit
-abbrev pub combined : LogicRow → ℕ → ℕ → ℕ
-combined row.Aw p q = bit_and p q
-combined row.Ow p q = bit_or p q
-combined row.Xow p q = bit_xor p q
-combined row.Ad p q = bit_and p q
-combined row.Od p q = bit_or p q
-combined row.Xod p q = bit_xor p q
+-- the result of a word logic instruction on two patterns, bit by bit
+abbrev pub combination_of : LogicRow → ℕ → ℕ → ℕ
+combination_of row.Aw p q = bit_and p q
+combination_of row.Ow p q = bit_or p q
+combination_of row.Xow p q = bit_xor p q
+combination_of row.Ad p q = bit_and p q
+combination_of row.Od p q = bit_or p q
+combination_of row.Xod p q = bit_xor p q
 
 -- a part of ACCU1 takes a pattern; CC1 says whether it is other than zero
 abbrev pub logic_result : Width → ℕ → RegisterValues → RegisterValues
@@ -35,7 +36,7 @@ abbrev pub other_of : Option ℕ → RegisterValues → ℕ
 other_of (Some c) r = c
 other_of None r = r.accu2
 
--- the registers after a row
-abbrev pub after_logic_row : LogicRow → Option ℕ → RegisterValues → RegisterValues
-after_logic_row l c r =
-    logic_result (width_of l) (combined l (part (width_of l) r.accu1) (part (width_of l) (other_of c r))) r
+-- the registers after a word logic instruction
+abbrev pub after_word_logic : LogicRow → Option ℕ → RegisterValues → RegisterValues
+after_word_logic l c r =
+    logic_result (width_of l) (combination_of l (part (width_of l) r.accu1) (part (width_of l) (other_of c r))) r

@@ -8,31 +8,31 @@ use s7_base::Width;
 /// Arithmetic: on the low words of ACCU2 and ACCU1, or with `D` on the whole of them.
 #[derive(Clone, Copy, Debug, PartialEq, Eq)]
 pub enum Arith {
-    /// `+I`
+    /// `+I`: the sum of the low words.
     AddI,
 
-    /// `-I`
+    /// `-I`: the low word of ACCU2 minus that of ACCU1.
     SubI,
 
-    /// `*I`
+    /// `*I`: the product of the low words, of 32 bits.
     MulI,
 
-    /// `/I`
+    /// `/I`: the low word of ACCU2 divided by that of ACCU1, with the remainder.
     DivI,
 
-    /// `+D`
+    /// `+D`: the sum of ACCU2 and ACCU1.
     AddD,
 
-    /// `-D`
+    /// `-D`: ACCU2 minus ACCU1.
     SubD,
 
-    /// `*D`
+    /// `*D`: the product of ACCU2 and ACCU1.
     MulD,
 
-    /// `/D`
+    /// `/D`: ACCU2 divided by ACCU1.
     DivD,
 
-    /// `MOD`
+    /// `MOD`: the remainder of ACCU2 divided by ACCU1.
     Mod,
 }
 
@@ -51,7 +51,7 @@ pub enum ShiftRow {
 }
 
 impl ShiftRow {
-    /// The greatest count as a constant.
+    /// The greatest count that may be written as a constant: 15 for a word, else 32.
     pub fn most_steps(self) -> u8
         ensures { result ≡ most_steps self }
     {
@@ -74,7 +74,7 @@ pub enum LogicRow {
 }
 
 impl LogicRow {
-    /// The width that it works on.
+    /// The width that an instruction works on.
     pub fn width(self) -> Width
         ensures { result ≡ width_of self }
     {
@@ -88,36 +88,36 @@ impl LogicRow {
 /// Instructions on ACCU1 alone.
 #[derive(Clone, Copy, Debug, PartialEq, Eq)]
 pub enum UnaryRow {
-    /// Three digits to a number of 16 bits.
+    /// `BTI`: three digits to a number of 16 bits.
     Bti,
 
-    /// Seven digits to a number of 32 bits.
+    /// `BTD`: seven digits to a number of 32 bits.
     Btd,
 
-    /// A number of 16 bits to three digits.
+    /// `ITB`: a number of 16 bits to three digits.
     Itb,
 
-    /// A number of 32 bits to seven digits.
+    /// `DTB`: a number of 32 bits to seven digits.
     Dtb,
 
-    /// A number of 16 bits to one of 32.
+    /// `ITD`: a number of 16 bits to one of 32.
     Itd,
 
-    /// Each bit of the low word inverted.
+    /// `INVI`: each bit of the low word inverted.
     Invi,
 
-    /// Each bit inverted.
+    /// `INVD`: each bit inverted.
     Invd,
 
-    /// The bytes of the low word in reverse order.
+    /// `CAW`: the bytes of the low word in reverse order.
     Caw,
 
-    /// The four bytes in reverse order.
+    /// `CAD`: the four bytes in reverse order.
     Cad,
 
-    /// The number in the low word negated.
+    /// `NEGI`: the number in the low word negated.
     Negi,
 
-    /// The number negated.
+    /// `NEGD`: the number negated.
     Negd,
 }

@@ -1,4 +1,4 @@
-//! The program that a source text stands for.
+//! The program that a source text means.
 ghost use Rattle.std.specs.Prelude.{◌≡◌};
 ghost use Rattle.stl_tree.specs.Accepted.{may_hold_pointers};
 ghost use Rattle.stl_tree.specs.AddressRegisters.{other_of};
@@ -16,7 +16,7 @@ pub enum Ar {
 }
 
 impl Ar {
-    /// The other one.
+    /// The other address register.
     pub fn other(self) -> Ar
         ensures { result ≡ other_of self }
     {
@@ -27,7 +27,7 @@ impl Ar {
     }
 }
 
-/// Whether a pointer may stand in an area: the inputs and the outputs hold none.
+/// Whether a pointer may be stored in an area: not in the inputs and the outputs.
 pub fn may_hold_pointers(area: AreaName) -> bool
     ensures { result ≡ may_hold_pointers area }
 {
@@ -56,12 +56,12 @@ pub enum Operand {
     Crossing(Ar, u32),
 }
 
-/// What a bit check looks at.
+/// What a bit check tests.
 #[derive(Clone, Copy)]
 pub enum BitArg {
     At(Operand),
 
-    /// A question to the status word.
+    /// A test of the status word.
     Flag(Test),
 }
 
@@ -83,7 +83,7 @@ pub enum ArLoad {
     /// A pointer.
     Constant(u32),
 
-    /// A double word.
+    /// A double word in memory.
     At(Operand),
 
     /// The other address register.
@@ -108,11 +108,11 @@ pub enum ArStore {
 pub enum OpenArg {
     Number(u16),
 
-    /// The one whose number stands in a word.
+    /// The data block whose number is in a word.
     At(Operand),
 }
 
-/// What a formal of a called block stands for.
+/// What a formal of a called block means.
 #[derive(Clone, Copy)]
 pub enum Actual {
     /// The call leaves the formal out.
@@ -125,7 +125,7 @@ pub enum Actual {
 }
 
 /// A call inside a program: the position of its block, the data block of its instance, which is 0 for a
-/// function, and what the formals of the block stand for, in their order.
+/// function, and the actuals of the block's formals, in their order.
 #[derive(Drop)]
 pub struct BlockCall {
     pub block: u32,
@@ -133,7 +133,7 @@ pub struct BlockCall {
     pub actuals: List<Actual>,
 }
 
-/// What an instruction does, with its operand.
+/// An instruction with its operand.
 #[derive(Drop)]
 pub enum Op {
     /// `A`, `AN`, `O`, `ON`, `X` and `XN` on a bit.
@@ -145,28 +145,28 @@ pub enum Op {
     /// `A(`, `AN(`, `O(`, `ON(`, `X(` and `XN(`.
     Bracket(Check),
 
-    /// `)`
+    /// `)`, which closes a bracket.
     Close,
 
-    /// `=`
+    /// `=`, which assigns the RLO to a bit.
     Assign(Operand),
 
-    /// `S`
+    /// `S`, which sets a bit where the RLO is 1.
     Set(Operand),
 
-    /// `R`
+    /// `R`, which resets a bit where the RLO is 1.
     Reset(Operand),
 
-    /// `SET`
+    /// `SET`, which sets the RLO.
     SetRlo,
 
-    /// `CLR`
+    /// `CLR`, which clears the RLO.
     ClearRlo,
 
-    /// `NOT`
+    /// `NOT`, which inverts the RLO.
     NotRlo,
 
-    /// `SAVE`
+    /// `SAVE`, which copies the RLO to BR.
     Save,
 
     /// `FP`, on the bit that keeps the last RLO.
@@ -175,36 +175,36 @@ pub enum Op {
     /// `FN`, on the bit that keeps the last RLO.
     EdgeDown(Operand),
 
-    /// `L`
+    /// `L`, which loads a value into ACCU1.
     Load(LoadArg),
 
     /// `T`, of a byte, a word or a double word.
     Transfer(Operand, Width),
 
-    /// `L STW`
+    /// `L STW`, which loads the status word.
     LoadStw,
 
-    /// `T STW`
+    /// `T STW`, which stores into the status word.
     TransferStw,
 
-    /// `L DBNO`
+    /// `L DBNO`, which loads the number in the DB register.
     LoadDbNo,
 
-    /// `L DINO`
+    /// `L DINO`, which loads the number in the DI register.
     LoadDiNo,
 
     Arith(Arith),
 
-    /// `+ n`
+    /// `+ n`, which adds to the low word of ACCU1.
     AddWord(i16),
 
-    /// `+ L#n`
+    /// `+ L#n`, which adds to ACCU1.
     AddDword(i32),
 
-    /// `INC`
+    /// `INC`, which adds to the lowest byte of ACCU1.
     Inc(u8),
 
-    /// `DEC`
+    /// `DEC`, which subtracts from the lowest byte of ACCU1.
     Dec(u8),
 
     /// `==I` to `<=I` with the width of a word, `==D` to `<=D` with that of a double word.
@@ -213,10 +213,10 @@ pub enum Op {
     /// A shift or rotation, by a constant or by ACCU2.
     Shift(ShiftRow, Option<u8>),
 
-    /// `RLDA`
+    /// `RLDA`, which rotates ACCU1 and CC1 to the left.
     Rlda,
 
-    /// `RRDA`
+    /// `RRDA`, which rotates ACCU1 and CC1 to the right.
     Rrda,
 
     /// Word logic, with a constant or with ACCU2.
@@ -224,22 +224,22 @@ pub enum Op {
 
     Unary(UnaryRow),
 
-    /// `TAK`
+    /// `TAK`, which exchanges ACCU1 and ACCU2.
     Tak,
 
-    /// `PUSH`
+    /// `PUSH`, which copies ACCU1 to ACCU2.
     Push,
 
-    /// `POP`
+    /// `POP`, which copies ACCU2 to ACCU1.
     Pop,
 
-    /// `LAR1` and `LAR2`.
+    /// `LAR1` and `LAR2`, which load an address register.
     LoadAr(Ar, ArLoad),
 
-    /// `TAR1` and `TAR2`.
+    /// `TAR1` and `TAR2`, which store an address register.
     StoreAr(Ar, ArStore),
 
-    /// `CAR`
+    /// `CAR`, which exchanges AR1 and AR2.
     ExchangeAr,
 
     /// `+AR1` and `+AR2`, of an offset, or of the low word of ACCU1 with its sign.
@@ -251,10 +251,10 @@ pub enum Op {
     /// `OPN` of an instance.
     OpenDi(OpenArg),
 
-    /// `CDB`
+    /// `CDB`, which exchanges the DB and the DI register.
     ExchangeDb,
 
-    /// `NOP` and `BLD`.
+    /// `NOP` and `BLD`, which do nothing.
     Nop,
 
     /// The end word of a block.

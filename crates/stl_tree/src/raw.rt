@@ -29,7 +29,7 @@ pub struct Constant {
     pub value: u32,
 }
 
-/// Initial values, so many times.
+/// Initial values, and how many times they come.
 #[derive(Drop)]
 pub struct InitialItem {
     pub count: u32,
@@ -150,7 +150,7 @@ pub enum RawOperand {
     ByRegister(AreaName, Width, Ar, RawPointer),
     Crossing(Width, Ar, RawPointer),
 
-    /// A question to the status word.
+    /// A test of the status word.
     Flag(Test),
 
     /// The status word.
@@ -185,7 +185,7 @@ pub struct RawInstr {
     pub op: RawOp,
 }
 
-/// What a line of the symbol table stands for.
+/// The address in a line of the symbol table.
 #[derive(Clone, Copy, Debug, PartialEq, Eq)]
 pub enum SymbolAddress {
     At(RawPlace),
@@ -211,7 +211,7 @@ pub struct RawInitial {
     pub value: Constant,
 }
 
-/// What a data block holds: declarations of its own, or an instance of a function block.
+/// The contents of a data block: declarations of its own, or an instance of a function block.
 #[derive(Drop)]
 pub enum RawDataKind {
     Own(List<Declaration>),

@@ -6,7 +6,7 @@ pub fn end_stays()
     ensures { EndStays }
 {}
 
-/// A run of n + j steps is a run of n, and then of j from where it stands.
+/// A run of n + j steps is a run of n steps, continued by j steps.
 pub fn steps_add()
     ensures { StepsAdd }
 {}

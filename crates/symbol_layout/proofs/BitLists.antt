@@ -47,10 +47,10 @@ length_filled bits =
     = length-replicate (next_multiple_of (length bits) 16 - length bits) false in
     omega (arith, both, more)
 
-pub ruleset times_lemmas = (times_step, times_none)
+pub ruleset times_laws = (times_step, times_none)
 
-pub ruleset low_lemmas = (low_step, append_assoc)
+pub ruleset low_laws = (low_step, append_assoc)
 
-pub ruleset zero_lemmas = (zero_step, append_assoc)
+pub ruleset zero_laws = (zero_step, append_assoc)
 
-pub ruleset byte_lemmas = (byte_step, append_assoc)
+pub ruleset byte_laws = (byte_step, append_assoc)

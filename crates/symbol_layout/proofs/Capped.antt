@@ -8,9 +8,9 @@ use Rattle.std.proofs.lemmas.Bool.{cases_lt}
 use Rattle.std.proofs.lemmas.Nat.{div-add-mod'}
 use Rattle.stl_rules.proofs.Equations.{extent_equations}
 use Rattle.symbol_layout.proofs.Places.{at_least}
-use Rattle.stl_rules.specs.Extents.{IsLeast, end_behind, filled, place_behind}
-use Rattle.stl_rules.specs.declared.laid.Extent.{Extent}
-use Rattle.symbol_layout.specs.Kept.{IsAlignment, capped, capped_extent}
+use Rattle.stl_rules.specs.Extents.{IsLeast, end_behind, even_extent, place_behind}
+use Rattle.stl_rules.specs.declared.layout.Extent.{Extent}
+use Rattle.symbol_layout.specs.Kept.{IsAlignment, capped_bits, capped_extent}
 
 -- Products and sums
 
@@ -29,14 +29,14 @@ module _ (c : ℕ) where
   one_side a b (inl h) = ap (λ n. min (n * b) c) (min-eq_left (le_of_lt h))
   one_side a b (inr h) = many a b h (eq-zero-or-pos b)
 
-pub capped_product : (a b : ℕ) → capped (capped a * capped b) ≡ capped (a * b)
+pub capped_product : (a b : ℕ) → capped_bits (capped_bits a * capped_bits b) ≡ capped_bits (a * b)
 capped_product a b =
-    one_side (2 ^ 60) a (capped b) (cases_lt a (2 ^ 60))
-    ∙ ap capped (mul_comm a (capped b))
+    one_side (2 ^ 60) a (capped_bits b) (cases_lt a (2 ^ 60))
+    ∙ ap capped_bits (mul_comm a (capped_bits b))
     ∙ one_side (2 ^ 60) b a (cases_lt b (2 ^ 60))
-    ∙ ap capped (mul_comm b a)
+    ∙ ap capped_bits (mul_comm b a)
 
-pub capped_sum : (a b : ℕ) → capped (capped a + capped b) ≡ capped (a + b)
+pub capped_sum : (a b : ℕ) → capped_bits (capped_bits a + capped_bits b) ≡ capped_bits (a + b)
 capped_sum a b = omega arith
 
 -- Places
@@ -60,41 +60,41 @@ place_within most end alignment (inr h) positive whole =
     same ∙ sym (ap (λ n. next_multiple_of n alignment) (min-eq_right h))
 
 pub capped_place : (end alignment : ℕ) → IsAlignment alignment
-    → capped (next_multiple_of end alignment) ≡ next_multiple_of (capped end) alignment
+    → capped_bits (next_multiple_of end alignment) ≡ next_multiple_of (capped_bits end) alignment
 capped_place end alignment is = place_within (2 ^ 60) end alignment (cases_lt end (2 ^ 60)) is.0 is.2
 
 pub capped_end : (end : ℕ) (extent : Extent) → IsAlignment extent.alignment
-    → capped (end_behind (capped end) (capped_extent extent)) ≡ capped (end_behind end extent)
+    → capped_bits (end_behind (capped_bits end) (capped_extent extent)) ≡ capped_bits (end_behind end extent)
 capped_end end extent is =
-    let kept : capped (next_multiple_of end extent.alignment) ≡ next_multiple_of (capped end) extent.alignment
+    let kept : capped_bits (next_multiple_of end extent.alignment) ≡ next_multiple_of (capped_bits end) extent.alignment
     = capped_place end extent.alignment is in
-    ap (λ n. capped (n + capped extent.bits)) (sym kept) ∙ capped_sum (place_behind end extent) extent.bits
+    ap (λ n. capped_bits (n + capped_bits extent.bits)) (sym kept) ∙ capped_sum (place_behind end extent) extent.bits
 
 -- a length that is kept ends at the same kept place
-pub end_of_kept : (end : ℕ) (extent : Extent) → capped (end_behind end (capped_extent extent)) ≡ capped (end_behind end extent)
+pub end_of_kept : (end : ℕ) (extent : Extent) → capped_bits (end_behind end (capped_extent extent)) ≡ capped_bits (end_behind end extent)
 end_of_kept end extent = sum_kept (place_behind end extent) extent.bits
   where
-    sum_kept : (place bits : ℕ) → capped (place + capped bits) ≡ capped (place + bits)
+    sum_kept : (place bits : ℕ) → capped_bits (place + capped_bits bits) ≡ capped_bits (place + bits)
     sum_kept place bits = omega arith
 
 -- a place within the most bits has its place within them
 pub place_low : (end alignment : ℕ) → end ≤ 2 ^ 60 → IsAlignment alignment → next_multiple_of end alignment ≤ 2 ^ 60
 place_low end alignment low is =
-    let kept : capped (next_multiple_of end alignment) ≡ next_multiple_of (capped end) alignment
+    let kept : capped_bits (next_multiple_of end alignment) ≡ next_multiple_of (capped_bits end) alignment
     = capped_place end alignment is in
-    let here : next_multiple_of (capped end) alignment ≡ next_multiple_of end alignment
+    let here : next_multiple_of (capped_bits end) alignment ≡ next_multiple_of end alignment
     = ap (λ n. next_multiple_of n alignment) (min-eq_left low) in
     omega (arith, kept, here)
 
 -- what is filled up, of what is kept
-pub capped_filled : (bits : ℕ) → filled (capped bits) ≡ capped_extent (filled bits)
+pub capped_filled : (bits : ℕ) → even_extent (capped_bits bits) ≡ capped_extent (even_extent bits)
 capped_filled bits = ap (λ n. record { alignment = 16; bits = n }) (sym (capped_place bits 16 (omega arith, omega arith, refl)))
 
-pub ruleset capped_lemmas = (capped_product, capped_sum)
+pub ruleset capped_laws = (capped_product, capped_sum)
 
-pub ruleset extent_lemmas = (capped_product, capped_filled, extent_equations)
+pub ruleset extent_laws = (capped_product, capped_filled, extent_equations)
 
 -- counts of values, item by item
 pub counts : (so_far count length rest : ℕ)
-    → capped (capped (capped so_far + capped (count * length)) + rest) ≡ capped (so_far + (count * length + rest))
+    → capped_bits (capped_bits (capped_bits so_far + capped_bits (count * length)) + rest) ≡ capped_bits (so_far + (count * length + rest))
 counts so_far count length rest = omega arith

@@ -2,13 +2,13 @@
 use Rattle.std.specs.Prelude.{◌≡◌, ℕ, ◌+◌, ◌<◌, ℤ, List, [], ◌∷◌, ◌++◌, length, get_or, drop, take, Result, Ok, Err, OnOk}
 use Rattle.std.proofs.Common.{refl, sym, ap, ◌∙◌, append_assoc}
 use Rattle.std.proofs.lemmas.List.{append-nil, at_drop_more, take_more}
-use Rattle.s7_base.specs.declared.broken.Break.{Break}
+use Rattle.s7_base.specs.declared.rule_break.Break.{Break}
 use Rattle.s7_base.specs.declared.reason.Line.{Line}
 use Rattle.stl_tree.specs.declared.raw.Declaration.{Declaration}
 use Rattle.stl_tree.specs.declared.raw.DeclType.{DeclType}
 use Rattle.stl_tree.specs.declared.raw.DeclType.TheVariants as type
 use Rattle.stl_rules.proofs.Equations.{breaks_array, breaks_declaration, breaks_struct, scope_cons, scope_nil}
-use Rattle.stl_rules.specs.DeclarationRules.{array_breaks, declaration_breaks, is_named, key_of, repeated, scope_breaks, takes, type_breaks, value_breaks, with_name}
+use Rattle.stl_rules.specs.DeclarationRules.{array_breaks, declaration_breaks, is_named, key_of, break_if_repeated, scope_breaks, takes, type_breaks, value_breaks, with_name}
 use Rattle.symbol_layout.specs.inner.Scopes.{names_behind}
 
 -- what holds where a call answers Ok
@@ -44,11 +44,11 @@ noted_declaration before middle after d m a =
 -- one turn of the loop over a scope
 pub noted_next : (all before named after : List Break) (names next : List (List ℕ)) (decls : List Declaration) (i : ℕ) (d : Declaration)
     → i < length decls → d ≡ get_or decls i d → next ≡ with_name (key_of d.name) names
-    → named ≡ before ++ repeated d.line (is_named (key_of d.name) names) → after ≡ named ++ declaration_breaks d
+    → named ≡ before ++ break_if_repeated d.line (is_named (key_of d.name) names) → after ≡ named ++ declaration_breaks d
     → before ++ scope_breaks names (drop i decls) ≡ all → after ++ scope_breaks next (drop (i + 1) decls) ≡ all
 noted_next all before named after names next decls i d h item n m a so_far =
     let rest : List Break = scope_breaks (with_name (key_of d.name) names) (drop (i + 1) decls) in
-    let twice : List Break = repeated d.line (is_named (key_of d.name) names) in
+    let twice : List Break = break_if_repeated d.line (is_named (key_of d.name) names) in
     let opened : scope_breaks names (drop i decls) ≡ twice ++ declaration_breaks d ++ rest
     = at_drop_more (scope_breaks names) decls i d h ∙ ap (λ x. scope_breaks names (x ∷ drop (i + 1) decls)) (sym item)
     ∙ scope_cons names d (drop (i + 1) decls) in

@@ -12,9 +12,9 @@ use Rattle.stl_tree.specs.declared.raw.PathStep.TheVariants as step
 use Rattle.symbol_layout.proofs.Capped.{capped_end, capped_place, capped_product}
 use Rattle.stl_rules.proofs.Equations.{own_type}
 use Rattle.stl_rules.specs.Extents.{end_behind, end_of, extent_of, extent_of_width, extent_step, indices_in, place_behind, width_of}
-use Rattle.stl_rules.specs.Paths.{Placed, elements_before, is_index, named_behind, stepped, stepped_in, walked}
-use Rattle.stl_rules.specs.declared.laid.Extent.{Extent}
-use Rattle.symbol_layout.specs.Kept.{IsAlignment, capped, capped_extent, capped_placed}
+use Rattle.stl_rules.specs.Paths.{Placed, elements_before, is_index, named_behind, after_step, stepped_in, after_path}
+use Rattle.stl_rules.specs.declared.layout.Extent.{Extent}
+use Rattle.symbol_layout.specs.Kept.{IsAlignment, capped_bits, capped_extent, capped_placed}
 
 -- Each type has an alignment
 
@@ -41,84 +41,84 @@ is_aligned ty =
 
 -- Along declarations
 
-pub capped_twice : (n : ℕ) → capped (capped n) ≡ capped n
+pub capped_twice : (n : ℕ) → capped_bits (capped_bits n) ≡ capped_bits n
 capped_twice n = omega arith
 
-place_kept : (n : ℕ) (ty : DeclType) → capped (place_behind (capped n) (extent_of ty)) ≡ capped (place_behind n (extent_of ty))
+place_kept : (n : ℕ) (ty : DeclType) → capped_bits (place_behind (capped_bits n) (extent_of ty)) ≡ capped_bits (place_behind n (extent_of ty))
 place_kept n ty =
-    ap capped (sym (capped_place n (extent_of ty).alignment (is_aligned ty))) ∙ capped_twice (place_behind n (extent_of ty))
+    ap capped_bits (sym (capped_place n (extent_of ty).alignment (is_aligned ty))) ∙ capped_twice (place_behind n (extent_of ty))
 
-pub end_kept : (n : ℕ) (ty : DeclType) → capped (end_behind (capped n) (extent_of ty)) ≡ capped (end_behind n (extent_of ty))
+pub end_kept : (n : ℕ) (ty : DeclType) → capped_bits (end_behind (capped_bits n) (extent_of ty)) ≡ capped_bits (end_behind n (extent_of ty))
 end_kept n ty =
-    sym (capped_end (capped n) (extent_of ty) (is_aligned ty))
-    ∙ ap (λ k. capped (end_behind k (capped_extent (extent_of ty)))) (capped_twice n)
+    sym (capped_end (capped_bits n) (extent_of ty) (is_aligned ty))
+    ∙ ap (λ k. capped_bits (end_behind k (capped_extent (extent_of ty)))) (capped_twice n)
     ∙ capped_end n (extent_of ty) (is_aligned ty)
 
 pub kept_named : (decls : List Declaration) (name : List ℕ) (n : ℕ)
-    → capped_placed (named_behind (capped n) decls name) ≡ capped_placed (named_behind n decls name)
+    → capped_placed (named_behind (capped_bits n) decls name) ≡ capped_placed (named_behind n decls name)
 kept_named [] name n = refl
 kept_named (d ∷ decls) name n =
     either (is_same_word d.name name)
-    (sym (kept_named decls name (end_of (capped n) d))
+    (sym (kept_named decls name (end_of (capped_bits n) d))
     ∙ ap (λ k. capped_placed (named_behind k decls name)) (end_kept n d.ty)
     ∙ kept_named decls name (end_of n d))
   where
     either : (b : Bool)
-        → capped_placed (named_behind (end_of (capped n) d) decls name) ≡ capped_placed (named_behind (end_of n d) decls name)
-        → capped_placed (cond b (Some (place_behind (capped n) (extent_of d.ty), d.ty)) (named_behind (end_of (capped n) d) decls name))
+        → capped_placed (named_behind (end_of (capped_bits n) d) decls name) ≡ capped_placed (named_behind (end_of n d) decls name)
+        → capped_placed (cond b (Some (place_behind (capped_bits n) (extent_of d.ty), d.ty)) (named_behind (end_of (capped_bits n) d) decls name))
         ≡ capped_placed (cond b (Some (place_behind n (extent_of d.ty), d.ty)) (named_behind (end_of n d) decls name))
     either true more = ap (λ k. Some (k, d.ty)) (place_kept n d.ty)
     either false more = more
 
 -- Along indices
 
-pub rows_kept : (rows count inner : ℕ) → capped (capped (rows * capped count) + inner) ≡ capped (rows * count + inner)
+pub rows_kept : (rows count inner : ℕ) → capped_bits (capped_bits (rows * capped_bits count) + inner) ≡ capped_bits (rows * count + inner)
 rows_kept rows count inner =
-    let twice : capped (rows * capped count) ≡ capped (rows * count)
-    = sym (capped_product rows (capped count)) ∙ ap (λ k. capped (capped rows * k)) (capped_twice count) ∙ capped_product rows count in
+    let twice : capped_bits (rows * capped_bits count) ≡ capped_bits (rows * count)
+    = sym (capped_product rows (capped_bits count)) ∙ ap (λ k. capped_bits (capped_bits rows * k)) (capped_twice count) ∙ capped_product rows count in
     omega (arith, twice)
 
-one_row : (rows count inner : ℕ) → capped (capped rows * count + inner) ≡ capped (rows * count + inner)
+one_row : (rows count inner : ℕ) → capped_bits (capped_bits rows * count + inner) ≡ capped_bits (rows * count + inner)
 one_row rows count inner =
-    let twice : capped (capped rows * count) ≡ capped (rows * count)
-    = sym (capped_product (capped rows) count) ∙ ap (λ k. capped (k * capped count)) (capped_twice rows) ∙ capped_product rows count in
+    let twice : capped_bits (capped_bits rows * count) ≡ capped_bits (rows * count)
+    = sym (capped_product (capped_bits rows) count) ∙ ap (λ k. capped_bits (k * capped_bits count)) (capped_twice rows) ∙ capped_product rows count in
     omega (arith, twice)
 
 pub kept_elements : (bounds : List (ℤ × ℤ)) (indices : List ℤ) (rows : ℕ)
-    → option_map capped (elements_before (capped rows) bounds indices) ≡ option_map capped (elements_before rows bounds indices)
+    → option_map capped_bits (elements_before (capped_bits rows) bounds indices) ≡ option_map capped_bits (elements_before rows bounds indices)
 kept_elements [] [] rows = ap Some (capped_twice rows)
 kept_elements [] (i ∷ is) rows = refl
 kept_elements (b ∷ more) [] rows = refl
 kept_elements (b ∷ more) (i ∷ is) rows =
     either (is_index b i)
-    (sym (kept_elements more is (capped rows * indices_in b + unsigned_abs (i -ℤ b.0)))
-    ∙ ap (λ k. option_map capped (elements_before k more is)) (one_row rows (indices_in b) (unsigned_abs (i -ℤ b.0)))
+    (sym (kept_elements more is (capped_bits rows * indices_in b + unsigned_abs (i -ℤ b.0)))
+    ∙ ap (λ k. option_map capped_bits (elements_before k more is)) (one_row rows (indices_in b) (unsigned_abs (i -ℤ b.0)))
     ∙ kept_elements more is (rows * indices_in b + unsigned_abs (i -ℤ b.0)))
   where
     either : (t : Bool)
-        → option_map capped (elements_before (capped rows * indices_in b + unsigned_abs (i -ℤ b.0)) more is)
-        ≡ option_map capped (elements_before (rows * indices_in b + unsigned_abs (i -ℤ b.0)) more is)
-        → option_map capped (cond t (elements_before (capped rows * indices_in b + unsigned_abs (i -ℤ b.0)) more is) None)
-        ≡ option_map capped (cond t (elements_before (rows * indices_in b + unsigned_abs (i -ℤ b.0)) more is) None)
+        → option_map capped_bits (elements_before (capped_bits rows * indices_in b + unsigned_abs (i -ℤ b.0)) more is)
+        ≡ option_map capped_bits (elements_before (rows * indices_in b + unsigned_abs (i -ℤ b.0)) more is)
+        → option_map capped_bits (cond t (elements_before (capped_bits rows * indices_in b + unsigned_abs (i -ℤ b.0)) more is) None)
+        ≡ option_map capped_bits (cond t (elements_before (rows * indices_in b + unsigned_abs (i -ℤ b.0)) more is) None)
     either true e = e
     either false e = refl
 
 -- Along paths
 
-pub kept_element : (place before bits : ℕ) → capped (place + capped (capped before * capped bits)) ≡ capped (place + before * bits)
+pub kept_element : (place before bits : ℕ) → capped_bits (place + capped_bits (capped_bits before * capped_bits bits)) ≡ capped_bits (place + before * bits)
 kept_element place before bits =
-    let product : capped (capped before * capped bits) ≡ capped (before * bits) = capped_product before bits in
+    let product : capped_bits (capped_bits before * capped_bits bits) ≡ capped_bits (before * bits) = capped_product before bits in
     omega (arith, product)
 
 element_kept : (place bits : ℕ) (e : DeclType) (before : Option ℕ)
-    → capped_placed (option_map (λ k. (capped place + k * bits, e)) before) ≡ capped_placed (option_map (λ k. (place + k * bits, e)) before)
+    → capped_placed (option_map (λ k. (capped_bits place + k * bits, e)) before) ≡ capped_placed (option_map (λ k. (place + k * bits, e)) before)
 element_kept place bits e None = refl
 element_kept place bits e (Some k) =
-    let same : capped (capped place + k * bits) ≡ capped (place + k * bits) = omega arith in
+    let same : capped_bits (capped_bits place + k * bits) ≡ capped_bits (place + k * bits) = omega arith in
     ap (λ n. Some (n, e)) same
 
 stepped_kept : (n : ℕ) (y : T.DeclType-F DeclType Declaration) (s : PathStep)
-    → capped_placed (stepped_in (capped n) y s) ≡ capped_placed (stepped_in n y s)
+    → capped_placed (stepped_in (capped_bits n) y s) ≡ capped_placed (stepped_in n y s)
 stepped_kept n (T.Elementary e) s = refl
 stepped_kept n T.DateAndTime s = refl
 stepped_kept n (T.Array bounds e) (step.Name name) = refl
@@ -127,18 +127,18 @@ stepped_kept n (T.Struct parts) (step.Name name) = kept_named parts name n
 stepped_kept n (T.Struct parts) (step.Index indices) = refl
 
 pub kept_walked : (path : List PathStep) (n : ℕ) (ty : DeclType)
-    → capped_placed (walked path (capped n, ty)) ≡ capped_placed (walked path (n, ty))
+    → capped_placed (after_path path (capped_bits n, ty)) ≡ capped_placed (after_path path (n, ty))
 kept_walked [] n ty = ap (λ k. Some (k, ty)) (capped_twice n)
 kept_walked (s ∷ path) n ty =
-    further (λ k t. kept_walked path k t) (stepped (capped n) ty s) (stepped n ty s) (stepped_kept n (out-DeclType ty) s)
+    further (λ k t. kept_walked path k t) (after_step (capped_bits n) ty s) (after_step n ty s) (stepped_kept n (out-DeclType ty) s)
   where
-    further : ((k : ℕ) (t : DeclType) → capped_placed (walked path (capped k, t)) ≡ capped_placed (walked path (k, t)))
+    further : ((k : ℕ) (t : DeclType) → capped_placed (after_path path (capped_bits k, t)) ≡ capped_placed (after_path path (k, t)))
         → (a b : Option Placed) → capped_placed a ≡ capped_placed b
-        → capped_placed (option_and_then (walked path) a) ≡ capped_placed (option_and_then (walked path) b)
+        → capped_placed (option_and_then (after_path path) a) ≡ capped_placed (option_and_then (after_path path) b)
     further more None None e = refl
     further more None (Some b) e = cc
     further more (Some a) None e = cc
     further more (Some a) (Some b) e =
         sym (more a.0 a.1)
-        ∙ ap (λ (o : Option Placed). capped_placed (option_and_then (walked path) o)) e
+        ∙ ap (λ (o : Option Placed). capped_placed (option_and_then (after_path path) o)) e
         ∙ more b.0 b.1

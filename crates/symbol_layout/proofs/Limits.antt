@@ -15,7 +15,7 @@ use Rattle.symbol_layout.proofs.Places.{at_least}
 use Rattle.stl_rules.specs.Extents.{IsLeast, end_behind, end_of, end_of_sections, extent_of, place_behind}
 use Rattle.stl_rules.specs.Layouts.{length_of}
 use Rattle.stl_rules.specs.TooLarge.{first_large, inside, length_to, passes}
-use Rattle.symbol_layout.specs.Kept.{IsAlignment, capped, capped_extent}
+use Rattle.symbol_layout.specs.Kept.{IsAlignment, capped_bits, capped_extent}
 use Rattle.symbol_layout.specs.inner.Capped.{end_within}
 
 -- what passes every limit
@@ -26,19 +26,19 @@ far limit n small h =
     grind (arith, small, h, behind)
 
 judged : (limit n : ℕ) → limit < 2 ^ 32 → (n < 2 ^ 60) ⊎ (2 ^ 60 ≤ n)
-    → (if passes limit (capped n) then None else Some (capped n)) ≡ (if passes limit n then None else Some n)
+    → (if passes limit (capped_bits n) then None else Some (capped_bits n)) ≡ (if passes limit n then None else Some n)
 judged limit n small (inl h) = ap (λ m. if passes limit m then None else Some m) (min-eq_left (le_of_lt h))
 judged limit n small (inr h) =
-    ap (λ b. cond b None (Some (capped n))) (far limit (capped n) small (omega (arith, h)))
+    ap (λ b. cond b None (Some (capped_bits n))) (far limit (capped_bits n) small (omega (arith, h)))
     ∙ sym (ap (λ b. cond b None (Some n)) (far limit n small h))
 
 pub within : (limit end : ℕ) (d : Declaration) → limit < 2 ^ 32 → end ≤ 2 ^ 60 → IsAlignment (extent_of d.ty).alignment
-    → (if passes limit (capped (end_behind end (capped_extent (extent_of d.ty))))
-    then None else Some (capped (end_behind end (capped_extent (extent_of d.ty)))))
+    → (if passes limit (capped_bits (end_behind end (capped_extent (extent_of d.ty))))
+    then None else Some (capped_bits (end_behind end (capped_extent (extent_of d.ty)))))
     ≡ end_within limit end d
 within limit end d small low is =
-    let kept : capped (end_behind end (capped_extent (extent_of d.ty))) ≡ capped (end_of end d)
-    = ap (λ n. capped (end_behind n (capped_extent (extent_of d.ty)))) (sym (min-eq_left low)) ∙ capped_end end (extent_of d.ty) is in
+    let kept : capped_bits (end_behind end (capped_extent (extent_of d.ty))) ≡ capped_bits (end_of end d)
+    = ap (λ n. capped_bits (end_behind n (capped_extent (extent_of d.ty)))) (sym (min-eq_left low)) ∙ capped_end end (extent_of d.ty) is in
     ap (λ n. if passes limit n then None else Some n) kept ∙ judged limit (end_of end d) small (cases_lt (end_of end d) (2 ^ 60))
 
 pub first_cons : (limit end : ℕ) (d : Declaration) (decls : List Declaration)
@@ -96,14 +96,14 @@ none_left limit start end i decls nothing so_far = sym (ap (first_large limit en
 
 -- Lengths
 
-pub capped_length : (sections : List (List Declaration)) → next_multiple_of (capped (end_of_sections 0 sections)) 16 / 8 < 2 ^ 32
-    → next_multiple_of (capped (end_of_sections 0 sections)) 16 / 8 ≡ length_of sections
+pub capped_length : (sections : List (List Declaration)) → next_multiple_of (capped_bits (end_of_sections 0 sections)) 16 / 8 < 2 ^ 32
+    → next_multiple_of (capped_bits (end_of_sections 0 sections)) 16 / 8 ≡ length_of sections
 capped_length sections low = exact (end_of_sections 0 sections) (cases_lt (end_of_sections 0 sections) (2 ^ 60)) low
   where
-    exact : (n : ℕ) → (n < 2 ^ 60) ⊎ (2 ^ 60 ≤ n) → next_multiple_of (capped n) 16 / 8 < 2 ^ 32
-        → next_multiple_of (capped n) 16 / 8 ≡ length_to n
+    exact : (n : ℕ) → (n < 2 ^ 60) ⊎ (2 ^ 60 ≤ n) → next_multiple_of (capped_bits n) 16 / 8 < 2 ^ 32
+        → next_multiple_of (capped_bits n) 16 / 8 ≡ length_to n
     exact n (inl h) l = ap length_to (min-eq_left (le_of_lt h))
     exact n (inr h) l =
-        let top : capped n ≡ 2 ^ 60 = min-eq_right h in
+        let top : capped_bits n ≡ 2 ^ 60 = min-eq_right h in
         let whole : next_multiple_of (2 ^ 60) 16 / 8 < 2 ^ 32 = subst (λ k. next_multiple_of k 16 / 8 < 2 ^ 32) top l in
         omega (arith, whole)

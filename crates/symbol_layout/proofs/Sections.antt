@@ -6,54 +6,55 @@ use Rattle.std.specs.Option.{option_or}
 use Rattle.std.proofs.Common.{refl, sym, ap, ◌∙◌, arith, append_assoc}
 use Rattle.std.proofs.Math.Nat.{min-eq_left}
 use Rattle.std.proofs.lemmas.List.{at_drop_more}
-use Rattle.s7_base.specs.declared.broken.Break.{Break}
+use Rattle.s7_base.specs.declared.rule_break.Break.{Break}
 use Rattle.s7_base.specs.declared.reason.Line.{Line}
 use Rattle.stl_tree.specs.declared.raw.Declaration.{Declaration}
 use Rattle.stl_rules.proofs.Equations.{scope_cons, scope_nil}
 use Rattle.stl_rules.specs.Contents.{bits_behind, bits_of_sections, filled_to}
-use Rattle.stl_rules.specs.DeclarationRules.{declaration_breaks, is_named, key_of, repeated, scope_breaks, with_name}
+use Rattle.stl_rules.specs.DeclarationRules.{declaration_breaks, is_named, key_of, break_if_repeated, scope_breaks, with_name}
 use Rattle.stl_rules.specs.Extents.{end_of, end_of_all, end_of_sections, extent_of, place_behind, section_behind}
 use Rattle.stl_rules.specs.Paths.{Placed, named_behind, named_in}
 use Rattle.stl_rules.specs.TooLarge.{first_large, first_large_in, inside, passes}
 use Rattle.symbol_layout.proofs.Capped.{capped_place}
 use Rattle.symbol_layout.proofs.Kept.{capped_twice, end_kept, kept_named}
 use Rattle.symbol_layout.proofs.Limits.{first_cons}
-use Rattle.symbol_layout.specs.Kept.{borrowed, capped, capped_placed}
+use Rattle.symbol_layout.specs.Kept.{sections_now, capped_bits, capped_placed}
 use Rattle.symbol_layout.specs.inner.Scopes.{names_behind}
 
 -- Ends
 
-all_kept : (decls : List Declaration) (n : ℕ) → capped (end_of_all (capped n) decls) ≡ capped (end_of_all n decls)
+all_kept : (decls : List Declaration) (n : ℕ) → capped_bits (end_of_all (capped_bits n) decls) ≡ capped_bits (end_of_all n decls)
 all_kept [] n = capped_twice n
 all_kept (d ∷ decls) n =
-    sym (all_kept decls (end_of (capped n) d))
-    ∙ ap (λ k. capped (end_of_all k decls)) (end_kept n d.ty)
+    sym (all_kept decls (end_of (capped_bits n) d))
+    ∙ ap (λ k. capped_bits (end_of_all k decls)) (end_kept n d.ty)
     ∙ all_kept decls (end_of n d)
 
-pub section_kept : (n : ℕ) → capped (section_behind n) ≡ section_behind (capped n)
+pub section_kept : (n : ℕ) → capped_bits (section_behind n) ≡ section_behind (capped_bits n)
 section_kept n = capped_place n 16 (omega arith, omega arith, refl)
 
 pub section_end : (n : ℕ) (section : List Declaration)
-    → capped (end_of_all (section_behind (capped n)) section) ≡ capped (end_of_all (section_behind n) section)
-section_end n section = ap (λ k. capped (end_of_all k section)) (sym (section_kept n)) ∙ all_kept section (section_behind n)
+    → capped_bits (end_of_all (section_behind (capped_bits n)) section) ≡ capped_bits (end_of_all (section_behind n) section)
+section_end n section = ap (λ k. capped_bits (end_of_all k section)) (sym (section_kept n)) ∙ all_kept section (section_behind n)
 
-pub sections_kept : (sections : List (List Declaration)) (n : ℕ) → capped (end_of_sections (capped n) sections) ≡ capped (end_of_sections n sections)
+pub sections_kept : (sections : List (List Declaration)) (n : ℕ)
+    → capped_bits (end_of_sections (capped_bits n) sections) ≡ capped_bits (end_of_sections n sections)
 sections_kept [] n = capped_twice n
 sections_kept (s ∷ sections) n =
-    sym (sections_kept sections (end_of_all (section_behind (capped n)) s))
-    ∙ ap (λ k. capped (end_of_sections k sections)) (section_end n s)
+    sym (sections_kept sections (end_of_all (section_behind (capped_bits n)) s))
+    ∙ ap (λ k. capped_bits (end_of_sections k sections)) (section_end n s)
     ∙ sections_kept sections (end_of_all (section_behind n) s)
 
 -- Names
 
 pub named_kept : (sections : List (List Declaration)) (name : List ℕ) (n : ℕ)
-    → capped_placed (named_in (capped n) sections name) ≡ capped_placed (named_in n sections name)
+    → capped_placed (named_in (capped_bits n) sections name) ≡ capped_placed (named_in n sections name)
 named_kept [] name n = refl
 named_kept (s ∷ sections) name n =
-    either (named_behind (section_behind (capped n)) s name) (named_behind (section_behind n) s name)
+    either (named_behind (section_behind (capped_bits n)) s name) (named_behind (section_behind n) s name)
     (ap (λ k. capped_placed (named_behind k s name)) (sym (section_kept n)) ∙ kept_named s name (section_behind n))
-    (named_in (end_of_all (section_behind (capped n)) s) sections name) (named_in (end_of_all (section_behind n) s) sections name)
-    (sym (named_kept sections name (end_of_all (section_behind (capped n)) s))
+    (named_in (end_of_all (section_behind (capped_bits n)) s) sections name) (named_in (end_of_all (section_behind n) s) sections name)
+    (sym (named_kept sections name (end_of_all (section_behind (capped_bits n)) s))
     ∙ ap (λ k. capped_placed (named_in k sections name)) (section_end n s)
     ∙ named_kept sections name (end_of_all (section_behind n) s))
   where
@@ -92,7 +93,7 @@ scope_append : (names : List (List ℕ)) (a b : List Declaration)
 scope_append names [] b = ap (λ bs. bs ++ scope_breaks names b) (sym (scope_nil names))
 scope_append names (d ∷ a) b =
     let next = with_name (key_of d.name) names in
-    let twice = repeated d.line (is_named (key_of d.name) names) in
+    let twice = break_if_repeated d.line (is_named (key_of d.name) names) in
     scope_cons names d (a ++ b)
     ∙ ap (λ bs. twice ++ declaration_breaks d ++ bs) (scope_append next a b)
     ∙ sym (append_assoc (twice ++ declaration_breaks d) (scope_breaks next a) (scope_breaks (names_behind next a) b))
@@ -106,24 +107,24 @@ flat sections = flat_map (λ section. section) sections
 module _ (sections : List (Bor (List Declaration))) (i : ℕ) (s : Bor (List Declaration)) (before : i < length sections)
     (item : s ≡ get_or sections i s) where
   abbrev rest : List (List Declaration)
-  rest = borrowed (drop (i + 1) sections)
+  rest = sections_now (drop (i + 1) sections)
 
-  opened : {X : Type 0} (f : List (List Declaration) → X) → f (borrowed (drop i sections)) ≡ f (s.now ∷ rest)
+  opened : {X : Type 0} (f : List (List Declaration) → X) → f (sections_now (drop i sections)) ≡ f (s.now ∷ rest)
   opened f =
-      at_drop_more (λ (ss : List (Bor (List Declaration))). f (borrowed ss)) sections i s before
+      at_drop_more (λ (ss : List (Bor (List Declaration))). f (sections_now ss)) sections i s before
       ∙ ap (λ (x : Bor (List Declaration)). f (x.now ∷ rest)) (sym item)
 
-  pub end_turn : (end next all : ℕ) → next ≡ capped (end_of_all (section_behind end) s.now)
-      → capped (end_of_sections end (borrowed (drop i sections))) ≡ all → capped (end_of_sections next rest) ≡ all
+  pub end_turn : (end next all : ℕ) → next ≡ capped_bits (end_of_all (section_behind end) s.now)
+      → capped_bits (end_of_sections end (sections_now (drop i sections))) ≡ all → capped_bits (end_of_sections next rest) ≡ all
   end_turn end next all e so_far =
-      ap (λ k. capped (end_of_sections k rest)) e
+      ap (λ k. capped_bits (end_of_sections k rest)) e
       ∙ sections_kept rest (end_of_all (section_behind end) s.now)
-      ∙ sym (opened (λ ss. capped (end_of_sections end ss)))
+      ∙ sym (opened (λ ss. capped_bits (end_of_sections end ss)))
       ∙ so_far
 
   pub judge_turn : (all before after : List Break) (names next : List (List ℕ)) → next ≡ names_behind names s.now
       → after ≡ before ++ scope_breaks names s.now
-      → before ++ scope_breaks names (flat (borrowed (drop i sections))) ≡ all → after ++ scope_breaks next (flat rest) ≡ all
+      → before ++ scope_breaks names (flat (sections_now (drop i sections))) ≡ all → after ++ scope_breaks next (flat rest) ≡ all
   judge_turn all before after names next n a so_far =
       ap (λ bs. bs ++ scope_breaks next (flat rest)) a
       ∙ ap (λ ns. (before ++ scope_breaks names s.now) ++ scope_breaks ns (flat rest)) n
@@ -132,14 +133,14 @@ module _ (sections : List (Bor (List Declaration))) (i : ℕ) (s : Bor (List Dec
       ∙ so_far
 
   pub bits_turn : (all bits filled next : List Bool) → filled ≡ filled_to 16 bits → next ≡ bits_behind filled s.now
-      → bits_of_sections bits (borrowed (drop i sections)) ≡ all → bits_of_sections next rest ≡ all
+      → bits_of_sections bits (sections_now (drop i sections)) ≡ all → bits_of_sections next rest ≡ all
   bits_turn all bits filled next f n so_far =
       ap (λ bs. bits_of_sections bs rest) (n ∙ ap (λ bs. bits_behind bs s.now) f)
       ∙ sym (opened (λ ss. bits_of_sections bits ss))
       ∙ so_far
 
   module _ (limit : ℕ) (small : limit < 2 ^ 32) (end start : ℕ) (at : start ≡ section_behind end) (all : Option Line)
-      (so_far : first_large_in limit end (borrowed (drop i sections)) ≡ all) where
+      (so_far : first_large_in limit end (sections_now (drop i sections)) ≡ all) where
     large_opened : all ≡ option_or (first_large limit start s.now) (first_large_in limit (end_of_all start s.now) rest)
     large_opened =
         sym so_far ∙ opened (first_large_in limit end)
@@ -148,7 +149,7 @@ module _ (sections : List (Bor (List Declaration))) (i : ℕ) (s : Bor (List Dec
     pub large_here : (line : Line) → first_large limit start s.now ≡ Some line → Some line ≡ all
     large_here line e = sym (large_opened ∙ ap (λ o. option_or o (first_large_in limit (end_of_all start s.now) rest)) e)
 
-    pub large_turn : (next : ℕ) → start ≤ 2 ^ 60 → first_large limit start s.now ≡ None → next ≡ capped (end_of_all start s.now)
+    pub large_turn : (next : ℕ) → start ≤ 2 ^ 60 → first_large limit start s.now ≡ None → next ≡ capped_bits (end_of_all start s.now)
         → first_large_in limit next rest ≡ all
     large_turn next low e n =
         ap (λ k. first_large_in limit k rest) (n ∙ min-eq_left (ends_low limit small s.now start low e))
@@ -173,7 +174,7 @@ module _ (sections : List (List Declaration)) (i : ℕ) (s : List Declaration) (
       here None e = absurd cc
       here (Some x) e = e
 
-  pub named_turn : (next : ℕ) → None ≡ capped_placed (named_behind start s name) → next ≡ capped (end_of_all start s)
+  pub named_turn : (next : ℕ) → None ≡ capped_placed (named_behind start s name) → next ≡ capped_bits (end_of_all start s)
       → capped_placed (named_in next (drop (i + 1) sections) name) ≡ all
   named_turn next e n =
       ap (λ k. capped_placed (named_in k (drop (i + 1) sections) name)) n

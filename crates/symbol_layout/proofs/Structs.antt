@@ -42,4 +42,4 @@ pub array_bits : (bits : ℕ) (ty : DeclType) (bounds : List (ℤ × ℤ)) (e in
 array_bits bits ty bounds e inside is same h =
     subst (AreBits bits) (ap struct_in is ∙ inner_array bounds e ∙ ap struct_in (sym same)) h
 
-pub ruleset extent_lemmas = (capped_product, capped_filled, extent_equations, inner_equations)
+pub ruleset extent_laws = (capped_product, capped_filled, extent_equations, inner_equations)

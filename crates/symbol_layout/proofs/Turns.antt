@@ -9,10 +9,10 @@ use Rattle.stl_tree.specs.declared.raw.PathStep.{PathStep}
 use Rattle.stl_tree.specs.declared.raw.PathStep.TheVariants as step
 use Rattle.symbol_layout.proofs.Kept.{kept_elements, kept_named, kept_walked}
 use Rattle.stl_rules.specs.Extents.{end_behind, end_of, extent_of, indices_in, place_behind}
-use Rattle.stl_rules.specs.Paths.{Placed, component_at, component_in, elements_before, is_index, named_behind, named_in, stepped, walked}
+use Rattle.stl_rules.specs.Paths.{Placed, component_at, component_in, elements_before, is_index, named_behind, named_in, after_step, after_path}
 use Rattle.stl_rules.specs.DeclarationRules.{elementary}
-use Rattle.stl_rules.specs.declared.laid.Component.{Component}
-use Rattle.symbol_layout.specs.Kept.{capped, capped_placed}
+use Rattle.stl_rules.specs.declared.layout.Component.{Component}
+use Rattle.symbol_layout.specs.Kept.{capped_bits, capped_placed}
 use Rattle.symbol_layout.specs.inner.Capped.{next_row}
 
 -- Names
@@ -28,7 +28,7 @@ module _ (start end i : ℕ) (decls : List Declaration) (name : List ℕ) (d : D
       sym so_far ∙ at_drop_more (λ (ds : List Declaration). capped_placed (named_behind end ds name)) decls i d before
       ∙ ap (λ x. capped_placed (named_behind end (x ∷ drop (i + 1) decls) name)) (sym item)
 
-  pub goes_past : (next : ℕ) → next ≡ capped (end_behind end (extent_of d.ty)) → is_same_word d.name name ≡ false
+  pub goes_past : (next : ℕ) → next ≡ capped_bits (end_behind end (extent_of d.ty)) → is_same_word d.name name ≡ false
       → capped_placed (named_behind next (drop (i + 1) decls) name) ≡ capped_placed (named_behind start decls name)
   goes_past next is other =
       ap (λ k. capped_placed (named_behind k (drop (i + 1) decls) name)) is
@@ -41,12 +41,12 @@ module _ (more : List (ℤ × ℤ)) (is : List ℤ) where
   abbrev behind : ℕ → Option ℕ
   behind k = elements_before k more is
 
-  pub row_found : (row : Option ℕ) (n : ℕ) → Some n ≡ option_map capped row
-      → (n ≤ 2 ^ 60) × (option_map capped (behind n) ≡ option_map capped (option_and_then behind row))
+  pub row_found : (row : Option ℕ) (n : ℕ) → Some n ≡ option_map capped_bits row
+      → (n ≤ 2 ^ 60) × (option_map capped_bits (behind n) ≡ option_map capped_bits (option_and_then behind row))
   row_found None n e = cc
   row_found (Some k) n e =
-      let same : n ≡ capped k = cc in
-      (omega (arith, same), ap (λ m. option_map capped (behind m)) same ∙ kept_elements more is k)
+      let same : n ≡ capped_bits k = cc in
+      (omega (arith, same), ap (λ m. option_map capped_bits (behind m)) same ∙ kept_elements more is k)
 
 row_opened : (rows : ℕ) (b : ℤ × ℤ) (more : List (ℤ × ℤ)) (rest : List ℤ)
     → elements_before rows (b ∷ more) rest ≡ option_and_then (behind more (drop 1 rest)) (next_row rows b rest)
@@ -59,14 +59,14 @@ row_opened rows b more (i ∷ is) = either (is_index b i)
     either false = refl
 
 module _ (rows i : ℕ) (bounds : List (ℤ × ℤ)) (d : ℤ × ℤ) (rest : List ℤ) (before : i < length bounds) (all : Option ℕ)
-    (so_far : option_map capped (elements_before rows (drop i bounds) rest) ≡ all) where
-  opened : all ≡ option_map capped (option_and_then (behind (drop (i + 1) bounds) (drop 1 rest)) (next_row rows (get_or bounds i d) rest))
+    (so_far : option_map capped_bits (elements_before rows (drop i bounds) rest) ≡ all) where
+  opened : all ≡ option_map capped_bits (option_and_then (behind (drop (i + 1) bounds) (drop 1 rest)) (next_row rows (get_or bounds i d) rest))
   opened =
-      sym so_far ∙ at_drop_more (λ (bs : List (ℤ × ℤ)). option_map capped (elements_before rows bs rest)) bounds i d before
-      ∙ ap (option_map capped) (row_opened rows (get_or bounds i d) (drop (i + 1) bounds) rest)
+      sym so_far ∙ at_drop_more (λ (bs : List (ℤ × ℤ)). option_map capped_bits (elements_before rows bs rest)) bounds i d before
+      ∙ ap (option_map capped_bits) (row_opened rows (get_or bounds i d) (drop (i + 1) bounds) rest)
 
-  pub further : (n : ℕ) → Some n ≡ option_map capped (next_row rows (get_or bounds i d) rest)
-      → (n ≤ 2 ^ 60) × (option_map capped (elements_before n (drop (i + 1) bounds) (drop 1 rest)) ≡ all)
+  pub further : (n : ℕ) → Some n ≡ option_map capped_bits (next_row rows (get_or bounds i d) rest)
+      → (n ≤ 2 ^ 60) × (option_map capped_bits (elements_before n (drop (i + 1) bounds) (drop 1 rest)) ≡ all)
   further n e =
       let found = row_found (drop (i + 1) bounds) (drop 1 rest) (next_row rows (get_or bounds i d) rest) n e in
       (found.0, found.1 ∙ sym opened)
@@ -74,25 +74,25 @@ module _ (rows i : ℕ) (bounds : List (ℤ × ℤ)) (d : ℤ × ℤ) (rest : Li
 -- Paths
 
 pub walks_on : (path : List PathStep) (found : Option Placed) (at : Placed) → Some at ≡ capped_placed found
-    → capped_placed (walked path at) ≡ capped_placed (option_and_then (walked path) found)
+    → capped_placed (after_path path at) ≡ capped_placed (option_and_then (after_path path) found)
 walks_on path None at e = cc
 walks_on path (Some b) at e =
-    ap (λ (o : Option Placed). capped_placed (option_and_then (walked path) o)) e ∙ kept_walked path b.0 b.1
+    ap (λ (o : Option Placed). capped_placed (option_and_then (after_path path) o)) e ∙ kept_walked path b.0 b.1
 
 module _ (path : List PathStep) (i : ℕ) (s : PathStep) (at : Placed) (before : i < length path) (item : s ≡ get_or path i s)
-    (all : Option Placed) (so_far : capped_placed (walked (drop i path) at) ≡ all) where
-  step_opened : all ≡ capped_placed (option_and_then (walked (drop (i + 1) path)) (stepped at.0 at.1 s))
+    (all : Option Placed) (so_far : capped_placed (after_path (drop i path) at) ≡ all) where
+  step_opened : all ≡ capped_placed (option_and_then (after_path (drop (i + 1) path)) (after_step at.0 at.1 s))
   step_opened =
-      sym so_far ∙ at_drop_more (λ (p : List PathStep). capped_placed (walked p at)) path i s before
-      ∙ ap (λ x. capped_placed (walked (x ∷ drop (i + 1) path) at)) (sym item)
+      sym so_far ∙ at_drop_more (λ (p : List PathStep). capped_placed (after_path p at)) path i s before
+      ∙ ap (λ x. capped_placed (after_path (x ∷ drop (i + 1) path) at)) (sym item)
 
-  pub one_step : (next : Placed) → Some next ≡ capped_placed (stepped at.0 at.1 s) → capped_placed (walked (drop (i + 1) path) next) ≡ all
-  one_step next e = walks_on (drop (i + 1) path) (stepped at.0 at.1 s) next e ∙ sym step_opened
+  pub one_step : (next : Placed) → Some next ≡ capped_placed (after_step at.0 at.1 s) → capped_placed (after_path (drop (i + 1) path) next) ≡ all
+  one_step next e = walks_on (drop (i + 1) path) (after_step at.0 at.1 s) next e ∙ sym step_opened
 
 pub kept_low : (found : Option Placed) (at : Placed) → Some at ≡ capped_placed found → at.0 ≤ 2 ^ 60
 kept_low None at e = cc
 kept_low (Some b) at e =
-    let same : at.0 ≡ capped b.0 = ap (λ (o : Option Placed). place_of o) e in
+    let same : at.0 ≡ capped_bits b.0 = ap (λ (o : Option Placed). place_of o) e in
     omega (arith, same)
   where
     place_of : Option Placed → ℕ
@@ -107,7 +107,7 @@ made place ty = record { byte = place / 8; bit = place % 8; kind = elementary ty
 component_kept : (a b : Option Placed) → a ≡ capped_placed b → option_map component_at a ≡ option_map component_at b
 component_kept a None e = ap (option_map component_at) e
 component_kept a (Some b) e =
-    let same : min (capped b.0) (2 ^ 35 - 1) ≡ min b.0 (2 ^ 35 - 1) = omega arith in
+    let same : min (capped_bits b.0) (2 ^ 35 - 1) ≡ min b.0 (2 ^ 35 - 1) = omega arith in
     ap (option_map component_at) e ∙ ap (λ place. Some (made place b.1)) same
 
 path_opened : (path : List PathStep) (s : PathStep) → 1 ≤ length path → s ≡ get_or path 0 s → path ≡ s ∷ drop 1 path
@@ -116,9 +116,9 @@ path_opened (x ∷ path) s some item = ap (λ y. y ∷ path) (sym item)
 
 pub component_found : (sections : List (List Declaration)) (path : List PathStep) (s : PathStep) (name : List ℕ) → 1 ≤ length path
     → s ≡ get_or path 0 s → s ≡ step.Name name → (start : Placed) → Some start ≡ capped_placed (named_in 0 sections name)
-    → (at : Option Placed) → at ≡ capped_placed (walked (drop 1 path) start)
+    → (at : Option Placed) → at ≡ capped_placed (after_path (drop 1 path) start)
     → option_map component_at at ≡ component_in sections path
 component_found sections path s name some item is start named at walks =
-    component_kept at (option_and_then (walked (drop 1 path)) (named_in 0 sections name))
+    component_kept at (option_and_then (after_path (drop 1 path)) (named_in 0 sections name))
     (walks ∙ walks_on (drop 1 path) (named_in 0 sections name) start named)
     ∙ ap (component_in sections) (sym (path_opened path s some item ∙ ap (λ x. x ∷ drop 1 path) is))

@@ -2,7 +2,7 @@
 ghost use Rattle.std.specs.Prelude.{◌≡◌, ◌++◌, ◌≤◌, ◌<◌, length, OnOk, IfOk};
 ghost use Rattle.stl_rules.specs.Contents.{bit_of, byte_of, bytes_of, filled_to, first_bytes, low_bits, number_bits, times, value_bits, word_bits, zeros};
 ghost use Rattle.symbol_layout.specs.Kept.{IsAlignment};
-ghost use Rattle.stl_statements.specs.Constants.{value_in};
+ghost use Rattle.stl_statement_grammar.specs.Constants.{value_in};
 ghost use Rattle.stl_tree.specs.Accumulators.{signed_part};
 ghost use Rattle.s7_base.specs.SignedNumbers.{pattern};
 ghost use Rattle.s7_base.specs.declared.word.Width.TheVariants as wide;
@@ -12,8 +12,8 @@ use s7_base::{NoMemory, Width, rest_after};
 use std::alloc::Global;
 use stl_tree::Constant;
 
-/// Puts items behind others so many times.
-#[tactic(auto, using(crate::proofs::BitLists::times_lemmas))]
+/// Appends items this many times.
+#[tactic(auto, using(crate::proofs::BitLists::times_laws))]
 pub fn put_times<T: Copy>(list: &mut Vec<T>, count: u64, more: &[T]) -> Result<(), NoMemory>
     ensures { OnOk result (list.new.items ≡ list.old.items ++ times count more.now) }
 {
@@ -28,7 +28,7 @@ pub fn put_times<T: Copy>(list: &mut Vec<T>, count: u64, more: &[T]) -> Result<(
     Ok(())
 }
 
-#[tactic(auto, using(crate::proofs::BitLists::low_lemmas))]
+#[tactic(auto, using(crate::proofs::BitLists::low_laws))]
 fn put_low_bits(bits: &mut Vec<bool>, count: u32, number: u32) -> Result<(), NoMemory>
     ensures { OnOk result (bits.new.items ≡ bits.old.items ++ low_bits count number) }
 {
@@ -42,7 +42,7 @@ fn put_low_bits(bits: &mut Vec<bool>, count: u32, number: u32) -> Result<(), NoM
     Ok(())
 }
 
-#[tactic(auto, using(crate::proofs::BitLists::zero_lemmas))]
+#[tactic(auto, using(crate::proofs::BitLists::zero_laws))]
 fn put_zeros(bits: &mut Vec<bool>, count: u64) -> Result<(), NoMemory>
     ensures { OnOk result (bits.new.items ≡ bits.old.items ++ zeros count) }
 {
@@ -100,23 +100,23 @@ fn word_number(value: u32) -> i16
     ((value & 0xffff) as u16).cast_signed()
 }
 
-fn extended(value: u32) -> u32
+fn sign_extension(value: u32) -> u32
     ensures { result ≡ pattern 32 (signed_part wide.Word value) }
 {
     i32::from(word_number(value)).cast_unsigned()
 }
 
-/// The value of a constant in a width.
+/// The pattern of a constant in a width.
 pub fn value_in(width: Width, constant: Constant) -> u32
     ensures { result ≡ value_in width constant }
 {
     match width {
-        Width::Dword if constant.signed => extended(constant.value),
+        Width::Dword if constant.signed => sign_extension(constant.value),
         _ => constant.value,
     }
 }
 
-/// The bits of the first of some values, or 0.
+/// The bits of the first of some values, or of 0 where there is none.
 pub fn value_bits(alloc: Global, width: Width, values: &[Constant]) -> Result<Vec<bool>, NoMemory>
     ensures { IfOk result (λ bits. bits.items ≡ value_bits width values.now) }
 {
@@ -141,7 +141,7 @@ fn bit_of(bits: &[bool], at: usize) -> u8
     }
 }
 
-/// A bit that is there.
+/// The bit at a position, which exists, as 0 or 1.
 fn bit_at(bits: &[bool], at: usize) -> u8
     requires { at < length bits.now }
     ensures same { result ≡ bit_of bits.now at }
@@ -150,7 +150,7 @@ fn bit_at(bits: &[bool], at: usize) -> u8
     u8::from(bits[at])
 }
 
-/// The number that the first eight bits stand for.
+/// The number of the first eight bits.
 fn byte_of(bits: &[bool]) -> u8
     ensures { result ≡ byte_of bits.now }
 {
@@ -167,7 +167,7 @@ fn byte_of(bits: &[bool]) -> u8
         + 128 * bit_at(bits, 7)
 }
 
-/// The same of fewer bits.
+/// The number of at most eight bits.
 fn short_byte(bits: &[bool]) -> u8
     ensures { result ≡ byte_of bits.now }
 {
@@ -181,7 +181,7 @@ fn short_byte(bits: &[bool]) -> u8
         + 128 * bit_of(bits, 7)
 }
 
-#[tactic(auto, using(crate::proofs::BitLists::byte_lemmas))]
+#[tactic(auto, using(crate::proofs::BitLists::byte_laws))]
 fn first_bytes(alloc: Global, count: usize, bits: &[bool]) -> Result<Vec<u8>, NoMemory>
     ensures { IfOk result (λ bytes. bytes.items ≡ first_bytes count bits.now) }
 {

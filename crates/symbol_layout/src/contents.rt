@@ -2,7 +2,7 @@
 ghost use Rattle.std.specs.Prelude.{◌≡◌, [], ◌++◌, ◌-◌, OnOk, IfOk};
 ghost use Rattle.stl_rules.specs.Contents.{bits_behind, bits_of_sections, filled_to, times, type_bits, values_of};
 ghost use Rattle.stl_rules.specs.Extents.{elements_in};
-ghost use Rattle.symbol_layout.specs.Kept.{borrowed};
+ghost use Rattle.symbol_layout.specs.Kept.{sections_now};
 
 use crate::bits::{fill, put_times, value_bits, zeros};
 use crate::extent::{MOST_BITS, elements_in, extent_of, width_of};
@@ -11,7 +11,7 @@ use std::alloc::Global;
 use std::slice::from_ref;
 use stl_tree::{Constant, DeclType, Declaration, InitialItem};
 
-/// The values of some items: those in brackets so many times.
+/// The values of some items: those in brackets this many times.
 fn values_of(alloc: Global, items: &[InitialItem]) -> Result<Vec<Constant>, NoMemory>
     ensures { IfOk result (λ values. values.items ≡ values_of items.now) }
 {
@@ -22,7 +22,7 @@ fn values_of(alloc: Global, items: &[InitialItem]) -> Result<Vec<Constant>, NoMe
     Ok(values)
 }
 
-/// Puts the elements without a value behind those that have one. More elements than any limit has bits count
+/// Appends the elements without a value to those that have one. More elements than any limit has bits count
 /// as out of memory, unless they have none.
 #[tactic(auto, using(crate::proofs::BitLists::times_none))]
 fn put_blank(
@@ -72,7 +72,7 @@ fn type_bits(alloc: Global, ty: &DeclType, values: &[Constant]) -> Result<Vec<bo
     }
 }
 
-/// Puts the contents of declarations one after another behind what is there.
+/// Appends the contents of declarations one after another.
 #[cycle(contents)]
 #[tactic(auto, using(stl_rules::proofs::Equations::laid_equations))]
 fn put_bits(alloc: Global, bits: &mut Vec<bool>, decls: &[Declaration]) -> Result<(), NoMemory>
@@ -89,7 +89,7 @@ fn put_bits(alloc: Global, bits: &mut Vec<bool>, decls: &[Declaration]) -> Resul
 
 /// The contents of sections one after another.
 pub fn bits_of_sections(alloc: Global, sections: &[&[Declaration]]) -> Result<Vec<bool>, NoMemory>
-    ensures { IfOk result (λ bits. bits.items ≡ bits_of_sections [] (borrowed sections.now)) }
+    ensures { IfOk result (λ bits. bits.items ≡ bits_of_sections [] (sections_now sections.now)) }
 {
     let mut bits = Vec::new(alloc);
     for section in sections {

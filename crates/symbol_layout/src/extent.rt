@@ -1,14 +1,14 @@
-//! What types take, in bits.
+//! Extents: the alignments and the lengths of types, in bits.
 ghost use Rattle.std.specs.Prelude.{◌≡◌, ◌+◌, ◌*◌, ◌≤◌, ◌^◌};
-ghost use Rattle.stl_rules.specs.Extents.{elements_in, end_behind, end_of_all, end_of_sections, extent_of, extent_of_width, filled, indices_in, place_behind, section_behind, width_of};
-ghost use Rattle.symbol_layout.specs.Kept.{IsAlignment, borrowed, capped, capped_extent};
+ghost use Rattle.stl_rules.specs.Extents.{elements_in, end_behind, end_of_all, end_of_sections, extent_of, extent_of_width, even_extent, indices_in, place_behind, section_behind, width_of};
+ghost use Rattle.symbol_layout.specs.Kept.{IsAlignment, sections_now, capped_bits, capped_extent};
 ghost use Rattle.symbol_layout.specs.Structs.{AreBits, struct_in};
 
 use s7_base::Width;
 use stl_rules::Extent;
 use stl_tree::{DeclType, Declaration, ElemType};
 
-/// More bits than any limit has. More than these are kept as so many.
+/// A number of bits above any limit: 2^60. More bits than these are kept as this number.
 pub const MOST_BITS: u64 = 1 << 60;
 
 /// The width of an elementary type.
@@ -23,7 +23,7 @@ pub fn width_of(kind: ElemType) -> Width
     }
 }
 
-/// What a number of a width takes.
+/// The extent of a number of a width.
 pub fn extent_of_width(width: Width) -> Extent
     ensures same { result ≡ extent_of_width width }
     ensures alignment { IsAlignment result.alignment }
@@ -49,10 +49,10 @@ pub fn extent_of_width(width: Width) -> Extent
     }
 }
 
-/// What so many bits take from an even byte on, filled up to an even length.
-pub fn filled(bits: u64) -> Extent
+/// The extent of this many bits from an even byte on, filled up to an even length.
+pub fn even_extent(bits: u64) -> Extent
     requires { bits ≤ 2 ^ 60 }
-    ensures same { result ≡ filled bits }
+    ensures same { result ≡ even_extent bits }
     ensures alignment { IsAlignment result.alignment }
     ensures few { result.bits ≤ 2 ^ 60 }
 {
@@ -62,23 +62,23 @@ pub fn filled(bits: u64) -> Extent
     }
 }
 
-/// A product of lengths.
+/// A product of lengths, at most 2^60.
 pub fn product(a: u64, b: u64) -> u64
-    ensures { result ≡ capped (a * b) }
+    ensures { result ≡ capped_bits (a * b) }
 {
     a.saturating_mul(b).min(MOST_BITS)
 }
 
-/// A sum of lengths.
+/// A sum of lengths, at most 2^60.
 pub fn sum(a: u64, b: u64) -> u64
-    ensures { result ≡ capped (a + b) }
+    ensures { result ≡ capped_bits (a + b) }
 {
     a.saturating_add(b).min(MOST_BITS)
 }
 
 /// How many indices a dimension has.
 pub fn indices_in(bounds: (i64, i64)) -> u64
-    ensures { result ≡ capped (indices_in bounds) }
+    ensures { result ≡ capped_bits (indices_in bounds) }
 {
     if bounds.1 < bounds.0 {
         0
@@ -88,9 +88,9 @@ pub fn indices_in(bounds: (i64, i64)) -> u64
 }
 
 /// How many elements an array has.
-#[tactic(auto, using(crate::proofs::Capped::capped_lemmas))]
+#[tactic(auto, using(crate::proofs::Capped::capped_laws))]
 pub fn elements_in(bounds: &[(i64, i64)]) -> u64
-    ensures { result ≡ capped (elements_in bounds.now) }
+    ensures { result ≡ capped_bits (elements_in bounds.now) }
 {
     let mut count = 1;
     for dimension in bounds {
@@ -99,7 +99,7 @@ pub fn elements_in(bounds: &[(i64, i64)]) -> u64
     count
 }
 
-/// Where a component stands behind what ends here.
+/// The place in bits of a component after one that ends at `end`.
 #[tactic(auto, using(crate::proofs::Capped::place_low))]
 pub fn place_behind(end: u64, extent: Extent) -> u64
     requires end { end ≤ 2 ^ 60 }
@@ -110,17 +110,17 @@ pub fn place_behind(end: u64, extent: Extent) -> u64
     end.next_multiple_of(extent.alignment)
 }
 
-/// Where a component ends behind what ends here.
+/// The end in bits of a component after one that ends at `end`.
 pub fn end_behind(end: u64, extent: Extent) -> u64
     requires end { end ≤ 2 ^ 60 }
     requires alignment { IsAlignment extent.alignment }
-    ensures { result ≡ capped (end_behind end extent) }
+    ensures { result ≡ capped_bits (end_behind end extent) }
 {
     sum(place_behind(end, extent), extent.bits)
 }
 
-/// What a type takes, where the STRUCT inside takes so many bits.
-#[tactic(auto, using(crate::proofs::Structs::extent_lemmas, crate::proofs::Structs::array_bits))]
+/// The extent of a type, where the STRUCT inside has this many bits.
+#[tactic(auto, using(crate::proofs::Structs::extent_laws, crate::proofs::Structs::array_bits))]
 pub fn extent_by(ty: &DeclType, bits: u64) -> Extent
     ensures same { AreBits bits (struct_in ty.now) → result ≡ capped_extent (extent_of ty.now) }
     ensures alignment { IsAlignment result.alignment }
@@ -133,7 +133,7 @@ pub fn extent_by(ty: &DeclType, bits: u64) -> Extent
         },
         DeclType::Array(bounds, element) => {
             let count = elements_in(bounds.as_slice());
-            filled(product(count, extent_by(element.get(), bits).bits))
+            even_extent(product(count, extent_by(element.get(), bits).bits))
         }
         DeclType::Struct(_) => Extent {
             alignment: 16,
@@ -142,7 +142,7 @@ pub fn extent_by(ty: &DeclType, bits: u64) -> Extent
     }
 }
 
-/// What the STRUCT inside a type takes, in bits; any number where none is inside.
+/// The length in bits of the STRUCT inside a type; any number where none is inside.
 #[cycle(extent)]
 #[tactic(auto, using(crate::proofs::Structs::inner_equations))]
 fn struct_bits(ty: &DeclType) -> u64
@@ -152,16 +152,16 @@ fn struct_bits(ty: &DeclType) -> u64
         DeclType::Elementary(_) => 0,
         DeclType::DateAndTime => 0,
         DeclType::Array(_, element) => struct_bits(element.get()),
-        DeclType::Struct(parts) => filled(end_of_all(0, parts.as_slice())).bits,
+        DeclType::Struct(parts) => even_extent(end_of_all(0, parts.as_slice())).bits,
     }
 }
 
-/// Where declarations end, one after another, behind what ends here.
+/// The end in bits of declarations, one after another, from `start` on.
 #[cycle(extent)]
 #[tactic(auto, using(crate::proofs::Capped::capped_end))]
 pub fn end_of_all(start: u64, decls: &[Declaration]) -> u64
     requires { start ≤ 2 ^ 60 }
-    ensures { result ≡ capped (end_of_all start decls.now) }
+    ensures { result ≡ capped_bits (end_of_all start decls.now) }
 {
     let mut end = start;
     for d in decls {
@@ -170,7 +170,7 @@ pub fn end_of_all(start: u64, decls: &[Declaration]) -> u64
     end
 }
 
-/// What a type takes.
+/// The extent of a type.
 pub fn extent_of(ty: &DeclType) -> Extent
     ensures same { result ≡ capped_extent (extent_of ty.now) }
     ensures alignment { IsAlignment result.alignment }
@@ -178,7 +178,7 @@ pub fn extent_of(ty: &DeclType) -> Extent
     extent_by(ty, struct_bits(ty))
 }
 
-/// Where a section begins behind what ends here.
+/// The beginning in bits of a section after one that ends at `end`.
 #[tactic(auto, using(crate::proofs::Capped::place_low))]
 pub fn section_behind(end: u64) -> u64
     requires { end ≤ 2 ^ 60 }
@@ -188,9 +188,9 @@ pub fn section_behind(end: u64) -> u64
     end.next_multiple_of(16)
 }
 
-/// Where sections end, one after another.
+/// The end in bits of sections, one after another.
 pub fn end_of_sections(sections: &[&[Declaration]]) -> u64
-    ensures { result ≡ capped (end_of_sections 0 (borrowed sections.now)) }
+    ensures { result ≡ capped_bits (end_of_sections 0 (sections_now sections.now)) }
 {
     let mut end = 0;
     for section in sections {

@@ -2,12 +2,12 @@
 ghost use Rattle.std.specs.Prelude.{◌≡◌};
 ghost use Rattle.std.specs.List.{list_all};
 ghost use Rattle.stl_rules.specs.DeclarationRules.{all_fit, are_values, elementary, fits_width, is_bit, is_plain_byte, takes, values_in};
-ghost use Rattle.symbol_layout.specs.Kept.{capped};
+ghost use Rattle.symbol_layout.specs.Kept.{capped_bits};
 ghost use Rattle.symbol_layout.specs.inner.Capped.{capped_takes};
 
+use crate::constant::fits;
 use crate::extent::{elements_in, product, sum, width_of};
 use s7_base::Width;
-use stl_statements::fits;
 use stl_tree::{Constant, DeclType, ElemType, InitialItem};
 
 fn is_plain_byte(width: Width, constant: Constant) -> bool
@@ -25,7 +25,7 @@ fn is_bit(width: Width) -> bool
     matches!(width, Width::Bit)
 }
 
-/// A constant is a value of a width.
+/// Whether a constant is a value of a width.
 pub fn fits_width(width: Width, constant: Constant) -> bool
     ensures { result ≡ fits_width width constant }
 {
@@ -35,7 +35,7 @@ pub fn fits_width(width: Width, constant: Constant) -> bool
     }
 }
 
-/// What elementary type a type is, if it is one.
+/// The elementary type that a type is, if it is one.
 #[tactic(auto, using(stl_rules::proofs::Equations::elementary_equations))]
 pub fn elementary(ty: &DeclType) -> Option<ElemType>
     ensures { result ≡ elementary ty.now }
@@ -48,7 +48,7 @@ pub fn elementary(ty: &DeclType) -> Option<ElemType>
     }
 }
 
-/// Of which type the initial values of a type are, and how many there may be.
+/// The elementary type of the initial values of a type, and how many there may be.
 #[tactic(auto, using(stl_rules::proofs::Equations::takes_equations))]
 fn takes(ty: &DeclType) -> Option<(ElemType, u64)>
     ensures { result ≡ capped_takes (takes ty.now) }
@@ -67,7 +67,7 @@ fn takes(ty: &DeclType) -> Option<(ElemType, u64)>
 /// How many values there are.
 #[tactic(auto, using(crate::proofs::Capped::counts))]
 fn values_in(items: &[InitialItem]) -> u64
-    ensures { result ≡ capped (values_in items.now) }
+    ensures { result ≡ capped_bits (values_in items.now) }
 {
     let mut count = 0;
     for item in items {
@@ -91,7 +91,7 @@ fn are_of_width(width: Width, values: &[Constant]) -> bool
     values.iter().all(|value| fits_width(width, *value))
 }
 
-/// Values that a type may have.
+/// Whether a type may have these values.
 pub fn are_values(ty: &DeclType, items: &[InitialItem]) -> bool
     ensures { result ≡ are_values (takes ty.now) items.now }
 {

@@ -1,9 +1,9 @@
-//! How long declarations are, and their initial bytes.
+//! The length of declarations, and their initial bytes.
 ghost use Rattle.std.specs.Prelude.{◌≡◌, IfOk};
 ghost use Rattle.s7_base.specs.Answers.{Answers};
 ghost use Rattle.s7_base.specs.Broken.{first_of_all};
 ghost use Rattle.stl_rules.specs.Layouts.{breaks_in, layout_of, length_of};
-ghost use Rattle.symbol_layout.specs.Kept.{borrowed};
+ghost use Rattle.symbol_layout.specs.Kept.{sections_now};
 
 use crate::bits::bytes_of;
 use crate::contents::bits_of_sections;
@@ -21,7 +21,7 @@ pub fn first_break(
     sections: &[&[Declaration]],
     limit: u32,
 ) -> Result<Option<Break>, NoMemory>
-    ensures { IfOk result (λ first. first ≡ first_of_all (breaks_in limit (borrowed sections.now))) }
+    ensures { IfOk result (λ first. first ≡ first_of_all (breaks_in limit (sections_now sections.now))) }
 {
     let mut breaks = List::new(alloc);
     judge_sections(alloc, sections, &mut breaks)?;
@@ -34,7 +34,7 @@ pub fn first_break(
 /// The length of sections. One above 4,294,967,295 counts as out of memory.
 #[tactic(auto, using(crate::proofs::Limits::capped_length))]
 fn length_of(sections: &[&[Declaration]]) -> Result<u32, NoMemory>
-    ensures { IfOk result (λ length. length ≡ length_of (borrowed sections.now)) }
+    ensures { IfOk result (λ length. length ≡ length_of (sections_now sections.now)) }
 {
     let length = end_of_sections(sections).next_multiple_of(16) / 8;
     if length > u64::from(u32::MAX) {
@@ -49,7 +49,7 @@ pub fn layout_of(
     sections: &[&[Declaration]],
     limit: u32,
 ) -> Result<Layout, Rejection>
-    ensures { Answers result (layout_of limit (borrowed sections.now)) }
+    ensures { Answers result (layout_of limit (sections_now sections.now)) }
 {
     if let Some(first) = first_break(alloc, sections, limit)? {
         return Err(Rejection::Refused(first.line, first.rule));
@@ -62,7 +62,7 @@ pub fn layout_of(
 
 /// The sections of declarations, borrowed one by one.
 fn sections_of(alloc: Global, decls: &Declarations) -> Result<Vec<&[Declaration]>, NoMemory>
-    ensures { IfOk result (λ sections. borrowed sections.items ≡ decls.now.sections) }
+    ensures { IfOk result (λ sections. sections_now sections.items ≡ decls.now.sections) }
 {
     let mut sections = Vec::with_capacity(alloc, decls.sections.len())?;
     for section in decls.sections.as_slice() {

@@ -1,10 +1,11 @@
 //! The layout of declarations: which rules they break, how long they are, their initial bytes, and where the
 //! component that a path names lies.
 //!
-//! Stands on `stl_tree` for the declarations and on `stl_rules` for what layouts are. All definitions count in bits.
+//! Uses `stl_tree` for the declarations and `stl_rules` for what layouts are. All definitions count in bits.
 #![tactic(auto)]
 
 mod bits;
+mod constant;
 mod contents;
 mod extent;
 mod initial;
@@ -18,9 +19,10 @@ mod rules;
 mod too_large;
 
 pub use bits::value_in;
+pub use constant::fits;
 pub use extent::{
-    elements_in, end_behind, end_of_all, extent_by, extent_of_width, filled, place_behind, product,
-    section_behind, sum, width_of,
+    elements_in, end_behind, end_of_all, even_extent, extent_by, extent_of_width, place_behind,
+    product, section_behind, sum, width_of,
 };
 pub use initial::fits_width;
 pub use laying_out::{first_break, layout, layout_of};

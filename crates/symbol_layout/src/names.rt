@@ -25,7 +25,7 @@ impl Model for Names {
 }
 
 impl Names {
-    /// No names.
+    /// The empty set of names.
     pub fn new(alloc: Global) -> Names
         ensures { result ≡ [] }
     {
@@ -34,14 +34,14 @@ impl Names {
         }
     }
 
-    /// Room for so many more names.
+    /// Takes memory for this many more names.
     pub fn reserve(&mut self, count: usize) -> Result<(), NoMemory>
         ensures { OnOk result (self.new ≡ self.old) }
     {
         Ok(self.keys.reserve(count)?)
     }
 
-    /// Puts a name to those of the scope, and says whether it was new.
+    /// Adds a name to those of the scope, and says whether it was new.
     pub fn declare(&mut self, key: Vec<u8>) -> Result<bool, NoMemory>
         ensures new { IfOk result (λ new. new ≡ not (is_named key.items self.old)) }
         ensures names { OnOk result (self.new ≡ with_name key.items self.old) }
@@ -50,7 +50,7 @@ impl Names {
     }
 }
 
-/// By what a name is compared.
+/// The key by which a name is compared.
 pub fn key_of(alloc: Global, name: &[u8]) -> Result<Vec<u8>, NoMemory>
     ensures { IfOk result (λ key. key.items ≡ key_of name.now) }
 {

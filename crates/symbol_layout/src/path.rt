@@ -2,8 +2,8 @@
 ghost use Rattle.std.specs.Prelude.{◌≡◌, ◌≤◌, ◌^◌};
 ghost use Rattle.std.specs.Option.{option_map};
 ghost use Rattle.s7_base.specs.Tokens.{is_same_word};
-ghost use Rattle.stl_rules.specs.Paths.{component_at, component_in, element_at, elements_before, is_index, named_behind, named_in, stepped, walked};
-ghost use Rattle.symbol_layout.specs.Kept.{capped, capped_placed, seen};
+ghost use Rattle.stl_rules.specs.Paths.{component_at, component_in, element_at, elements_before, is_index, named_behind, named_in, after_step, after_path};
+ghost use Rattle.symbol_layout.specs.Kept.{capped_bits, capped_placed, placed_of_code};
 ghost use Rattle.symbol_layout.specs.inner.Capped.{next_row, row_behind};
 
 use crate::extent::{
@@ -24,10 +24,11 @@ fn is_index(bounds: (i64, i64), index: i64) -> bool
     bounds.0 <= index && index <= bounds.1
 }
 
-/// How many elements stand before one, where so many rows stand before it: a dimension further.
+/// How many elements of a dimension come before one at `index`, after `rows` whole lines of the dimension;
+/// `None` where the index is outside its bounds.
 #[tactic(auto, using(crate::proofs::Kept::rows_kept))]
 fn row_behind(rows: u64, bounds: (i64, i64), index: i64) -> Option<u64>
-    ensures { result ≡ option_map capped (row_behind rows bounds index) }
+    ensures { result ≡ option_map capped_bits (row_behind rows bounds index) }
 {
     if is_index(bounds, index) {
         let inner = index.abs_diff(bounds.0);
@@ -37,9 +38,10 @@ fn row_behind(rows: u64, bounds: (i64, i64), index: i64) -> Option<u64>
     }
 }
 
-/// The same with the first of some indices; `None` where there is none.
+/// How many elements of a dimension come before one at the first of some indices, after `rows` whole lines of
+/// the dimension; `None` where there is no index, or it is outside the bounds.
 fn next_row(rows: u64, bounds: (i64, i64), indices: &[i64]) -> Option<u64>
-    ensures { result ≡ option_map capped (next_row rows bounds indices.now) }
+    ensures { result ≡ option_map capped_bits (next_row rows bounds indices.now) }
 {
     match indices {
         [] => None,
@@ -47,9 +49,9 @@ fn next_row(rows: u64, bounds: (i64, i64), indices: &[i64]) -> Option<u64>
     }
 }
 
-/// How many elements stand before one in an array.
+/// How many elements of an array come before the one with these indices; `None` where they fit no element.
 pub fn elements_before(bounds: &[(i64, i64)], indices: &[i64]) -> Option<u64>
-    ensures { result ≡ option_map capped (elements_before 0 bounds.now indices.now) }
+    ensures { result ≡ option_map capped_bits (elements_before 0 bounds.now indices.now) }
 {
     let mut rows = 0;
     let mut rest = indices;
@@ -66,11 +68,11 @@ fn is_same_name(a: &[u8], b: &[u8]) -> bool
     a.eq_ignore_ascii_case(b)
 }
 
-/// The first declaration of a name behind what ends here.
+/// The first declaration of a name among those from bit `start` on.
 #[tactic(auto, using(crate::proofs::Kept::kept_named))]
 fn named_behind<'d>(decls: &'d [Declaration], name: &[u8], start: u64) -> Option<Placed<'d>>
     requires { start ≤ 2 ^ 60 }
-    ensures { option_map seen result ≡ capped_placed (named_behind start decls.now name.now) }
+    ensures { option_map placed_of_code result ≡ capped_placed (named_behind start decls.now name.now) }
 {
     let mut end = start;
     for d in decls {
@@ -84,7 +86,7 @@ fn named_behind<'d>(decls: &'d [Declaration], name: &[u8], start: u64) -> Option
     None
 }
 
-/// One element of an array that begins here.
+/// One element of an array that begins at a place in bits.
 #[tactic(auto, using(crate::proofs::Kept::kept_element))]
 fn element_at<'d>(
     place: u64,
@@ -92,18 +94,18 @@ fn element_at<'d>(
     ty: &'d DeclType,
     indices: &[i64],
 ) -> Option<Placed<'d>>
-    ensures { option_map seen result ≡ capped_placed (element_at place bounds.now ty.now indices.now) }
+    ensures { option_map placed_of_code result ≡ capped_placed (element_at place bounds.now ty.now indices.now) }
 {
     let before = elements_before(bounds, indices)?;
     let place = sum(place, product(before, extent_of(ty).bits));
     Some(Placed { place, ty })
 }
 
-/// One step further from a type at a place.
+/// The type after one more step of a path, from a type at a place.
 #[tactic(auto, using(stl_rules::proofs::Equations::step_equations))]
-fn stepped<'d>(at: Placed<'d>, step: &PathStep) -> Option<Placed<'d>>
+fn after_step<'d>(at: Placed<'d>, step: &PathStep) -> Option<Placed<'d>>
     requires { at.place ≤ 2 ^ 60 }
-    ensures { option_map seen result ≡ capped_placed (stepped at.entry.place at.entry.ty.now step.now) }
+    ensures { option_map placed_of_code result ≡ capped_placed (after_step at.entry.place at.entry.ty.now step.now) }
 {
     match at.ty {
         DeclType::Elementary(_) => None,
@@ -124,22 +126,22 @@ fn stepped<'d>(at: Placed<'d>, step: &PathStep) -> Option<Placed<'d>>
     }
 }
 
-/// Further by a path.
+/// The type after all steps of a path.
 #[tactic(auto, using(crate::proofs::Kept::kept_walked))]
-fn walked<'d>(start: Placed<'d>, path: &[PathStep]) -> Option<Placed<'d>>
+fn after_path<'d>(start: Placed<'d>, path: &[PathStep]) -> Option<Placed<'d>>
     requires { start.place ≤ 2 ^ 60 }
-    ensures { option_map seen result ≡ capped_placed (walked path.now (seen start.entry)) }
+    ensures { option_map placed_of_code result ≡ capped_placed (after_path path.now (placed_of_code start.entry)) }
 {
     let mut at = start;
     for step in path {
-        at = stepped(at, step)?;
+        at = after_step(at, step)?;
     }
     Some(at)
 }
 
-/// What a path names that leads to a type at a place.
+/// The component of a path that leads to a type at a place.
 pub fn component_at(at: Placed<'_>) -> Component
-    ensures { result ≡ component_at (seen at.entry) }
+    ensures { result ≡ component_at (placed_of_code at.entry) }
 {
     let place = at.place.min(LAST_BIT);
     Component {
@@ -151,7 +153,7 @@ pub fn component_at(at: Placed<'_>) -> Component
 
 /// The first declaration of a name in sections.
 fn named_in<'d>(sections: &'d [List<Declaration>], name: &[u8]) -> Option<Placed<'d>>
-    ensures { option_map seen result ≡ capped_placed (named_in 0 sections.now name.now) }
+    ensures { option_map placed_of_code result ≡ capped_placed (named_in 0 sections.now name.now) }
 {
     let mut end = 0;
     for section in sections {
@@ -165,8 +167,8 @@ fn named_in<'d>(sections: &'d [List<Declaration>], name: &[u8]) -> Option<Placed
 }
 
 /// The component that a path names; `None` exactly where it names nothing that is declared. Takes no memory.
-/// A place past the byte 4,294,967,295 is kept as the last bit of that, which no declarations within a limit
-/// have.
+/// A place past the byte 4,294,967,295 is kept as the last bit of that byte, which no declarations within a
+/// limit have.
 pub fn component(decls: &Declarations, path: &[PathStep]) -> Option<Component>
     ensures { result ≡ component_in decls.now.sections path.now }
 {
@@ -177,7 +179,7 @@ pub fn component(decls: &Declarations, path: &[PathStep]) -> Option<Component>
         PathStep::Index(_) => None,
         PathStep::Name(name) => {
             let start = named_in(decls.sections.as_slice(), name.as_slice())?;
-            let at = walked(start, rest_after(path, 1))?;
+            let at = after_path(start, rest_after(path, 1))?;
             Some(component_at(at))
         }
     }

@@ -1,7 +1,7 @@
 //! Types at their places.
 use stl_tree::DeclType;
 
-/// A type at its place, in bits.
+/// A type and its place in bits.
 #[derive(Clone, Copy)]
 pub struct Placed<'d> {
     pub place: u64,

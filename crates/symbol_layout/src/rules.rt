@@ -1,8 +1,8 @@
 //! The rules that declarations break, but for their length.
 ghost use Rattle.std.specs.Prelude.{◌≡◌, [], ◌++◌, nat_le, int_le, OnOk};
 ghost use Rattle.std.specs.List.{list_all};
-ghost use Rattle.stl_rules.specs.DeclarationRules.{are_bounds, array_breaks, declaration_breaks, is_array, is_bound, is_named, key_of, repeated, scope_breaks, section_breaks, takes, type_breaks, value_breaks, with_name};
-ghost use Rattle.symbol_layout.specs.Kept.{borrowed};
+ghost use Rattle.stl_rules.specs.DeclarationRules.{are_bounds, array_breaks, declaration_breaks, is_array, is_bound, is_named, key_of, break_if_repeated, scope_breaks, section_breaks, takes, type_breaks, value_breaks, with_name};
+ghost use Rattle.symbol_layout.specs.Kept.{sections_now};
 ghost use Rattle.symbol_layout.specs.inner.Scopes.{names_behind};
 
 use crate::initial::are_values;
@@ -58,7 +58,7 @@ fn judge_values(d: &Declaration, breaks: &mut List<Break>) -> Result<(), NoMemor
     }
 }
 
-/// Puts a declaration's name to those of its scope.
+/// Adds a declaration's name to those of its scope, and notes the rule that it breaks.
 fn judge_name(
     alloc: Global,
     names: &mut Names,
@@ -66,7 +66,7 @@ fn judge_name(
     breaks: &mut List<Break>,
 ) -> Result<(), NoMemory>
     ensures names { OnOk result (names.new ≡ with_name (key_of d.now.name) names.old) }
-    ensures breaks { OnOk result (breaks.new ≡ breaks.old ++ repeated d.now.line (is_named (key_of d.now.name) names.old)) }
+    ensures breaks { OnOk result (breaks.new ≡ breaks.old ++ break_if_repeated d.now.line (is_named (key_of d.now.name) names.old)) }
 {
     let key = key_of(alloc, d.name.as_slice())?;
     let new = names.declare(key)?;
@@ -113,7 +113,7 @@ fn judge_declaration(
     judge_values(d, breaks)
 }
 
-/// Notes the rules that are broken in declarations of a scope, behind those that have its names so far.
+/// Notes the rules that are broken in declarations of a scope, after those that have its names so far.
 #[cycle(judge)]
 fn judge_scope(
     alloc: Global,
@@ -138,7 +138,7 @@ pub fn judge_sections(
     sections: &[&[Declaration]],
     breaks: &mut List<Break>,
 ) -> Result<(), NoMemory>
-    ensures { OnOk result (breaks.new ≡ breaks.old ++ section_breaks (borrowed sections.now)) }
+    ensures { OnOk result (breaks.new ≡ breaks.old ++ section_breaks (sections_now sections.now)) }
 {
     let mut names = Names::new(alloc);
     for section in sections {

@@ -2,7 +2,7 @@
 ghost use Rattle.std.specs.Prelude.{◌≡◌, ◌≤◌, ◌^◌, IfSome};
 ghost use Rattle.stl_rules.specs.Extents.{extent_of, place_behind};
 ghost use Rattle.stl_rules.specs.TooLarge.{first_large, first_large_in, inside, passes};
-ghost use Rattle.symbol_layout.specs.Kept.{borrowed};
+ghost use Rattle.symbol_layout.specs.Kept.{sections_now};
 ghost use Rattle.symbol_layout.specs.inner.Capped.{end_within};
 
 use crate::extent::{end_behind, end_of_all, extent_of, place_behind, section_behind};
@@ -16,7 +16,7 @@ fn passes(limit: u32, end: u64) -> bool
     u64::from(limit) < end.next_multiple_of(16) / 8
 }
 
-/// Where a declaration stands behind what ends here.
+/// The place in bits of a declaration after one that ends at `end`.
 fn place_of(end: u64, d: &Declaration) -> u64
     requires { end ≤ 2 ^ 60 }
     ensures same { result ≡ place_behind end (extent_of d.now.ty) }
@@ -25,7 +25,8 @@ fn place_of(end: u64, d: &Declaration) -> u64
     place_behind(end, extent_of(&d.ty))
 }
 
-/// Where a declaration ends behind what ends here, if the length does not pass the limit there.
+/// The end in bits of a declaration after one that ends at `end`, if the length does not pass the limit
+/// there.
 #[tactic(auto, using(crate::proofs::Limits::within))]
 fn end_within(limit: u32, end: u64, d: &Declaration) -> Option<u64>
     requires { end ≤ 2 ^ 60 }
@@ -40,7 +41,7 @@ fn end_within(limit: u32, end: u64, d: &Declaration) -> Option<u64>
     }
 }
 
-/// The first declaration inside a type, placed here.
+/// The line of the first declaration inside a type, at a place in bits, at which the length passes the limit.
 #[cycle(large)]
 #[tactic(auto, using(stl_rules::proofs::Equations::inside_equations))]
 fn first_inside(limit: u32, ty: &DeclType, place: u64) -> Option<Line>
@@ -55,7 +56,8 @@ fn first_inside(limit: u32, ty: &DeclType, place: u64) -> Option<Line>
     }
 }
 
-/// The first of some declarations, in the order of their ends.
+/// The line of the first of some declarations, in the order of their ends, at which the length passes the
+/// limit.
 #[cycle(large)]
 fn first_large(limit: u32, decls: &[Declaration], start: u64) -> Option<Line>
     requires { start ≤ 2 ^ 60 }
@@ -74,9 +76,9 @@ fn first_large(limit: u32, decls: &[Declaration], start: u64) -> Option<Line>
     None
 }
 
-/// The first of the declarations of sections.
+/// The line of the first declaration of sections at which the length passes the limit.
 pub fn first_large_in(limit: u32, sections: &[&[Declaration]]) -> Option<Line>
-    ensures { result ≡ first_large_in limit 0 (borrowed sections.now) }
+    ensures { result ≡ first_large_in limit 0 (sections_now sections.now) }
 {
     let mut end = 0;
     for section in sections {

@@ -1,7 +1,7 @@
 -- What a data block holds, by its content.
 use Rattle.std.proofs.Common.{◌≡◌, ℕ, Bool, false, List, [], ◌∷◌, Some, None, refl, sym, ap, ◌∙◌}
 use Rattle.data_contents.specs.Contents.{Breaks}
-use Rattle.s7_base.specs.declared.broken.Break.{Break}
+use Rattle.s7_base.specs.declared.rule_break.Break.{Break}
 use Rattle.stl_rules.specs.DataBlocks.{bytes_with}
 use Rattle.stl_rules.specs.DeclarationRules.{scope_breaks}
 use Rattle.stl_rules.specs.Raw.{are_refused, most_in_block}
@@ -22,7 +22,7 @@ pub without : (sections : List (List Declaration)) (values : List RawInitial) (r
     → Breaks sections values refused (Some first) → None ≡ bytes_of_sections values sections
 without sections values refused first b = sym (ap (λ o. bytes_unless o (bytes_with sections values)) b.first_is)
 
-pub ruleset content_lemmas = (with_bytes, without)
+pub ruleset content_laws = (with_bytes, without)
 
 -- no declarations break no rule
 none_refused : are_refused most_in_block ([] ∷ []) ≡ false

@@ -4,15 +4,15 @@ use Rattle.std.specs.List.{fold}
 use Rattle.std.proofs.lemmas.List.Sums.{fold-append}
 use Rattle.s7_base.proofs.FirstBreak.{ranked}
 use Rattle.s7_base.specs.Broken.{comes_before, first_of_all, sooner}
-use Rattle.s7_base.specs.declared.broken.Break.{Break}
-use Rattle.symbol_names.specs.inner.Firsts.{joined, with_breaks}
+use Rattle.s7_base.specs.declared.rule_break.Break.{Break}
+use Rattle.symbol_names.specs.inner.Firsts.{first_of_two, with_breaks}
 
 -- the sooner of three, from either end
-three : (a x y : Break) → sooner (sooner (Some a) x) y ≡ joined (Some a) (sooner (Some x) y)
+three : (a x y : Break) → sooner (sooner (Some a) x) y ≡ first_of_two (Some a) (sooner (Some x) y)
 three a x y = by_tests (comes_before x a) (comes_before y x) (comes_before y a) refl refl refl
   where
     by_tests : (p q r : Bool) → comes_before x a ≡ p → comes_before y x ≡ q → comes_before y a ≡ r
-        → sooner (cond p (Some x) (Some a)) y ≡ joined (Some a) (cond q (Some y) (Some x))
+        → sooner (cond p (Some x) (Some a)) y ≡ first_of_two (Some a) (cond q (Some y) (Some x))
     by_tests true true true f g h = ap (λ b. cond b (Some y) (Some x)) g ∙ sym (ap (λ b. cond b (Some y) (Some a)) h)
     by_tests true true false f g h =
         let i = ranked x a true f in
@@ -28,24 +28,24 @@ three a x y = by_tests (comes_before x a) (comes_before y x) (comes_before y a) 
         absurd (omega (arith, i, j, k))
     by_tests false false false f g h = ap (λ b. cond b (Some y) (Some a)) h ∙ sym (ap (λ b. cond b (Some x) (Some a)) f)
 
-joined_sooner : (a : Option Break) (x : Break) (o : Option Break) → joined (sooner a x) o ≡ joined a (joined (Some x) o)
+joined_sooner : (a : Option Break) (x : Break) (o : Option Break) → first_of_two (sooner a x) o ≡ first_of_two a (first_of_two (Some x) o)
 joined_sooner None x None = refl
 joined_sooner None x (Some y) = by_test (comes_before y x)
   where
-    by_test : (t : Bool) → cond t (Some y) (Some x) ≡ joined None (cond t (Some y) (Some x))
+    by_test : (t : Bool) → cond t (Some y) (Some x) ≡ first_of_two None (cond t (Some y) (Some x))
     by_test true = refl
     by_test false = refl
 joined_sooner (Some a) x None = refl
 joined_sooner (Some a) x (Some y) = three a x y
 
 -- one so far is the first of it and of the first of the others
-folded : (a : Option Break) (xs : List Break) → fold sooner a xs ≡ joined a (first_of_all xs)
+folded : (a : Option Break) (xs : List Break) → fold sooner a xs ≡ first_of_two a (first_of_all xs)
 folded None [] = refl
 folded (Some a) [] = refl
 folded a (x ∷ xs) =
-    folded (sooner a x) xs ∙ joined_sooner a x (first_of_all xs) ∙ ap (joined a) (sym (folded (Some x) xs))
+    folded (sooner a x) xs ∙ joined_sooner a x (first_of_all xs) ∙ ap (first_of_two a) (sym (folded (Some x) xs))
 
-pub joins : (a : Option Break) (xs : List Break) → joined a (first_of_all xs) ≡ with_breaks a xs
+pub joins : (a : Option Break) (xs : List Break) → first_of_two a (first_of_all xs) ≡ with_breaks a xs
 unfolding with_breaks
 joins a xs = sym (folded a xs)
 

@@ -6,7 +6,7 @@ use Rattle.memory_areas.specs.declared.data_block.DataBlock.{DataBlock}
 use Rattle.memory_areas.specs.declared.sizes.TheConstants.{MOST_BLOCKS}
 use Rattle.s7_base.proofs.FirstBreak.{first_of_all_is_first}
 use Rattle.s7_base.specs.Broken.{first_of_all}
-use Rattle.s7_base.specs.declared.broken.Break.{Break}
+use Rattle.s7_base.specs.declared.rule_break.Break.{Break}
 use Rattle.s7_base.specs.declared.reason.Line.{Line}
 use Rattle.s7_base.specs.declared.reason.Reason.{Reason}
 use Rattle.s7_base.specs.declared.reason.Reason.TheVariants.{BadAddress, DuplicateBlock, DuplicateName}
@@ -16,9 +16,9 @@ use Rattle.stl_rules.specs.DeclarationRules.{is_named, key_of, with_name}
 use Rattle.stl_rules.specs.Layouts.{breaks_in}
 use Rattle.stl_rules.specs.Names.{block_number, may_have}
 use Rattle.stl_rules.specs.Programs.{block_name, block_of, block_with, symbol_of}
-use Rattle.stl_rules.specs.Raw.{Scope, most_local}
+use Rattle.stl_rules.specs.Raw.{OperandScope, most_local}
 use Rattle.stl_rules.specs.Stages.{blocks_behind, broken_if, content_breaks, dbs_behind, heading_breaks, instr_breaks, is_address, is_among, names, one_too_many, symbols_behind, with_block_number}
-use Rattle.stl_rules.specs.Verdict.{answered, resolved}
+use Rattle.stl_rules.specs.Verdict.{program_unless, resolved_program}
 use Rattle.stl_tree.specs.declared.program.Block.{Block}
 use Rattle.stl_tree.specs.declared.program.Program.{Program}
 use Rattle.stl_tree.specs.declared.program.Symbol.{Symbol}
@@ -63,7 +63,8 @@ symbols_kept before (line ∷ lines) h =
     (symbols_behind (with_name (key_of line.name) before) lines) h in
     let good : is_address line.address ≡ true
     = holds_not (is_address line.address) line.line BadAddress
-    (back_empty (broken_if (is_named (key_of line.name) before) line.line DuplicateName) (broken_if (not (is_address line.address)) line.line BadAddress) own) in
+    (back_empty (broken_if (is_named (key_of line.name) before) line.line DuplicateName)
+    (broken_if (not (is_address line.address)) line.line BadAddress) own) in
     ap (λ b. cons_option (cond b (symbol_of line) None) (filter_map symbol_kept lines)) good
     ∙ ap (cons_option (symbol_of line)) (symbols_kept (with_name (key_of line.name) before) lines later)
 
@@ -96,9 +97,11 @@ dbs_kept symbols before [] h = refl
 dbs_kept symbols before (d ∷ dbs) h =
     let number : Result ℕ Reason = block_number symbols block.Db d.name in
     let own : heading_breaks block.Db d.line before number ++ content_breaks d.initial d.kind ≡ []
-    = front_empty (heading_breaks block.Db d.line before number ++ content_breaks d.initial d.kind) (dbs_behind symbols (with_block_number block.Db before number) dbs) h in
+    = front_empty (heading_breaks block.Db d.line before number ++ content_breaks d.initial d.kind)
+    (dbs_behind symbols (with_block_number block.Db before number) dbs) h in
     let later : dbs_behind symbols (with_block_number block.Db before number) dbs ≡ []
-    = back_empty (heading_breaks block.Db d.line before number ++ content_breaks d.initial d.kind) (dbs_behind symbols (with_block_number block.Db before number) dbs) h in
+    = back_empty (heading_breaks block.Db d.line before number ++ content_breaks d.initial d.kind)
+    (dbs_behind symbols (with_block_number block.Db before number) dbs) h in
     ap (λ o. cons_option o (filter_map (data_kept true symbols) dbs))
     (data_is d.line before d.initial d.kind number
     (front_empty (heading_breaks block.Db d.line before number) (content_breaks d.initial d.kind) own)
@@ -121,12 +124,13 @@ blocks_kept : (text : RawProgram) (before : List (BlockKind × ℕ)) (raws : Lis
     → map (block_within text) raws ≡ map (block_of text) raws
 blocks_kept text before [] h = refl
 blocks_kept text before (raw ∷ raws) h =
-    let scope : Scope = record { text = text; block = raw } in
+    let scope : OperandScope = record { text = text; block = raw } in
     let number : Result ℕ Reason = block_number text.symbols raw.kind raw.name in
     let heading : List Break = heading_breaks raw.kind raw.line before number in
     let temps : List Break = breaks_in most_local (raw.temps ∷ []) in
     let body : List Break = flat_map (instr_breaks scope) raw.body in
-    let own : (heading ++ temps) ++ body ≡ [] = front_empty ((heading ++ temps) ++ body) (blocks_behind text (with_block_number raw.kind before number) raws) h in
+    let own : (heading ++ temps) ++ body ≡ [] =
+    front_empty ((heading ++ temps) ++ body) (blocks_behind text (with_block_number raw.kind before number) raws) h in
     let later : blocks_behind text (with_block_number raw.kind before number) raws ≡ []
     = back_empty ((heading ++ temps) ++ body) (blocks_behind text (with_block_number raw.kind before number) raws) h in
     let good : heading ≡ [] = front_empty heading temps (front_empty (heading ++ temps) body own) in
@@ -143,13 +147,13 @@ same_program {ds} {es} {bs} {cs} {ss} {ts} d b s =
     ap (λ x. program_with x bs ss) d ∙ ap (λ x. program_with es x ss) b ∙ ap (λ x. program_with es cs x) s
 
 module _ (raw : RawProgram) where
-  pub refused_at : (first : Break) → Some first ≡ first_of_all (names raw) → resolved raw ≡ Err (Refused first.line first.rule)
-  refused_at first h = sym (ap (answered raw) h)
+  pub refused_at : (first : Break) → Some first ≡ first_of_all (names raw) → resolved_program raw ≡ Err (Refused first.line first.rule)
+  refused_at first h = sym (ap (program_unless raw) h)
 
   pub accepted_as : (dbs : List DataBlock) (blocks : List Block) (symbols : List Symbol) → None ≡ first_of_all (names raw)
       → dbs ≡ in_order (filter_map (data_kept (is_none (slice_get raw.dbs MOST_BLOCKS)) raw.symbols) raw.dbs)
       → blocks ≡ map (block_within raw) raw.blocks → symbols ≡ filter_map symbol_kept raw.symbols
-      → resolved raw ≡ Ok (record { dbs = dbs; instances = []; blocks = blocks; symbols = symbols })
+      → resolved_program raw ≡ Ok (record { dbs = dbs; instances = []; blocks = blocks; symbols = symbols })
   accepted_as dbs blocks symbols h d b s =
       let empty : names raw ≡ [] = first_of_all_is_first.none (names raw) (sym h) in
       let own_symbols : List Break = symbols_behind [] raw.symbols in
@@ -162,8 +166,9 @@ module _ (raw : RawProgram) where
       let dbs_are : dbs ≡ in_order (filter_map (data_of raw.symbols) raw.dbs)
       = d ∙ ap (λ b. in_order (filter_map (data_kept b raw.symbols) raw.dbs)) keep
       ∙ ap in_order (dbs_kept raw.symbols [] raw.dbs (back_empty own_symbols own_dbs two)) in
-      let blocks_are : blocks ≡ map (block_of raw) raw.blocks = b ∙ blocks_kept raw [] raw.blocks (back_empty ((own_symbols ++ own_dbs) ++ many) own_blocks empty) in
+      let blocks_are : blocks ≡ map (block_of raw) raw.blocks =
+      b ∙ blocks_kept raw [] raw.blocks (back_empty ((own_symbols ++ own_dbs) ++ many) own_blocks empty) in
       let symbols_are : symbols ≡ filter_map symbol_of raw.symbols = s ∙ symbols_kept [] raw.symbols (front_empty own_symbols own_dbs two) in
-      sym (ap (answered raw) h) ∙ ap (λ (p : Program). Ok p) (sym (same_program dbs_are blocks_are symbols_are))
+      sym (ap (program_unless raw) h) ∙ ap (λ (p : Program). Ok p) (sym (same_program dbs_are blocks_are symbols_are))
 
-pub ruleset resolve_lemmas = (refused_at, accepted_as)
+pub ruleset resolve_laws = (refused_at, accepted_as)

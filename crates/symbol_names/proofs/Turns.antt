@@ -4,7 +4,7 @@ use Rattle.std.specs.Prelude.{IfSome}
 use Rattle.std.proofs.lemmas.List.{at_drop_more, drop_all, get_or-map, length-map}
 use Rattle.std.proofs.lemmas.List.Sums.{fold_more}
 use Rattle.std.proofs.lemmas.Option.{slice_get-map, slice_get_read}
-use Rattle.s7_base.specs.declared.broken.Break.{Break}
+use Rattle.s7_base.specs.declared.rule_break.Break.{Break}
 use Rattle.s7_base.specs.declared.reason.Reason.{Reason}
 use Rattle.stl_rules.specs.DeclarationRules.{key_of, with_name}
 use Rattle.stl_rules.specs.Names.{block_number}
@@ -58,7 +58,8 @@ pub symbol_turn : (first later whole : Option Break) (lines : List SymbolLine) (
     → with_breaks first (symbols_behind (names_before (take i lines)) (drop i lines)) ≡ whole
     → with_breaks later (symbols_behind (names_before (take (i + 1) lines)) (drop (i + 1) lines)) ≡ whole
 symbol_turn first later whole lines i line before is e so_far =
-    turn symbols_behind line_breaks next_name (λ s. refl) (λ s x xs. refl) first later whole (names_before (take i lines)) (names_before (take (i + 1) lines)) lines i line before is
+    turn symbols_behind line_breaks next_name (λ s. refl) (λ s x xs. refl) first later whole
+    (names_before (take i lines)) (names_before (take (i + 1) lines)) lines i line before is
     (fold_more next_name [] lines i line before ∙ ap (next_name (names_before (take i lines))) (sym is)) e so_far
 
 pub symbols_ended : (first whole : Option Break) (lines : List SymbolLine) (i : ℕ) → length lines ≤ i
@@ -124,4 +125,5 @@ module _ (text : RawProgram) where
   pub blocks_ended : (first whole : Option Break) (raws : List RawBlock) (i : ℕ) → length raws ≤ i
       → with_breaks first (blocks_behind text (numbers_before (take i (block_numbers text.symbols raws))) (drop i raws)) ≡ whole → first ≡ whole
   blocks_ended first whole raws i past so_far =
-      ended (blocks_behind text) (block_breaks text) next_block (λ s. refl) (λ s x xs. refl) first whole (numbers_before (take i (block_numbers text.symbols raws))) raws i past so_far
+      ended (blocks_behind text) (block_breaks text) next_block (λ s. refl) (λ s x xs. refl) first whole
+      (numbers_before (take i (block_numbers text.symbols raws))) raws i past so_far

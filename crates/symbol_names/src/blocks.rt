@@ -1,4 +1,4 @@
-//! The organization blocks of a text.
+//! The blocks of a text that are no data blocks.
 ghost use Rattle.std.specs.Prelude.{◌≡◌, ◌∷◌, ◌++◌, [], IfOk, OnOk, Ok, map, take};
 ghost use Rattle.std.specs.List.{flat_map};
 ghost use Rattle.name_tables.specs.Before.{block_numbers, numbers_before};
@@ -11,10 +11,10 @@ ghost use Rattle.symbol_names.specs.inner.Firsts.{with_breaks};
 ghost use Rattle.symbol_names.specs.inner.Kept.{block_breaks, block_within, content_breaks_of, name_within};
 ghost use Rattle.symbol_names.specs.inner.Refused.{own_of};
 
+use crate::declarations::IndexedDeclarations;
 use crate::first::{join, note};
 use crate::headings::note_heading;
-use crate::laid::Laid;
-use crate::scope::Scope;
+use crate::scope::OperandScope;
 use component_index::Components;
 use instruction_operands::{may_have, op_or_rule};
 use name_tables::Names;
@@ -24,20 +24,20 @@ use stl_mnemonics::mnemonic_named;
 use stl_tree::{Block, BlockKind, BlockName, Instr, Op, RawBlock, RawInstr};
 use symbol_layout::{MOST_LOCAL, first_break};
 
-/// What is found of blocks.
+/// The blocks of a text, and the first rule that is broken in them.
 #[derive(Drop)]
 pub struct Blocks {
-    /// One for each raw block, in the order of the text.
+    /// One block for each raw block, in the order of the text.
     pub made: List<Block>,
 
     pub first: Option<Break>,
 }
 
-/// The instruction that a raw one is, any where it breaks a rule, which is noted then.
+/// The instruction of a raw one; where it breaks a rule this is noted, and the instruction is any.
 #[tactic(auto, using(crate::proofs::Firsts::none_more), unfolding(stl_rules::specs::Programs::op_of))]
 fn op_of(
     alloc: Global,
-    scope: &Scope<'_, '_>,
+    scope: &OperandScope<'_, '_>,
     raw: &RawInstr,
     first: &mut Option<Break>,
 ) -> Result<Op, NoMemory>
@@ -45,8 +45,8 @@ fn op_of(
     ensures first { OnOk result (first.new ≡ with_breaks first.old (instr_breaks scope.now raw.now)) }
 {
     let what = mnemonic_named(raw.op.mnemonic.as_slice());
-    let given = scope.given(alloc, &raw.op.operand)?;
-    match op_or_rule(what, given) {
+    let resolved_operand = scope.resolved_operand(alloc, &raw.op.operand)?;
+    match op_or_rule(what, resolved_operand) {
         Ok(op) => Ok(op),
         Err(rule) => {
             note(first, raw.line, rule);
@@ -55,10 +55,10 @@ fn op_of(
     }
 }
 
-/// One more instruction of a body.
+/// Adds an instruction to a body.
 fn put_instr(
     alloc: Global,
-    scope: &Scope<'_, '_>,
+    scope: &OperandScope<'_, '_>,
     raw: &RawInstr,
     body: &mut List<Instr>,
     first: &mut Option<Break>,
@@ -74,7 +74,7 @@ fn put_instr(
 #[tactic(auto, using(crate::proofs::Firsts::behind, crate::proofs::Firsts::none_more))]
 fn put_instrs(
     alloc: Global,
-    scope: &Scope<'_, '_>,
+    scope: &OperandScope<'_, '_>,
     raws: &[RawInstr],
     body: &mut List<Instr>,
     first: &mut Option<Break>,
@@ -91,7 +91,7 @@ fn put_instrs(
 /// The instructions of a block.
 fn body_of(
     alloc: Global,
-    scope: &Scope<'_, '_>,
+    scope: &OperandScope<'_, '_>,
     first: &mut Option<Break>,
 ) -> Result<List<Instr>, NoMemory>
     ensures body { IfOk result (λ body. body ≡ body_of scope.now) }
@@ -118,7 +118,7 @@ fn name_numbered(kind: BlockKind, number: u16) -> BlockName
     }
 }
 
-/// The name of a block, any where its number is none of its kind.
+/// The name of a block; any name where the number is none of its kind.
 fn name_within(kind: BlockKind, number: Result<u32, Reason>) -> BlockName
     ensures { result ≡ name_within kind number }
 {
@@ -128,13 +128,13 @@ fn name_within(kind: BlockKind, number: Result<u32, Reason>) -> BlockName
     }
 }
 
-/// The temporaries of a block, and what they break.
+/// The temporaries of a block; notes the rule that they break.
 #[tactic(auto, using(crate::proofs::Firsts::joins))]
 fn temps_of<'t>(
     alloc: Global,
     raw: &'t RawBlock,
     first: &mut Option<Break>,
-) -> Result<Laid<'t>, NoMemory>
+) -> Result<IndexedDeclarations<'t>, NoMemory>
     ensures temps { IfOk result (λ temps. temps ≡ (most_local, raw.now.temps ∷ [])) }
     ensures first { OnOk result (first.new ≡ with_breaks first.old (breaks_in most_local (raw.now.temps ∷ []))) }
 {
@@ -142,7 +142,7 @@ fn temps_of<'t>(
     let temps_first = first_break(alloc, &temps, MOST_LOCAL)?;
     join(first, temps_first);
     let components = Components::new(alloc, &temps)?;
-    Ok(Laid::new(components, MOST_LOCAL, temps_first.is_some()))
+    Ok(IndexedDeclarations::new(components, MOST_LOCAL, temps_first.is_some()))
 }
 
 /// The instructions of a block, by what names mean in it.
@@ -150,31 +150,31 @@ fn temps_of<'t>(
 fn body_in(
     alloc: Global,
     names: &Names<'_>,
-    laid: &[Laid<'_>],
+    declarations: &[IndexedDeclarations<'_>],
     raw: &RawBlock,
     first: &mut Option<Break>,
 ) -> Result<List<Instr>, NoMemory>
-    requires { laid.now ≡ map own_of names.now.dbs }
+    requires { declarations.now ≡ map own_of names.now.dbs }
     ensures body { IfOk result (λ body. body ≡ body_of (record { text = names.now; block = raw.now })) }
     ensures first { OnOk result (first.new ≡ with_breaks first.old (content_breaks_of (record { text = names.now; block = raw.now }))) }
 {
     let temps = temps_of(alloc, raw, first)?;
-    let scope = Scope::new(names, laid, raw, &temps);
+    let scope = OperandScope::new(names, declarations, raw, &temps);
     body_of(alloc, &scope, first)
 }
 
-/// One more block, by its place and its number.
+/// Adds a block, by its place and its number.
 #[tactic(auto, using(crate::proofs::Firsts::behind))]
 fn put_block(
     alloc: Global,
     names: &Names<'_>,
-    laid: &[Laid<'_>],
+    declarations: &[IndexedDeclarations<'_>],
     place: usize,
     number: Result<u32, Reason>,
     raw: &RawBlock,
     blocks: &mut Blocks,
 ) -> Result<(), NoMemory>
-    requires laid { laid.now ≡ map own_of names.now.dbs }
+    requires declarations { declarations.now ≡ map own_of names.now.dbs }
     requires number { number ≡ block_number names.now.symbols raw.now.kind raw.now.name }
     ensures made { OnOk result (blocks.new.made ≡ blocks.old.made ++ block_within names.now raw.now ∷ []) }
     ensures first { OnOk result (blocks.new.first ≡ with_breaks blocks.old.first (block_breaks names.now
@@ -188,7 +188,7 @@ fn put_block(
         number,
         &mut blocks.first,
     );
-    let body = body_in(alloc, names, laid, raw, &mut blocks.first)?;
+    let body = body_in(alloc, names, declarations, raw, &mut blocks.first)?;
     blocks.made.push(Block {
         name: name_within(raw.kind, number),
         line: raw.line,
@@ -197,15 +197,15 @@ fn put_block(
     })
 }
 
-/// More blocks, each with those before it.
+/// Adds blocks one after another.
 fn put_each(
     alloc: Global,
     names: &Names<'_>,
-    laid: &[Laid<'_>],
+    declarations: &[IndexedDeclarations<'_>],
     raws: &[RawBlock],
     blocks: &mut Blocks,
 ) -> Result<(), NoMemory>
-    requires laid { laid.now ≡ map own_of names.now.dbs }
+    requires declarations { declarations.now ≡ map own_of names.now.dbs }
     requires raws { raws.now ≡ names.now.blocks }
     ensures made { OnOk result (blocks.new.made ≡ blocks.old.made ++ map (block_within names.now) raws.now) }
     ensures first { OnOk result (blocks.new.first ≡ with_breaks blocks.old.first (blocks_behind names.now [] raws.now)) }
@@ -213,20 +213,20 @@ fn put_each(
     for place in 0..raws.len() {
         let raw = &raws[place];
         let number = names.blocks().number_at(place);
-        put_block(alloc, names, laid, place, number, raw, blocks)?;
+        put_block(alloc, names, declarations, place, number, raw, blocks)?;
     }
     Ok(())
 }
 
-/// The blocks of a text.
+/// Adds the blocks of a text.
 pub fn put_blocks(
     alloc: Global,
     names: &Names<'_>,
-    laid: &[Laid<'_>],
+    declarations: &[IndexedDeclarations<'_>],
     raws: &[RawBlock],
     first: Option<Break>,
 ) -> Result<Blocks, NoMemory>
-    requires laid { laid.now ≡ map own_of names.now.dbs }
+    requires declarations { declarations.now ≡ map own_of names.now.dbs }
     requires raws { raws.now ≡ names.now.blocks }
     ensures made { IfOk result (λ b. b.made ≡ map (block_within names.now) raws.now) }
     ensures first { IfOk result (λ b. b.first ≡ with_breaks first (blocks_behind names.now [] raws.now)) }
@@ -235,6 +235,6 @@ pub fn put_blocks(
         made: List::new(alloc),
         first,
     };
-    put_each(alloc, names, laid, raws, &mut blocks)?;
+    put_each(alloc, names, declarations, raws, &mut blocks)?;
     Ok(blocks)
 }

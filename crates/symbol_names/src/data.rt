@@ -13,9 +13,9 @@ ghost use Rattle.symbol_names.specs.inner.Kept.{bytes_kept, bytes_of_sections, d
 ghost use Rattle.name_tables.specs.Before.{db_numbers, numbers_before};
 ghost use Rattle.symbol_names.specs.inner.Refused.{decls_of, is_refused, own_of};
 
+use crate::declarations::IndexedDeclarations;
 use crate::first::{join, note};
 use crate::headings::note_heading;
-use crate::laid::Laid;
 use component_index::Components;
 use data_contents::{Content, content_of};
 use instruction_operands::may_have;
@@ -26,53 +26,53 @@ use std::alloc::Global;
 use stl_tree::{BlockKind, Declaration, RawData, RawDataKind, RawInitial};
 use symbol_layout::MOST_IN_BLOCK;
 
-/// What a data block comes to.
+/// The result for a data block.
 #[derive(Drop)]
-struct Filled {
-    /// Its declarations break a rule.
+struct DataBlockResult {
+    /// Whether its declarations break a rule.
     refused: bool,
 
     first: Option<Break>,
 
-    /// Its bytes, where it has declarations of its own and breaks no rule.
+    /// The bytes of the data block, where it has declarations of its own and breaks no rule.
     bytes: Option<List<u8>>,
 }
 
-/// What is found of data blocks.
+/// The data blocks of a text, and the first rule that is broken in them.
 #[derive(Drop)]
-pub struct Found<'t> {
-    /// Their declarations.
-    pub laid: Vec<Laid<'t>>,
+pub struct FoundDataBlocks<'t> {
+    /// The declarations of the data blocks.
+    pub declarations: Vec<IndexedDeclarations<'t>>,
 
-    /// Those that break no rule of their own.
+    /// The data blocks that break no rule of their own.
     pub made: List<DataBlock>,
 
     pub first: Option<Break>,
 }
 
-/// What declarations and initial values come to.
-#[tactic(auto, using(crate::proofs::Contents::content_lemmas))]
+/// The result of declarations and initial values.
+#[tactic(auto, using(crate::proofs::Contents::content_laws))]
 fn fill_own(
     alloc: Global,
     components: &Components<'_>,
     values: &[RawInitial],
-) -> Result<Filled, NoMemory>
+) -> Result<DataBlockResult, NoMemory>
     ensures refused { IfOk result (λ f. f.refused ≡ are_refused most_in_block components.now) }
     ensures first { IfOk result (λ f. f.first ≡ first_of_all (valued_breaks components.now values.now)) }
     ensures bytes { IfOk result (λ f. f.bytes ≡ bytes_of_sections values.now components.now) }
 {
     match content_of(alloc, components, values)? {
-        Content::Bytes(bytes) => Ok(Filled {
+        Content::Bytes(bytes) => Ok(DataBlockResult {
             refused: false,
             first: None,
             bytes: Some(bytes),
         }),
-        Content::BadDeclarations(first) => Ok(Filled {
+        Content::BadDeclarations(first) => Ok(DataBlockResult {
             refused: true,
             first: Some(first),
             bytes: None,
         }),
-        Content::BadValues(first) => Ok(Filled {
+        Content::BadValues(first) => Ok(DataBlockResult {
             refused: false,
             first: Some(first),
             bytes: None,
@@ -80,8 +80,12 @@ fn fill_own(
     }
 }
 
-/// What a data block comes to, by the index of its declarations.
-fn fill(alloc: Global, components: &Components<'_>, d: &RawData) -> Result<Filled, NoMemory>
+/// The result for a data block, by the index of its declarations.
+fn fill(
+    alloc: Global,
+    components: &Components<'_>,
+    d: &RawData,
+) -> Result<DataBlockResult, NoMemory>
     requires { components.now ≡ decls_of d.now.kind ∷ [] }
     ensures refused { IfOk result (λ f. f.refused ≡ is_refused d.now.kind) }
     ensures first { IfOk result (λ f. f.first ≡ first_of_all (content_breaks d.now.initial d.now.kind)) }
@@ -89,7 +93,7 @@ fn fill(alloc: Global, components: &Components<'_>, d: &RawData) -> Result<Fille
 {
     match d.kind {
         RawDataKind::Own(_) => fill_own(alloc, components, d.initial.as_slice()),
-        RawDataKind::Instance(_) => Ok(Filled {
+        RawDataKind::Instance(_) => Ok(DataBlockResult {
             refused: false,
             first: None,
             bytes: None,
@@ -121,7 +125,7 @@ fn data_by(number: Result<u32, Reason>, bytes: Option<List<u8>>) -> Option<DataB
     }
 }
 
-/// Puts a data block to the others, where there are not too many.
+/// Adds a data block to the others, where there are not too many.
 fn put_made(
     made: &mut List<DataBlock>,
     keep: bool,
@@ -145,7 +149,7 @@ fn decls_of(kind: &RawDataKind) -> &[Declaration]
     }
 }
 
-/// One more data block, by its place and its number.
+/// Adds a data block, by its place and its number.
 #[tactic(auto, using(crate::proofs::Firsts::behind, crate::proofs::Firsts::joins, crate::proofs::Contents::refused_is))]
 fn put_data<'t>(
     alloc: Global,
@@ -154,10 +158,10 @@ fn put_data<'t>(
     place: usize,
     number: Result<u32, Reason>,
     d: &'t RawData,
-    found: &mut Found<'t>,
+    found: &mut FoundDataBlocks<'t>,
 ) -> Result<(), NoMemory>
     requires { number ≡ block_number names.now.symbols block.Db d.now.name }
-    ensures laid { OnOk result (found.new.laid.items ≡ found.old.laid.items ++ own_of d.now ∷ []) }
+    ensures declarations { OnOk result (found.new.declarations.items ≡ found.old.declarations.items ++ own_of d.now ∷ []) }
     ensures made { OnOk result (found.new.made ≡ found.old.made ++ option_to_list (data_kept keep names.now.symbols d.now)) }
     ensures first { OnOk result (found.new.first ≡ with_breaks found.old.first (db_breaks
         (numbers_before (take place (db_numbers names.now.symbols names.now.dbs))) d.now (block_number names.now.symbols block.Db d.now.name))) }
@@ -171,20 +175,18 @@ fn put_data<'t>(
         &mut found.first,
     );
     let components = Components::new(alloc, &[decls_of(&d.kind)])?;
-    let Filled {
+    let DataBlockResult {
         refused,
         first,
         bytes,
     } = fill(alloc, &components, d)?;
     join(&mut found.first, first);
     put_made(&mut found.made, keep, data_by(number, bytes))?;
-    found
-        .laid
-        .push(Laid::new(components, MOST_IN_BLOCK, refused))?;
+    found.declarations.push(IndexedDeclarations::new(components, MOST_IN_BLOCK, refused))?;
     Ok(())
 }
 
-/// What the data blocks break whose place is past the last that a program may have.
+/// Notes the rule that the data blocks break whose place is past the last that a program may have.
 #[tactic(auto, using(crate::proofs::Firsts::none_more))]
 pub fn note_too_many(dbs: &[RawData], first: &mut Option<Break>)
     ensures { first.new ≡ with_breaks first.old (one_too_many (slice_get dbs.now MOST_BLOCKS)) }
@@ -195,7 +197,7 @@ pub fn note_too_many(dbs: &[RawData], first: &mut Option<Break>)
     }
 }
 
-/// There are no more data blocks than a program may have.
+/// Whether there are no more data blocks than a program may have.
 fn are_few(dbs: &[RawData]) -> bool
     ensures { result ≡ is_none (slice_get dbs.now MOST_BLOCKS) }
 {
@@ -205,16 +207,16 @@ fn are_few(dbs: &[RawData]) -> bool
     }
 }
 
-/// More data blocks, each with those before it.
+/// Adds data blocks one after another.
 fn put_each<'t>(
     alloc: Global,
     names: &Names<'_>,
     keep: bool,
     dbs: &'t [RawData],
-    found: &mut Found<'t>,
+    found: &mut FoundDataBlocks<'t>,
 ) -> Result<(), NoMemory>
     requires { dbs.now ≡ names.now.dbs }
-    ensures laid { OnOk result (found.new.laid.items ≡ found.old.laid.items ++ map own_of dbs.now) }
+    ensures declarations { OnOk result (found.new.declarations.items ≡ found.old.declarations.items ++ map own_of dbs.now) }
     ensures made { OnOk result (found.new.made ≡ found.old.made ++ filter_map (data_kept keep names.now.symbols) dbs.now) }
     ensures first { OnOk result (found.new.first ≡ with_breaks found.old.first (dbs_behind names.now.symbols [] dbs.now)) }
 {
@@ -226,20 +228,20 @@ fn put_each<'t>(
     Ok(())
 }
 
-/// The data blocks of a text.
+/// Adds the data blocks of a text.
 pub fn put_dbs<'t>(
     alloc: Global,
     names: &Names<'_>,
     dbs: &'t [RawData],
     first: Option<Break>,
-) -> Result<Found<'t>, NoMemory>
+) -> Result<FoundDataBlocks<'t>, NoMemory>
     requires { dbs.now ≡ names.now.dbs }
-    ensures laid { IfOk result (λ f. f.laid.items ≡ map own_of dbs.now) }
+    ensures declarations { IfOk result (λ f. f.declarations.items ≡ map own_of dbs.now) }
     ensures made { IfOk result (λ f. f.made ≡ filter_map (data_kept (is_none (slice_get dbs.now MOST_BLOCKS)) names.now.symbols) dbs.now) }
     ensures first { IfOk result (λ f. f.first ≡ with_breaks first (dbs_behind names.now.symbols [] dbs.now)) }
 {
-    let mut found = Found {
-        laid: Vec::new(alloc),
+    let mut found = FoundDataBlocks {
+        declarations: Vec::new(alloc),
         made: List::new(alloc),
         first,
     };

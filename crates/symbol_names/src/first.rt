@@ -1,20 +1,20 @@
 //! The first of the broken rules so far.
 ghost use Rattle.std.specs.Prelude.{◌≡◌};
-ghost use Rattle.s7_base.specs.Broken.{broken};
+ghost use Rattle.s7_base.specs.Broken.{rule_break};
 ghost use Rattle.stl_rules.specs.Stages.{broken_if};
-ghost use Rattle.symbol_names.specs.inner.Firsts.{joined, with_breaks};
+ghost use Rattle.symbol_names.specs.inner.Firsts.{first_of_two, with_breaks};
 
 use s7_base::{Break, Line, Reason, sooner};
 
-/// One more broken rule.
+/// Notes a broken rule.
 #[tactic(auto, using(crate::proofs::Firsts::one_more))]
 pub fn note(first: &mut Option<Break>, line: Line, rule: Reason)
-    ensures { first.new ≡ with_breaks first.old (broken line rule) }
+    ensures { first.new ≡ with_breaks first.old (rule_break line rule) }
 {
     *first = sooner(*first, Break { line, rule });
 }
 
-/// One more broken rule, where something holds.
+/// Notes a broken rule where a condition is true.
 #[tactic(auto, using(crate::proofs::Firsts::none_more))]
 pub fn note_if(first: &mut Option<Break>, holds: bool, line: Line, rule: Reason)
     ensures { first.new ≡ with_breaks first.old (broken_if holds line rule) }
@@ -24,9 +24,9 @@ pub fn note_if(first: &mut Option<Break>, holds: bool, line: Line, rule: Reason)
     }
 }
 
-/// The first of some more broken rules.
+/// Notes the first of some more broken rules.
 pub fn join(first: &mut Option<Break>, other: Option<Break>)
-    ensures { first.new ≡ joined first.old other }
+    ensures { first.new ≡ first_of_two first.old other }
 {
     if let Some(other) = other {
         *first = sooner(*first, other);

@@ -13,7 +13,7 @@ use std::alloc::Global;
 use stl_places::is_in_area;
 use stl_tree::{BlockKind, SymbolAddress, SymbolLine};
 
-/// An address is one of its area, or a number of its kind.
+/// Whether an address is one of its area, or a number of its kind.
 pub fn is_address(address: SymbolAddress) -> bool
     ensures { result ≡ is_address address }
 {
@@ -24,7 +24,7 @@ pub fn is_address(address: SymbolAddress) -> bool
     }
 }
 
-/// What a line of the symbol table breaks.
+/// Notes the rules that a line of the symbol table breaks.
 #[tactic(auto, using(crate::proofs::Firsts::behind))]
 fn note_line(
     alloc: Global,
@@ -46,7 +46,7 @@ fn note_line(
     Ok(())
 }
 
-/// What the symbol table breaks.
+/// Notes the rules that the symbol table breaks.
 pub fn note_symbols(
     alloc: Global,
     symbols: &Symbols<'_>,
@@ -63,7 +63,7 @@ pub fn note_symbols(
     Ok(())
 }
 
-/// What the heading of a block breaks.
+/// Notes the rules that the heading of a block breaks.
 #[tactic(auto, using(crate::proofs::Firsts::behind))]
 pub fn note_heading(
     kind: BlockKind,

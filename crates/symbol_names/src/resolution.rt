@@ -7,11 +7,11 @@ ghost use Rattle.s7_base.specs.Answers.{Answers};
 ghost use Rattle.s7_base.specs.Broken.{first_of_all};
 ghost use Rattle.stl_rules.specs.Programs.{symbol_area, symbol_in};
 ghost use Rattle.stl_rules.specs.Stages.{names as names_stage};
-ghost use Rattle.stl_rules.specs.Verdict.{resolved};
+ghost use Rattle.stl_rules.specs.Verdict.{resolved_program};
 ghost use Rattle.symbol_names.specs.inner.Kept.{block_within, data_kept, symbol_kept};
 
 use crate::blocks::{Blocks, put_blocks};
-use crate::data::{Found, note_too_many, put_dbs};
+use crate::data::{FoundDataBlocks, note_too_many, put_dbs};
 use crate::headings::{is_address, note_symbols};
 use data_contents::in_order;
 use memory_areas::{Area, AreaName, DataBlock, Place};
@@ -22,15 +22,15 @@ use stl_tree::{Block, Program, RawPlace, RawProgram, Symbol, SymbolAddress, Symb
 
 /// The parts of a program but for its symbols, as far as they break no rule.
 #[derive(Drop)]
-struct Parts {
+struct ProgramParts {
     dbs: List<DataBlock>,
     blocks: List<Block>,
     first: Option<Break>,
 }
 
-/// All that a raw program breaks, and the parts that can be made, by its names.
+/// All rules that a raw program breaks, and the parts that can be made, by its names.
 #[tactic(auto, using(crate::proofs::Firsts::behind, crate::proofs::Firsts::from_none))]
-fn parts_by(alloc: Global, names: &Names<'_>, raw: &RawProgram) -> Result<Parts, NoMemory>
+fn parts_by(alloc: Global, names: &Names<'_>, raw: &RawProgram) -> Result<ProgramParts, NoMemory>
     requires { names.now ≡ raw.now }
     ensures dbs { IfOk result (λ p. p.dbs ≡ filter_map (data_kept (is_none (slice_get raw.now.dbs MOST_BLOCKS)) raw.now.symbols) raw.now.dbs) }
     ensures blocks { IfOk result (λ p. p.blocks ≡ map (block_within raw.now) raw.now.blocks) }
@@ -38,23 +38,33 @@ fn parts_by(alloc: Global, names: &Names<'_>, raw: &RawProgram) -> Result<Parts,
 {
     let mut first = None;
     note_symbols(alloc, names.symbols(), raw.symbols.as_slice(), &mut first)?;
-    let Found { laid, made, first } = put_dbs(alloc, names, raw.dbs.as_slice(), first)?;
+    let FoundDataBlocks {
+        declarations,
+        made,
+        first,
+    } = put_dbs(alloc, names, raw.dbs.as_slice(), first)?;
     let mut later = first;
     note_too_many(raw.dbs.as_slice(), &mut later);
-    let blocks = put_blocks(alloc, names, laid.as_slice(), raw.blocks.as_slice(), later)?;
+    let blocks = put_blocks(
+        alloc,
+        names,
+        declarations.as_slice(),
+        raw.blocks.as_slice(),
+        later,
+    )?;
     let Blocks {
         made: blocks,
         first,
     } = blocks;
-    Ok(Parts {
+    Ok(ProgramParts {
         dbs: made,
         blocks,
         first,
     })
 }
 
-/// All that a raw program breaks, and the parts that can be made.
-fn parts_of(alloc: Global, raw: &RawProgram) -> Result<Parts, NoMemory>
+/// All rules that a raw program breaks, and the parts that can be made.
+fn parts_of(alloc: Global, raw: &RawProgram) -> Result<ProgramParts, NoMemory>
     ensures dbs { IfOk result (λ p. p.dbs ≡ filter_map (data_kept (is_none (slice_get raw.now.dbs MOST_BLOCKS)) raw.now.symbols) raw.now.dbs) }
     ensures blocks { IfOk result (λ p. p.blocks ≡ map (block_within raw.now) raw.now.blocks) }
     ensures first { IfOk result (λ p. p.first ≡ first_of_all (names_stage raw.now)) }
@@ -125,11 +135,11 @@ fn put_symbol(symbols: &mut List<Symbol>, symbol: Option<Symbol>) -> Result<(), 
 }
 
 /// The program of a raw program whose names, blocks and layouts break no rule, or the first rule that they break.
-#[tactic(auto, using(crate::proofs::Kept::resolve_lemmas))]
+#[tactic(auto, using(crate::proofs::Kept::resolve_laws))]
 pub fn resolve(alloc: Global, raw: RawProgram) -> Result<Program, Rejection>
-    ensures { Answers result (resolved raw) }
+    ensures { Answers result (resolved_program raw) }
 {
-    let Parts { dbs, blocks, first } = parts_of(alloc, &raw)?;
+    let ProgramParts { dbs, blocks, first } = parts_of(alloc, &raw)?;
     if let Some(first) = first {
         return Err(Rejection::Refused(first.line, first.rule));
     }

@@ -6,11 +6,11 @@ use s7_base::NoMemory;
 use s7_io::{MemSink, MemSource, NoFile, Source, SureSource};
 use std::alloc::Global;
 
-/// What the program ends with, and what it has written.
+/// The status with which the program ends, and what it has written.
 pub type Answer = (Status, MemSink);
 
-/// Asks with these arguments, for a source and what else the case gives. As the program's own `main` does it hands in a
-/// missing file where the arguments name no image.
+/// The answer to these arguments, for a source and what else the case gives. As the program's own `main`
+/// does, it gives a missing file where the arguments name no image.
 pub fn answer(
     alloc: Global,
     words: &[String],
@@ -27,7 +27,7 @@ pub fn answer(
     }
 }
 
-/// Asks over an image. A source of which no read fails is one that can't fail.
+/// The answer to these arguments over an image. A source of which no read fails is one that can't fail.
 fn answer_over<M: Source>(
     alloc: Global,
     words: &[String],
@@ -37,14 +37,14 @@ fn answer_over<M: Source>(
 ) -> Result<Answer, NoMemory> {
     if faults.read == 0 {
         let mut program = SureSource::new(alloc, source, 4096)?;
-        written(alloc, words, &mut program, image, faults)
+        answer_from(alloc, words, &mut program, image, faults)
     } else {
         let mut program = MemSource::new(alloc, source, 20, &[faults.read])?;
-        written(alloc, words, &mut program, image, faults)
+        answer_from(alloc, words, &mut program, image, faults)
     }
 }
 
-fn written<P: Source, M: Source>(
+fn answer_from<P: Source, M: Source>(
     alloc: Global,
     words: &[String],
     program: &mut P,

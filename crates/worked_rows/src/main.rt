@@ -1,8 +1,8 @@
-//! Runs worked rows: cases of what the program is asked and what it is to answer, from the files that are named.
+//! Runs worked cases: what the program is asked and what it is to answer, from the files that are named.
 //!
-//! A case shows what no clause says: that the definitions give the texts, reports and refusals which the languages
-//! ask for. Each is answered by the one call that the program itself makes, `stl2st` of `command_answers`, over
-//! sources and sinks in memory. `case_rows` reads a file, `answers` asks.
+//! A case shows what no clause says: that the definitions give the texts, reports and refusals which the
+//! languages ask for. Each is answered by the one call that the program itself makes, `stl2st` of
+//! `command_answers`, over sources and sinks in memory. `case_rows` reads a file, `answers` asks.
 #![tactic(auto)]
 
 use crate::answers::{Answer, answer};
@@ -28,7 +28,7 @@ impl Tally {
         failed: 0,
     };
 
-    /// One case.
+    /// The count of one case.
     fn of(is_wanted: bool) -> Tally {
         Tally {
             cases: 1,
@@ -36,7 +36,7 @@ impl Tally {
         }
     }
 
-    /// Counts those of another tally too.
+    /// Adds the counts of another tally.
     fn add(&mut self, other: Tally) {
         self.cases = self.cases.saturating_add(other.cases);
         self.failed = self.failed.saturating_add(other.failed);
@@ -75,7 +75,7 @@ fn is_wanted(rt: &impl Print, file: &str, case: &Case, found: &Answer) -> Result
     Ok(false)
 }
 
-/// Asks with these words.
+/// The answer to these words.
 fn answer_to(
     alloc: Global,
     words: &[&str],
@@ -109,7 +109,7 @@ fn is_run_wanted(
     is_wanted(rt, file, case, &found)
 }
 
-/// Asks for a run of the source, and for one of its translation.
+/// Whether the answers to a run of the source and to one of its translation are as the case wants.
 fn are_wanted(
     rt: &impl Print,
     alloc: Global,

@@ -1,4 +1,4 @@
-use Rattle.accumulator_templates.proofs.InstructionRows.{accumulator_serves}
+use Rattle.accumulator_templates.proofs.Serving.{accumulator_serves}
 use Rattle.accumulator_templates.proofs.accumulators_serve.Goals as goal
 
 pub returns : goal.returns

@@ -33,7 +33,7 @@ abbrev pub bytes_of_text : Text → List ℕ
 bytes_of_text (text.Fixed line) = line.now
 bytes_of_text (text.Made bytes) = bytes.items
 
--- a status and the text that goes with it
+-- a made status and text as an answer
 abbrev pub reply_of : Made → Reply
 reply_of made = (made.status, bytes_of_text made.text)
 
@@ -72,7 +72,7 @@ pub record Answered (To : List ℕ → List ℕ → Reply → Type 0) (program i
   pub answers : To source bytes (reply_of made)
   pub written : IsWritten made.status
 
--- the reply is that of a call which fits or does not, and of its run from a memory
+-- the answer to a call, which fits or does not, and to its run from a memory
 abbrev pub AnsweredCall : Type 0 → (Areas → End) → Areas → Made → Type 0
 AnsweredCall Fits run memory made =
     (Fits × (reply_of made ≡ run_reply memory (run memory)))
@@ -80,17 +80,17 @@ AnsweredCall Fits run memory made =
 
 -- Jobs
 
--- what is done for a job with a program
+-- the work of a job with a program
 abbrev pub work_of : Job → Work Program
 work_of job.Translate = alone AnswersTranslate
 work_of job.Check = alone AnswersCheck
 work_of (job.Run steps call) = on_image (AnswersRunStl steps call)
 
--- what is done for a job with a tree
+-- the work of a job with a tree
 abbrev pub text_work_of : TextJob → Work StProgram
 text_work_of (text_job.Run units call) = on_image (AnswersRunSt units call)
 
--- the row of a task
+-- the line of a task in the table of commands
 abbrev pub row_of : Task → Row
 row_of (task.Stl j) = stl (work_of j)
 row_of (task.St j) = st (text_work_of j)
@@ -102,18 +102,18 @@ task_of command.Check = task.Stl job.Check
 task_of (command.RunStl steps call) = task.Stl (job.Run steps call)
 task_of (command.RunSt units call) = task.St (text_job.Run units call)
 
--- a task does what the row of its command says
+-- a task does what the line of its command says
 pub row_of_task : (asked : Command) → row_of (task_of asked) ≡ row asked
 row_of_task command.Translate = refl
 row_of_task command.Check = refl
 row_of_task (command.RunStl steps call) = refl
 row_of_task (command.RunSt units call) = refl
 
--- what a job answers to a program and the bytes of an image
+-- the answer of a job to a program and the bytes of an image
 abbrev pub AnswersJob : Job → Program → List ℕ → Reply → Type 0
 AnswersJob j program bytes reply = AnswersWork (work_of j) bytes program reply
 
--- what a job answers to a tree and the bytes of an image
+-- the answer of a job to a tree and the bytes of an image
 abbrev pub AnswersTextJob : TextJob → StProgram → List ℕ → Reply → Type 0
 AnswersTextJob j tree bytes reply = AnswersWork (text_work_of j) bytes tree reply
 
@@ -129,7 +129,7 @@ pub data ReadsImage (image : Input) (status : Status) : Type 0 where
 abbrev pub ReadsNoImage : Input → Status → Type 0
 ReadsNoImage image status = IsUntouched image × (SaysRead status ⊎ (status ≡ NoMemory))
 
--- how far work reads the image
+-- how far the work of a command reads the image
 abbrev pub ReadsWork : {X : Type 0} → Work X → Input → Status → Type 0
 ReadsWork (alone To) image status = ReadsNoImage image status
 ReadsWork (on_image To) image status = ReadsImage image status

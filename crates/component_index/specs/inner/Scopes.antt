@@ -5,16 +5,16 @@ use Rattle.std.specs.Map.{lookup}
 use Rattle.stl_rules.specs.DeclarationRules.{key_of}
 use Rattle.stl_rules.specs.Extents.{extent_of}
 use Rattle.stl_rules.specs.Paths.{Placed, component_in, named_behind}
-use Rattle.stl_rules.specs.declared.laid.Component.{Component}
+use Rattle.stl_rules.specs.declared.layout.Component.{Component}
 use Rattle.stl_tree.specs.declared.raw.Declaration.{Declaration}
 use Rattle.stl_tree.specs.declared.raw.DeclType.{DeclType}
 use Rattle.stl_tree.specs.declared.raw.PathStep.{PathStep}
 use Rattle.stl_tree.specs.declared.raw.PathStep.TheVariants as step
-use Rattle.symbol_layout.specs.Kept.{capped, capped_placed}
+use Rattle.symbol_layout.specs.Kept.{capped_bits, capped_placed}
 use Rattle.symbol_layout.specs.Structs.{AreBits, struct_bits, struct_in}
 use Rattle.component_index.specs.declared.scope.Entry.{Entry}
 use Rattle.component_index.specs.declared.scope.Inner.{Inner}
-use Rattle.component_index.specs.declared.scope.Scope.{Scope}
+use Rattle.component_index.specs.declared.scope.StructScope.{StructScope}
 use Rattle.component_index.specs.declared.table.Table.{Table}
 
 -- Tables
@@ -35,12 +35,12 @@ with_entry key e entries = if is_some (entry_of key entries) then entries else e
 
 -- Scopes by their numbers
 
--- which declarations stand at a number
+-- the declarations that have a number
 abbrev pub Held : Type 0
 Held = ℕ → Option (List Declaration)
 
-abbrev pub held : List Scope → Held
-held scopes n = option_map (λ (s : Scope). s.decls.now) (slice_get scopes n)
+abbrev pub declarations_in : List StructScope → Held
+declarations_in scopes n = option_map (λ (s : StructScope). s.decls.now) (slice_get scopes n)
 
 -- a scope is that of the STRUCT inside a type
 abbrev pub IsStruct : Held → ℕ → Option (List Declaration) → Type 0
@@ -57,52 +57,54 @@ IsOf all inner decls = (all inner.scope ≡ Some decls) × (inner.bits ≡ struc
 -- Finding
 
 -- an entry as a type at its place
-abbrev pub placed : Entry → Placed
-placed e = (e.place, e.ty.now)
+abbrev pub placed_of_entry : Entry → Placed
+placed_of_entry e = (e.place, e.ty.now)
 
--- a type at a place where one may go on by a path
+-- an entry is at a place where a path may continue
 abbrev pub IsAt : Held → Entry → Type 0
 IsAt all e = (e.place ≤ 2 ^ 60) × (e.place % (extent_of e.ty.now).alignment ≡ 0) × IsInner all e.inner e.ty.now
 
--- what is found is the same type at the place as it is kept, and one may go on there
+-- the entry that is found has the same type and place, as these are kept, and a path may continue there
 abbrev pub LeadsTo : Held → Option Placed → Option Entry → Type 0
-LeadsTo all real found = (option_map placed found ≡ capped_placed real) × IfSome found (IsAt all)
+LeadsTo all real found = (option_map placed_of_entry found ≡ capped_placed real) × IfSome found (IsAt all)
 
 -- a table has what each name means
 abbrev pub IsTable : Held → (List ℕ → Option Placed) → Entries → Type 0
 IsTable all real entries = (name : List ℕ) → LeadsTo all (real name) (entry_of (key_of name) entries)
 
--- an entry that was there stays, else what a name means is found
+-- an entry that was in the table stays; else the entry of what a name means is found
 abbrev pub Added : Held → Option Placed → Option Entry → Option Entry → Type 0
 Added all real None found = LeadsTo all real found
 Added all real (Some e) found = found ≡ Some e
 
 abbrev pub Adds : Held → (List ℕ → Option Placed) → Entries → Entries → Type 0
-Adds all real old new = (name : List ℕ) → Added all (real name) (entry_of (key_of name) old) (entry_of (key_of name) new)
+Adds all real old new =
+    (name : List ℕ) → Added all (real name) (entry_of (key_of name) old) (entry_of (key_of name) new)
 
-abbrev pub IsScope : Held → Scope → Type 0
+abbrev pub IsScope : Held → StructScope → Type 0
 IsScope all s = IsTable all (named_behind 0 s.decls.now) (table_of s.names)
 
-abbrev pub AreScopes : List Scope → Type 0
-AreScopes scopes = (n : ℕ) (s : Scope) → slice_get scopes n ≡ Some s → IsScope (held scopes) s
+abbrev pub AreScopes : List StructScope → Type 0
+AreScopes scopes = (n : ℕ) (s : StructScope) → slice_get scopes n ≡ Some s → IsScope (declarations_in scopes) s
 
--- what stands at a number stays
-abbrev pub Grows : List Scope → List Scope → Type 0
-Grows old new = (n : ℕ) (decls : List Declaration) → held old n ≡ Some decls → held new n ≡ Some decls
+-- the scope of each number stays
+abbrev pub Grows : List StructScope → List StructScope → Type 0
+Grows old new =
+    (n : ℕ) (decls : List Declaration) → declarations_in old n ≡ Some decls → declarations_in new n ≡ Some decls
 
 -- Looking up
 
 -- the entry of the first declaration of a key
-abbrev pub entry_in : List ℕ → Scope → Option Entry
+abbrev pub entry_in : List ℕ → StructScope → Option Entry
 entry_in key s = entry_of key (table_of s.names)
 
-abbrev pub entry_at : List Scope → ℕ → List ℕ → Option Entry
+abbrev pub entry_at : List StructScope → ℕ → List ℕ → Option Entry
 entry_at scopes n key = option_and_then (entry_in key) (slice_get scopes n)
 
--- the same entry where its scope begins here
-abbrev pub moved : ℕ → Entry → Entry
-moved start e = record { place = capped (start + e.place); ty = e.ty; inner = e.inner }
+-- an entry, moved to a scope that begins at a place
+abbrev pub entry_from : ℕ → Entry → Entry
+entry_from start e = record { place = capped_bits (start + e.place); ty = e.ty; inner = e.inner }
 
--- the component that a name and a path behind it name
+-- the component that a name and the path after it name
 abbrev pub component_behind : List (List Declaration) → List ℕ → List PathStep → Option Component
 component_behind sections name path = component_in sections (step.Name name ∷ path)

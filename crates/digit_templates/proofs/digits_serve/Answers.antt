@@ -1,4 +1,4 @@
-use Rattle.digit_templates.proofs.LawRows.{digits_serve}
+use Rattle.digit_templates.proofs.Serving.{digits_serve}
 use Rattle.digit_templates.proofs.digits_serve.Goals as goal
 
 pub returns : goal.returns

@@ -1,24 +1,25 @@
--- What stands inside the calls that read an image: what is left of a line, numbers as they are kept, what lines may name.
+-- What stands inside the calls that read an image: what is left of a line, numbers as they are kept, what lines may
+-- name.
 use Rattle.std.specs.Prelude.{◌≡◌, ℕ, ◌^◌, ◌<◌, ◌≤◌, nat_lt, if◌then◌else◌, List, [], ◌∷◌, length, All, Bool, Some, Result, Ok, Err}
 use Rattle.std.specs.List.{slice_split}
-use Rattle.digit_texts.specs.Digits.{kept}
+use Rattle.digit_texts.specs.Digits.{capped_number}
 use Rattle.memory_areas.specs.Access.{bytes_there, or_none}
 use Rattle.memory_areas.specs.Areas.{Contents, IsMemoryOf}
 use Rattle.memory_areas.specs.declared.data_block.DataBlock.{DataBlock}
 use Rattle.memory_areas.specs.declared.place.Area.{Area}
 use Rattle.memory_areas.specs.declared.place.Area.TheVariants as area
 use Rattle.memory_areas.specs.declared.sizes.TheConstants.{MOST_BLOCK_BYTES}
-use Rattle.image_text.specs.Image.{Shape, is_blank, values_of}
+use Rattle.image_text.specs.Image.{AreaLine, is_blank, values_of}
 use Rattle.image_text.specs.Report.{block_text}
 use Rattle.image_text.specs.declared.refusal.ImageRefusal.{ImageRefusal}
-use Rattle.image_text.specs.declared.shape.Shape.{Shape as Found}
+use Rattle.image_text.specs.declared.area_line.AreaLine.{AreaLine as Found}
 
--- a line left the memory that it should, or it was refused
+-- a line gave the memory that it should, or it was refused
 abbrev pub LineDoes : Result Contents ImageRefusal → Result (Unit {0}) ImageRefusal → Contents → Type 0
 LineDoes defined (Ok done) after = defined ≡ Ok after
 LineDoes defined (Err refused) after = defined ≡ Err refused
 
--- what stands after a piece of a text: nothing, or a separator and further pieces
+-- the pieces after the first one of a text: none, or after a separator further pieces
 abbrev pub pieces_left : (ℕ → Bool) → List ℕ → List (List ℕ)
 pieces_left p [] = []
 pieces_left p (b ∷ behind) = slice_split p behind
@@ -31,17 +32,17 @@ values_left left = or_none (values_of (pieces_left is_blank left))
 abbrev pub block_kept : ℕ → ℕ
 block_kept n = if nat_lt n (2 ^ 16) then n else 0
 
--- an area with its number so kept
+-- an area with the number of its data block kept in 16 bits
 abbrev pub area_kept : Area → Area
 area_kept (area.Db n) = area.Db (block_kept n)
 area_kept other = other
 
--- a shape with its numbers so kept
-abbrev pub shape_kept : Shape → Shape
-shape_kept s = record { area = area_kept s.area; byte = kept s.byte; fields = s.fields }
+-- the form of a line with its numbers kept in 16 and in 32 bits
+abbrev pub area_line_kept : AreaLine → AreaLine
+area_line_kept s = record { area = area_kept s.area; byte = capped_number s.byte; fields = s.fields }
 
--- a shape as it was found
-abbrev pub view : Found → Shape
+-- the form of a line that the code found
+abbrev pub view : Found → AreaLine
 view s = record { area = s.area; byte = s.byte; fields = pieces_left is_blank s.fields.now }
 
 -- the data block of a number, as a report shows it
@@ -54,7 +55,7 @@ IsNamed (area.Local d) = ⊥
 IsNamed (area.Cell d) = ⊥
 IsNamed other = Unit {0}
 
--- a data block has a number and a size as one may have
+-- a data block has a number and a size that a data block may have
 pub record IsBlock (block : DataBlock) : Type 0 where
   pub least : 0 < block.number
   pub most : block.number < 2 ^ 16
@@ -67,6 +68,6 @@ pub record IsUsable (m : Contents) : Type 0 where
   pub markers : length m.areas.markers ≤ MOST_BLOCK_BYTES
   pub blocks : All IsBlock m.areas.blocks
 
--- a memory of some data blocks stays one
+-- after a line, a memory of some data blocks is still one of these
 abbrev pub MemoryStays : Contents → Contents → Type 0
 MemoryStays before after = (blocks : List DataBlock) → IsMemoryOf blocks before.areas → IsMemoryOf blocks after.areas

@@ -1,4 +1,4 @@
-use Rattle.instruction_laws.proofs.EffectRows.{effects_depend}
+use Rattle.instruction_laws.proofs.InstructionEffects.{effects_depend}
 use Rattle.instruction_laws.proofs.effects_depend_on_reads.Goals as goal
 
 pub returns : goal.returns

@@ -1,4 +1,4 @@
-use Rattle.instruction_laws.proofs.RangeRows.{ranges_kept}
+use Rattle.instruction_laws.proofs.RangeEffects.{ranges_kept}
 use Rattle.instruction_laws.proofs.ranges_are_kept.Goals as goal
 
 pub returns : goal.returns

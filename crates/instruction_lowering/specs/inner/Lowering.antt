@@ -15,18 +15,19 @@ use Rattle.st_tree.specs.declared.program.Local.{Local}
 use Rattle.st_tree.specs.declared.program.Pou.{Pou}
 use Rattle.instruction_lowering.specs.Lowered.{ends_block}
 use Rattle.instruction_lowering.specs.inner.Temporaries.{types_in, types_of}
-use Rattle.instruction_lowering.specs.declared.statements.Spot.{Spot}
-use Rattle.instruction_lowering.specs.inner.Templates.{behind, first_spot, statements_of}
+use Rattle.instruction_lowering.specs.declared.statements.LoweringContext.{LoweringContext}
+use Rattle.instruction_lowering.specs.inner.Templates.{context_after, first_context, statements_of}
 
--- the statements of a body from a spot on, up to its first end word; nothing behind that is reached
-abbrev pub steps_of : Spot → List Instr → List Stmt
+-- the statements of a body from a spot on, up to its first end word; nothing after that is reached
+abbrev pub steps_of : LoweringContext → List Instr → List Stmt
 steps_of p [] = []
-steps_of p (i ∷ rest) = statements_of p i.op ++ (if ends_block i.op then [] else steps_of (behind i.op p) rest)
+steps_of p (i ∷ rest) = statements_of p i.op ++ (if ends_block i.op then [] else steps_of (context_after i.op p) rest)
 
--- how many locals there are behind it
-abbrev pub used_behind : Spot → List Instr → ℕ
+-- how many locals there are after the statements of a body from a spot on
+abbrev pub used_behind : LoweringContext → List Instr → ℕ
 used_behind p [] = p.used
-used_behind p (i ∷ rest) = if ends_block i.op then (behind i.op p).used else used_behind (behind i.op p) rest
+used_behind p (i ∷ rest) =
+    if ends_block i.op then (context_after i.op p).used else used_behind (context_after i.op p) rest
 
 -- how many locals the statements of a body set
 abbrev pub used_in : List Instr → ℕ
@@ -35,9 +36,9 @@ used_in (i ∷ rest) = length (types_of i.op) + (if ends_block i.op then 0 else 
 
 -- the node of a body
 abbrev pub node_of : List Instr → StNode
-node_of body = record { steps = steps_of first_spot body; exit = exit.End; only_end = length body == 1 }
+node_of body = record { steps = steps_of first_context body; exit = exit.End; only_end = length body == 1 }
 
--- the graph of a body, which is that node
+-- the graph of a body, which is one node
 abbrev pub graph_of : List Instr → StGraph
 graph_of body = record { nodes = node_of body ∷ [] }
 
@@ -45,7 +46,7 @@ graph_of body = record { nodes = node_of body ∷ [] }
 abbrev pub temporary : ℕ → StType → Local
 temporary n ty = record { name = codes "T" ++ decimal n; ty = ty }
 
--- temporaries of these types, behind so many
+-- temporaries of these types, with the numbers after this one
 abbrev pub temporaries : ℕ → List StType → List Local
 temporaries n [] = []
 temporaries n (ty ∷ types) = temporary (suc n) ty ∷ temporaries (suc n) types
@@ -53,7 +54,13 @@ temporaries n (ty ∷ types) = temporary (suc n) ty ∷ temporaries (suc n) type
 -- the head of a block's unit, with the temporaries of its body
 abbrev pub head_for : Block → Pou
 head_for b =
-    record { program = true; name = called_name b.name; formals = []; locals = temporaries 0 (types_in b.body); body = [] }
+    record {
+      program = true;
+      name = called_name b.name;
+      formals = [];
+      locals = temporaries 0 (types_in b.body);
+      body = [];
+    }
 
 -- a block has no more temporaries than have numbers of 32 bits
 abbrev pub IsFew : Block → Type 0
@@ -68,5 +75,5 @@ abbrev pub unit_of : Block → GraphPou
 unit_of b = record { head = head_for b; graph = graph_of b.body }
 
 -- the graph program of a program
-abbrev pub lowered : Program → GraphProgram
-lowered p = record { dbs = p.dbs; globals = []; pous = map unit_of p.blocks }
+abbrev pub graph_program_of : Program → GraphProgram
+graph_program_of p = record { dbs = p.dbs; globals = []; pous = map unit_of p.blocks }

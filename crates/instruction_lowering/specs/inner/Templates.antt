@@ -15,7 +15,7 @@ use Rattle.instruction_lowering.specs.inner.Temporaries.{types_of}
 use Rattle.bit_templates.specs.declared.chain.OpenBracket.{OpenBracket}
 use Rattle.bit_templates.specs.Bits.{assigned_of, checked_bit_of, edge_at, falling, inverted_of, or_alone_of, reset_value, rising, rlo_set, saved_of, set_value, stored_of}
 use Rattle.bit_templates.specs.Brackets.{bracket_at, close_of, open_of, types_of_bracket}
-use Rattle.instruction_lowering.specs.declared.statements.Spot.{Spot}
+use Rattle.instruction_lowering.specs.declared.statements.LoweringContext.{LoweringContext}
 use Rattle.s7_base.specs.declared.check.Check.{Check}
 use Rattle.s7_base.specs.declared.register.Reg.TheVariants as reg
 use Rattle.s7_base.specs.declared.word.Width.TheVariants as width
@@ -25,16 +25,16 @@ use Rattle.stl_tree.specs.declared.program.Op.{Op}
 use Rattle.stl_tree.specs.declared.program.Op.TheVariants as op
 use Rattle.st_tree.specs.declared.expr.StType.{StType}
 use Rattle.st_tree.specs.declared.program.Stmt.{Stmt}
-use Rattle.row_templates.specs.Builders.{cleared, literal_of, set_of}
+use Rattle.template_parts.specs.Builders.{clear_or, literal_of, set_of}
 
 -- Spots
 
--- the start of a body
-abbrev pub first_spot : Spot
-first_spot = record { used = 0; brackets = [] }
+-- the spot at the start of a body
+abbrev pub first_context : LoweringContext
+first_context = record { used = 0; brackets = [] }
 
--- a bracket is opened, whose chain the locals from one on keep
-abbrev pub with_bracket : ℕ → Check → Spot → Spot
+-- the spot after a bracket is opened whose chain is kept by the locals from one on
+abbrev pub with_bracket : ℕ → Check → LoweringContext → LoweringContext
 with_bracket first c p = record { used = p.used; brackets = bracket_at first c ∷ p.brackets }
 
 -- the brackets around the innermost one
@@ -42,15 +42,15 @@ abbrev pub outer_of : List OpenBracket → List OpenBracket
 outer_of [] = []
 outer_of (o ∷ outer) = outer
 
--- the spot behind an instruction with locals of these types
-abbrev pub more : List StType → Spot → Spot
+-- the spot after an instruction with locals of these types
+abbrev pub more : List StType → LoweringContext → LoweringContext
 more types p = record { used = p.used + length types; brackets = p.brackets }
 
--- the spot behind an instruction: a bracket is opened or closed, and its locals are used
-abbrev pub behind : Op → Spot → Spot
-behind (op.Bracket c) p = with_bracket p.used c (more types_of_bracket p)
-behind op.Close p = record { used = p.used; brackets = outer_of p.brackets }
-behind other p = more (types_of other) p
+-- the spot after an instruction: a bracket is opened or closed, and its locals are used
+abbrev pub context_after : Op → LoweringContext → LoweringContext
+context_after (op.Bracket c) p = with_bracket p.used c (more types_of_bracket p)
+context_after op.Close p = record { used = p.used; brackets = outer_of p.brackets }
+context_after other p = more (types_of other) p
 
 -- Instructions
 
@@ -61,9 +61,9 @@ close_innermost (o ∷ outer) = close_of o
 
 -- the end word: a caller sees OR, /FC and OS cleared
 abbrev pub end_word_of : List Stmt
-end_word_of = cleared false ++ set_of reg.Os (literal_of false) ∷ []
+end_word_of = clear_or false ++ set_of reg.Os (literal_of false) ∷ []
 
--- the statements of an instruction on ACCU1 alone, whose first local has this number
+-- the statements of an instruction on ACCU1 alone, whose locals are those from this one on
 abbrev pub unary_of : ℕ → UnaryRow → List Stmt
 unary_of first unary.Bti = bti_of first
 unary_of first unary.Btd = btd_of first
@@ -78,7 +78,7 @@ unary_of first unary.Negi = negated_of first width.Word
 unary_of first unary.Negd = negated_of first width.Dword
 
 -- the statements of an instruction at a spot
-abbrev pub statements_of : Spot → Op → List Stmt
+abbrev pub statements_of : LoweringContext → Op → List Stmt
 statements_of p (op.Check c b) = checked_bit_of p.used c b
 statements_of p op.OrAlone = or_alone_of
 statements_of p (op.Bracket c) = open_of p.used

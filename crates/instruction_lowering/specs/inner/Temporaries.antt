@@ -10,7 +10,7 @@ use Rattle.arithmetic_templates.specs.Comparisons.{types_of_compared}
 use Rattle.digit_templates.specs.FromDigits.{types_of_bti, types_of_btd}
 use Rattle.digit_templates.specs.ToDigits.{types_of_itb, types_of_dtb}
 use Rattle.pointer_templates.specs.Pointers.{types_of_pointer_exchange, types_of_pointer_load, types_of_pointer_store}
-use Rattle.row_templates.specs.Fetching.{types_fetched, types_reached}
+use Rattle.template_parts.specs.Fetching.{types_fetched, types_reached}
 use Rattle.s7_base.specs.declared.word.Width.TheVariants as width
 use Rattle.shift_templates.specs.ShiftTemplates.{types_of_shift, types_through_cc1}
 use Rattle.st_tree.specs.declared.expr.StType.{StType}
@@ -21,7 +21,7 @@ use Rattle.stl_tree.specs.declared.program.Instr.{Instr}
 use Rattle.stl_tree.specs.declared.program.Op.{Op}
 use Rattle.stl_tree.specs.declared.program.Op.TheVariants as op
 
--- those of an instruction on ACCU1 alone
+-- the types of the temporaries of an instruction on ACCU1 alone
 abbrev pub types_of_unary : UnaryRow → List StType
 types_of_unary unary.Bti = types_of_bti
 types_of_unary unary.Btd = types_of_btd
@@ -36,7 +36,7 @@ types_of_unary unary.Caw = []
 types_of_unary unary.Cad = []
 
 -- the types of the temporaries of an instruction: an opened bracket keeps RLO, OR and NFC, and an edge the RLO; a
--- pointer, what may fault, and what is used twice in an accumulator's row, is one
+-- pointer, what may fault, and what an instruction on the accumulators uses twice, has one
 abbrev pub types_of : Op → List StType
 types_of (op.Check c b) = types_checked b
 types_of (op.Assign o) = types_reached o
@@ -63,7 +63,7 @@ types_of (op.Unary u) = types_of_unary u
 types_of op.Tak = types_of_exchange
 types_of other = []
 
--- those of the instructions of a body
+-- the types of the temporaries of the instructions of a body
 abbrev pub types_in : List Instr → List StType
 types_in [] = []
 types_in (i ∷ rest) = types_of i.op ++ types_in rest
@@ -73,4 +73,5 @@ abbrev pub AreTemporaries : ℕ → List StType → List Local → Type 0
 AreTemporaries n [] [] = Unit {0}
 AreTemporaries n [] (local ∷ rest) = ⊥
 AreTemporaries n (ty ∷ types) [] = ⊥
-AreTemporaries n (ty ∷ types) (local ∷ rest) = (local.name ≡ codes "T" ++ decimal n) × (local.ty ≡ ty) × AreTemporaries (suc n) types rest
+AreTemporaries n (ty ∷ types) (local ∷ rest) =
+    (local.name ≡ codes "T" ++ decimal n) × (local.ty ≡ ty) × AreTemporaries (suc n) types rest

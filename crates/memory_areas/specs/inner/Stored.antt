@@ -2,16 +2,16 @@
 use Rattle.std.specs.Prelude.{ℕ, ◌+◌, ◌≤◌, ◌==◌, if◌then◌else◌, List, [], ◌∷◌, length, Option, Some, None}
 use Rattle.memory_areas.specs.declared.data_block.DataBlock.{DataBlock}
 
--- an area that is there has room for some bytes from byte i on
+-- an area that exists has room for some bytes from byte i on
 abbrev pub HasRoom : Option (List ℕ) → ℕ → ℕ → Type 0
 HasRoom None i count = ⊥
 HasRoom (Some bytes) i count = i + count ≤ length bytes
 
 -- data blocks from their numbers and their bytes
-abbrev pub joined : List ℕ → List (List ℕ) → List DataBlock
-joined [] bytes = []
-joined (n ∷ ns) [] = []
-joined (n ∷ ns) (b ∷ bs) = record { number = n; bytes = b } ∷ joined ns bs
+abbrev pub data_blocks_of : List ℕ → List (List ℕ) → List DataBlock
+data_blocks_of [] bytes = []
+data_blocks_of (n ∷ ns) [] = []
+data_blocks_of (n ∷ ns) (b ∷ bs) = record { number = n; bytes = b } ∷ data_blocks_of ns bs
 
 -- one place further
 abbrev pub one_further : Option ℕ → Option ℕ

@@ -1,7 +1,7 @@
 -- Tables of names and numbers: each with its first place.
 use Rattle.std.specs.Prelude.{ℕ, Bool, false, ◌&&◌, nat_eq, nat_lt, List, Option, Some, None, Result, Ok, Err}
 use Rattle.std.specs.Cmp.Lexicographic.{pointwise}
-use Rattle.first_places.specs.Places.{AreFirstPlaces, with_place}
+use Rattle.name_tables.specs.Places.{AreFirstPlaces, with_place}
 use Rattle.s7_base.specs.declared.reason.Reason.{Reason}
 use Rattle.stl_rules.specs.DeclarationRules.{key_of}
 use Rattle.stl_rules.specs.Names.{is_same_kind}

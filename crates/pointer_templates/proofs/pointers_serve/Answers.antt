@@ -1,4 +1,4 @@
-use Rattle.pointer_templates.proofs.InstructionRows.{pointers_serve}
+use Rattle.pointer_templates.proofs.Serving.{pointers_serve}
 use Rattle.pointer_templates.proofs.pointers_serve.Goals as goal
 
 pub returns : goal.returns

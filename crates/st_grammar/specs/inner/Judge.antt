@@ -10,14 +10,14 @@ use Rattle.st_tree.specs.Depth.{deepest}
 use Rattle.st_grammar.specs.Syntax.{Lined, all_lined}
 use Rattle.st_grammar.specs.inner.Machine.{code, TextSoFar, State, start, over}
 use Rattle.st_grammar.specs.inner.Steps.{next, last_level}
-use Rattle.st_grammar.specs.declared.kind.Kind.{Kind}
+use Rattle.st_grammar.specs.declared.kind.GrammarKind.{GrammarKind}
 use Rattle.st_tree.specs.declared.raw.RawSt.{RawSt}
 use Rattle.st_tree.specs.declared.token.StToken.{StToken}
 
--- one step and its level, each kept shut so that proofs of the whole don't open them
+-- one step and its level are opaque, so that proofs of the whole don't open them
 
 -- the state after one more token, if the token can follow
-unfoldable pub after_token : State code → Kind → Option (State code)
+unfoldable pub after_token : State code → GrammarKind → Option (State code)
 after_token q k = next code q k
 
 -- the level that the last token made
@@ -25,11 +25,11 @@ unfoldable pub level_reached : State code → ℕ
 level_reached q = last_level code q
 
 -- the state after a token on a line, if the token can follow and makes no level too many
-abbrev pub judged : Option (State code) → Line → Result (State code) Rejection
-judged None line = Err (Refused line BadSyntax)
-judged (Some to) line = if nat_lt deepest (level_reached to) then Err (Refused line TooDeep) else Ok to
+abbrev pub state_or_refusal : Option (State code) → Line → Result (State code) Rejection
+state_or_refusal None line = Err (Refused line BadSyntax)
+state_or_refusal (Some to) line = if nat_lt deepest (level_reached to) then Err (Refused line TooDeep) else Ok to
 
--- what comes of a judgement
+-- the result of continuing after a judgement that is good
 abbrev pub on_good : Result (State code) Rejection → (State code → Result (State code) Rejection)
     → Result (State code) Rejection
 on_good (Ok to) on = on to
@@ -38,7 +38,8 @@ on_good (Err refused) on = Err refused
 -- the state after tokens, or the first refusal
 abbrev pub judge_tokens : State code → List Lined → Result (State code) Rejection
 judge_tokens q [] = Ok q
-judge_tokens q (item ∷ items) = on_good (judged (after_token q item.kind) item.line) (λ to. judge_tokens to items)
+judge_tokens q (item ∷ items) =
+    on_good (state_or_refusal (after_token q item.kind) item.line) (λ to. judge_tokens to items)
 
 -- the whole text, if a state is after its end
 abbrev pub text_in : State code → Option (TextSoFar code)

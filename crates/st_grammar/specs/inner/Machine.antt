@@ -30,7 +30,7 @@ use Rattle.st_tree.specs.declared.raw.RawStmt.{RawStmt}
 use Rattle.st_tree.specs.declared.raw.RawStmtKind.TheVariants as stmt
 use Rattle.st_tree.specs.declared.raw.RawVar.{RawVar}
 
--- how a state holds what it has read: as it is written, with brackets and lines, or as the code has it,
+-- the form in which a state has what it has read: as it is written, with brackets and lines, or as the code has it,
 -- in raw trees
 pub data Mode : Type 0 where
   written : Mode
@@ -38,7 +38,7 @@ pub data Mode : Type 0 where
 
 -- What is read, in each mode
 
--- an expression; the code keeps its height beside the tree
+-- an expression; the code keeps its height with the tree
 abbrev pub ExprIn : Mode → Type 0
 ExprIn written = Form
 ExprIn code = Measured
@@ -221,9 +221,9 @@ add_label written labels c = more_labels labels c
 add_label code labels c = labels ++ label_tree c ∷ []
 
 -- a name on its line
-abbrev pub named : (m : Mode) → List ℕ → Line → NameIn m
-named written name line = (name, line)
-named code name line = name
+abbrev pub name_on_line : (m : Mode) → List ℕ → Line → NameIn m
+name_on_line written name line = (name, line)
+name_on_line code name line = name
 
 -- a variable on its line
 abbrev pub at_var : (m : Mode) → RawVar → Line → VarIn m
@@ -455,26 +455,26 @@ pub record BodyState (m : Mode) : Type 0 where
   pub place : Place m
 
 -- the part of a global after its name
-pub data Row (m : Mode) : Type 0 where
-  at_word : Row m
-  at_place : Row m
-  at_colon : VarIn m → Row m
-  at_type : VarIn m → Row m
-  at_square : VarIn m → Row m
-  at_zero : VarIn m → Row m
-  at_dots : VarIn m → Row m
-  at_last : VarIn m → Row m
-  at_close : VarIn m → ℕ → Row m
-  at_of : VarIn m → ℕ → Row m
-  at_byte : VarIn m → ℕ → Row m
-  at_becomes : VarIn m → ℕ → Row m
-  at_open : VarIn m → ℕ → Row m
-  at_item : VarIn m → ℕ → ItemsIn m → Row m
-  at_count : VarIn m → ℕ → ItemsIn m → ℕ → Row m
-  at_value : VarIn m → ℕ → ItemsIn m → ℕ → Row m
-  at_value_end : VarIn m → ℕ → ItemsIn m → ℕ → ℕ → Row m
-  at_comma : VarIn m → ℕ → ItemsIn m → Row m
-  at_end : VarIn m → TypeIn m → Row m
+pub data GlobalTail (m : Mode) : Type 0 where
+  at_word : GlobalTail m
+  at_place : GlobalTail m
+  at_colon : VarIn m → GlobalTail m
+  at_type : VarIn m → GlobalTail m
+  at_square : VarIn m → GlobalTail m
+  at_zero : VarIn m → GlobalTail m
+  at_dots : VarIn m → GlobalTail m
+  at_last : VarIn m → GlobalTail m
+  at_close : VarIn m → ℕ → GlobalTail m
+  at_of : VarIn m → ℕ → GlobalTail m
+  at_byte : VarIn m → ℕ → GlobalTail m
+  at_becomes : VarIn m → ℕ → GlobalTail m
+  at_open : VarIn m → ℕ → GlobalTail m
+  at_item : VarIn m → ℕ → ItemsIn m → GlobalTail m
+  at_count : VarIn m → ℕ → ItemsIn m → ℕ → GlobalTail m
+  at_value : VarIn m → ℕ → ItemsIn m → ℕ → GlobalTail m
+  at_value_end : VarIn m → ℕ → ItemsIn m → ℕ → ℕ → GlobalTail m
+  at_comma : VarIn m → ℕ → ItemsIn m → GlobalTail m
+  at_end : VarIn m → TypeIn m → GlobalTail m
 
 -- the part of a local after its name
 pub data Typing : Type 0 where
@@ -501,7 +501,7 @@ pub data SectionKind (m : Mode) : Type 0 where
 pub data State (m : Mode) : Type 0 where
   start : State m
   globals : GlobalsIn m → State m
-  row : GlobalsIn m → List ℕ → Line → Row m → State m
+  global_tail : GlobalsIn m → List ℕ → Line → GlobalTail m → State m
   between : TextSoFar m → State m
   heading : TextSoFar m → Bool → Line → State m
   opened : BegunUnit m → State m

@@ -4,12 +4,12 @@ use Rattle.s7_base.specs.declared.reason.Line.{Line}
 use Rattle.st_grammar.specs.Grammar.{prefix_level, is_value, may_jump, is_direct, is_formal_type}
 use Rattle.st_tree.specs.Form.{infix_level, weakest}
 use Rattle.st_tree.specs.Naming.{is_free, may_name_global, may_name_local, may_name_unit, names_block}
-use Rattle.st_grammar.specs.inner.Machine.{Mode, ExprIn, StatementsIn, StatementIn, CasesIn, LabelsIn, VarIn, HeadIn, GlobalSectionIn, GlobalsIn, LocalsIn, LocalSectionIn, of_literal, of_variable, of_group, of_prefix, of_infix, of_apply, of_shift, of_select, height_in, no_statements, add_empty, add_statement, no_arms, add_arm, no_cases, add_case, of_label, add_label, named, at_var, no_actuals, add_actual, of_assign, of_write, of_invoke, of_choice, of_choice_else, of_cases, of_cases_else, of_loop, of_jump, no_items, add_single, add_times, of_plain, of_bytes, no_globals, add_global, no_locals, add_local, no_global_section, global_section, no_section, section_of, head_of, is_program, no_units, add_unit, BegunStatement, Argument, only, shifted, shifted_by, gate, first, second, Need, to_var, to_area, area_value, test, selector, loop_test, OuterStatement, choosing, otherwise, looping, selecting, otherwise_case, Frame, unary, left, bracket, argument, waiting, within, Part, target, write_open, first_formal, next_formal, becoming, giving, given, first_label, next_label, labelled, Place, statement, part, closing, operand, operator, opening, BodyState, Row, at_word, at_place, at_colon, at_type, at_square, at_zero, at_dots, at_last, at_close, at_of, at_byte, at_becomes, at_open, at_item, at_count, at_value, at_value_end, at_comma, at_end, Typing, local_colon, local_type, local_end, TextSoFar, BegunUnit, SectionKind, formals, temps, State, start, globals, row, between, heading, opened, formals_done, section, typing, inside, over}
+use Rattle.st_grammar.specs.inner.Machine.{Mode, ExprIn, StatementsIn, StatementIn, CasesIn, LabelsIn, VarIn, HeadIn, GlobalSectionIn, GlobalsIn, LocalsIn, LocalSectionIn, of_literal, of_variable, of_group, of_prefix, of_infix, of_apply, of_shift, of_select, height_in, no_statements, add_empty, add_statement, no_arms, add_arm, no_cases, add_case, of_label, add_label, name_on_line, at_var, no_actuals, add_actual, of_assign, of_write, of_invoke, of_choice, of_choice_else, of_cases, of_cases_else, of_loop, of_jump, no_items, add_single, add_times, of_plain, of_bytes, no_globals, add_global, no_locals, add_local, no_global_section, global_section, no_section, section_of, head_of, is_program, no_units, add_unit, BegunStatement, Argument, only, shifted, shifted_by, gate, first, second, Need, to_var, to_area, area_value, test, selector, loop_test, OuterStatement, choosing, otherwise, looping, selecting, otherwise_case, Frame, unary, left, bracket, argument, waiting, within, Part, target, write_open, first_formal, next_formal, becoming, giving, given, first_label, next_label, labelled, Place, statement, part, closing, operand, operator, opening, BodyState, GlobalTail, at_word, at_place, at_colon, at_type, at_square, at_zero, at_dots, at_last, at_close, at_of, at_byte, at_becomes, at_open, at_item, at_count, at_value, at_value_end, at_comma, at_end, Typing, local_colon, local_type, local_end, TextSoFar, BegunUnit, SectionKind, formals, temps, State, start, globals, global_tail, between, heading, opened, formals_done, section, typing, inside, over}
 use Rattle.st_grammar.specs.declared.kind.Fixed.TheVariants as fixed
 use Rattle.st_grammar.specs.declared.kind.Function.{Function}
 use Rattle.st_grammar.specs.declared.kind.Function.TheVariants as function
-use Rattle.st_grammar.specs.declared.kind.Kind.{Kind}
-use Rattle.st_grammar.specs.declared.kind.Kind.TheVariants as kind
+use Rattle.st_grammar.specs.declared.kind.GrammarKind.{GrammarKind}
+use Rattle.st_grammar.specs.declared.kind.GrammarKind.TheVariants as kind
 use Rattle.st_grammar.specs.declared.kind.Lead.{Lead}
 use Rattle.st_grammar.specs.declared.kind.Lead.TheVariants as lead
 use Rattle.st_grammar.specs.declared.kind.Literal.{Literal}
@@ -79,7 +79,7 @@ with_prefix m d s op =
     if nat_le (prefix_level op) (limit m s) then Some (body_state m (suc d) (unary op ∷ s) operand) else None
 
 -- a token where an operand must begin
-abbrev pub at_operand : (m : Mode) → ℕ → List (Frame m) → Kind → Option (BodyState m)
+abbrev pub at_operand : (m : Mode) → ℕ → List (Frame m) → GrammarKind → Option (BodyState m)
 at_operand m d s (kind.Literal c) = if is_value c then Some (body_state m d s (operator (of_literal m c))) else None
 at_operand m d s (kind.Variable v line) = Some (body_state m d s (operator (of_variable m v line)))
 at_operand m d s (kind.Fixed fixed.Not) = with_prefix m d s before.Not
@@ -88,8 +88,8 @@ at_operand m d s (kind.Fixed fixed.Open) = Some (body_state m (suc d) (bracket �
 at_operand m d s (kind.Fixed (fixed.Function f)) = Some (body_state m d s (opening f))
 at_operand m d s other = None
 
--- the bracket after the word of a function, the one token that may stand there
-abbrev pub at_opening : (m : Mode) → ℕ → List (Frame m) → Function → Kind → Option (BodyState m)
+-- the bracket after the word of a function, the one token that may follow it
+abbrev pub at_opening : (m : Mode) → ℕ → List (Frame m) → Function → GrammarKind → Option (BodyState m)
 at_opening m d s f (kind.Fixed fixed.Open) = Some (body_state m (suc d) (argument (function_argument m f) ∷ s) operand)
 at_opening m d s f other = None
 
@@ -108,13 +108,14 @@ next_argument m d s (first a) e = Some (body_state m d (argument (second a e) �
 next_argument m d s a e = None
 
 -- an operand of a function ends
-abbrev pub argument_closed : (m : Mode) → ℕ → List (Frame m) → Argument m → ExprIn m → Kind → Option (BodyState m)
+abbrev pub argument_closed : (m : Mode) → ℕ → List (Frame m)
+    → Argument m → ExprIn m → GrammarKind → Option (BodyState m)
 argument_closed m d s a e (kind.Fixed fixed.Close) = close_argument m d s a e
 argument_closed m d s a e (kind.Fixed fixed.Comma) = next_argument m d s a e
 argument_closed m d s a e other = None
 
 -- the expression that a statement needs ends
-abbrev pub need_closed : (m : Mode) → ℕ → List (Frame m) → BegunStatement m → Need m → ExprIn m → Kind
+abbrev pub need_closed : (m : Mode) → ℕ → List (Frame m) → BegunStatement m → Need m → ExprIn m → GrammarKind
     → Option (BodyState m)
 need_closed m d s b (to_var v) e (kind.Fixed fixed.Semicolon) =
     Some (body_state m d s (statement (add_statement m b.before (of_assign m b.line v e))))
@@ -130,26 +131,27 @@ need_closed m d s b loop_test e (kind.Fixed fixed.Do) =
 need_closed m d s b n e other = None
 
 -- an expression ends at a token that is no operator
-abbrev pub closed : (m : Mode) → ℕ → List (Frame m) → ExprIn m → Kind → Option (BodyState m)
-closed m d [] e k = None
-closed m d (unary op ∷ s) e k = None
-closed m d (left op a ∷ s) e k = None
-closed m d (bracket ∷ s) e (kind.Fixed fixed.Close) = Some (body_state m (shallower d) s (operator (of_group m e)))
-closed m d (bracket ∷ s) e k = None
-closed m d (argument a ∷ s) e k = argument_closed m d s a e k
-closed m d (waiting b n ∷ s) e k = need_closed m d s b n e k
-closed m d (within b y ∷ s) e k = None
+abbrev pub expression_end : (m : Mode) → ℕ → List (Frame m) → ExprIn m → GrammarKind → Option (BodyState m)
+expression_end m d [] e k = None
+expression_end m d (unary op ∷ s) e k = None
+expression_end m d (left op a ∷ s) e k = None
+expression_end m d (bracket ∷ s) e (kind.Fixed fixed.Close) =
+    Some (body_state m (shallower d) s (operator (of_group m e)))
+expression_end m d (bracket ∷ s) e k = None
+expression_end m d (argument a ∷ s) e k = argument_closed m d s a e k
+expression_end m d (waiting b n ∷ s) e k = need_closed m d s b n e k
+expression_end m d (within b y ∷ s) e k = None
 
 -- an expression whose operators have their operands ends at a token that is no operator
-abbrev pub closed_to : (m : Mode) → Reduced m → Kind → Option (BodyState m)
-closed_to m r k = closed m r.depth r.stack r.operand k
+abbrev pub closed_to : (m : Mode) → Reduced m → GrammarKind → Option (BodyState m)
+closed_to m r k = expression_end m r.depth r.stack r.operand k
 
 -- an operator between operands waits for the one after it
 abbrev pub waits : (m : Mode) → BinaryOp → Reduced m → BodyState m
 waits m op r = body_state m r.depth (left op r.operand ∷ r.stack) operand
 
 -- a token after an operand: an operator between operands, or one that ends the expression
-abbrev pub at_operator : (m : Mode) → ℕ → List (Frame m) → ExprIn m → Kind → Option (BodyState m)
+abbrev pub at_operator : (m : Mode) → ℕ → List (Frame m) → ExprIn m → GrammarKind → Option (BodyState m)
 at_operator m d s e (kind.Fixed (fixed.Between op)) = Some (waits m op (reduce m (infix_level op) d s e))
 at_operator m d s e other = closed_to m (reduce m weakest d s e) other
 
@@ -166,7 +168,8 @@ in_loop m [] = false
 in_loop m (frame ∷ s) = is_loop m frame || in_loop m s
 
 -- statements end, or a further arm begins
-abbrev pub body_closed : (m : Mode) → ℕ → List (Frame m) → BegunStatement m → OuterStatement m → StatementsIn m → Kind
+abbrev pub body_closed : (m : Mode) → ℕ → List (Frame m)
+    → BegunStatement m → OuterStatement m → StatementsIn m → GrammarKind
     → Option (BodyState m)
 body_closed m d s b (choosing arms e) body (kind.Fixed fixed.Elsif) =
     Some (body_state m d (waiting b (test (add_arm m arms e body)) ∷ s) operand)
@@ -190,7 +193,7 @@ body_closed m d s b (otherwise_case e arms) body (kind.Fixed fixed.EndCase) =
 body_closed m d s b y body other = None
 
 -- a token that ends statements, or begins a further arm, of the innermost statement that is open
-abbrev pub in_body : (m : Mode) → ℕ → List (Frame m) → StatementsIn m → Kind → Option (BodyState m)
+abbrev pub in_body : (m : Mode) → ℕ → List (Frame m) → StatementsIn m → GrammarKind → Option (BodyState m)
 in_body m d (within b y ∷ s) body k = body_closed m d s b y body k
 in_body m d other body k = None
 
@@ -212,33 +215,33 @@ at_lead m d s body (lead.AreaWrite w) line = Some (body_state m d s (part (begun
 at_lead m d s body other line = None
 
 -- a token where a statement may begin or statements end
-abbrev pub at_statement : (m : Mode) → ℕ → List (Frame m) → StatementsIn m → Kind → Option (BodyState m)
+abbrev pub at_statement : (m : Mode) → ℕ → List (Frame m) → StatementsIn m → GrammarKind → Option (BodyState m)
 at_statement m d s body (kind.Variable v line) = Some (body_state m d s (part (begun_statement m body line) (target v)))
 at_statement m d s body (kind.Lead word line) = at_lead m d s body word line
 at_statement m d s body (kind.Fixed fixed.Semicolon) = Some (body_state m d s (statement (add_empty m body)))
 at_statement m d s body other = in_body m d s body other
 
 -- a token after a variable at the beginning of a statement: `:=`, or the bracket of a call
-abbrev pub at_target : (m : Mode) → ℕ → List (Frame m) → BegunStatement m → RawVar → Kind → Option (BodyState m)
+abbrev pub at_target : (m : Mode) → ℕ → List (Frame m) → BegunStatement m → RawVar → GrammarKind → Option (BodyState m)
 at_target m d s b v (kind.Fixed fixed.Becomes) = Some (body_state m d (waiting b (to_var v) ∷ s) operand)
 at_target m d s b (var.Name name) (kind.Fixed fixed.Open) = Some (body_state m (suc d) s (part b (first_formal name)))
 at_target m d s b v other = None
 
--- a label of an arm where one must stand
+-- a label of an arm where one must come
 abbrev pub at_label : (m : Mode) → ℕ → List (Frame m) → BegunStatement m → ExprIn m → CasesIn m → (Literal → LabelsIn m)
-    → Kind → Option (BodyState m)
+    → GrammarKind → Option (BodyState m)
 at_label m d s b e arms labels (kind.Literal c) =
     if is_value c then Some (body_state m d s (part b (labelled e arms (labels c)))) else None
 at_label m d s b e arms labels other = None
 
 -- a call: formals with their variables
-abbrev pub at_call : (m : Mode) → ℕ → List (Frame m) → BegunStatement m → Part m → Kind → Option (BodyState m)
+abbrev pub at_call : (m : Mode) → ℕ → List (Frame m) → BegunStatement m → Part m → GrammarKind → Option (BodyState m)
 at_call m d s b (first_formal name) (kind.Variable (var.Name formal) line) =
-    Some (body_state m d s (part b (becoming name (no_actuals m) (named m formal line))))
+    Some (body_state m d s (part b (becoming name (no_actuals m) (name_on_line m formal line))))
 at_call m d s b (first_formal name) (kind.Fixed fixed.Close) =
     Some (body_state m (shallower d) s (closing b.before (of_invoke m b.line name (no_actuals m))))
 at_call m d s b (next_formal name actuals) (kind.Variable (var.Name formal) line) =
-    Some (body_state m d s (part b (becoming name actuals (named m formal line))))
+    Some (body_state m d s (part b (becoming name actuals (name_on_line m formal line))))
 at_call m d s b (becoming name actuals formal) (kind.Fixed fixed.Becomes) =
     Some (body_state m d s (part b (giving name actuals formal)))
 at_call m d s b (giving name actuals formal) (kind.Variable v line) =
@@ -250,7 +253,7 @@ at_call m d s b (given name actuals) (kind.Fixed fixed.Close) =
 at_call m d s b x other = None
 
 -- a token in a part of a statement that is no expression
-abbrev pub at_part : (m : Mode) → ℕ → List (Frame m) → BegunStatement m → Part m → Kind → Option (BodyState m)
+abbrev pub at_part : (m : Mode) → ℕ → List (Frame m) → BegunStatement m → Part m → GrammarKind → Option (BodyState m)
 at_part m d s b (target v) k = at_target m d s b v k
 at_part m d s b (write_open w) (kind.Fixed fixed.Open) = Some (body_state m (suc d) (waiting b (to_area w) ∷ s) operand)
 at_part m d s b (write_open w) k = None
@@ -263,13 +266,14 @@ at_part m d s b (labelled e arms labels) (kind.Fixed fixed.Colon) =
 at_part m d s b (labelled e arms labels) k = None
 at_part m d s b x k = at_call m d s b x k
 
--- the `;` after a statement, the one token that may stand there
-abbrev pub at_closing : (m : Mode) → ℕ → List (Frame m) → StatementsIn m → StatementIn m → Kind → Option (BodyState m)
+-- the `;` after a statement, the one token that may follow it
+abbrev pub at_closing : (m : Mode) → ℕ → List (Frame m) → StatementsIn m
+    → StatementIn m → GrammarKind → Option (BodyState m)
 at_closing m d s before x (kind.Fixed fixed.Semicolon) = Some (body_state m d s (statement (add_statement m before x)))
 at_closing m d s before x other = None
 
 -- one token in statements, by the place
-abbrev pub step_at : (m : Mode) → ℕ → List (Frame m) → Place m → Kind → Option (BodyState m)
+abbrev pub step_at : (m : Mode) → ℕ → List (Frame m) → Place m → GrammarKind → Option (BodyState m)
 step_at m d s (statement body) k = at_statement m d s body k
 step_at m d s (part b x) k = at_part m d s b x k
 step_at m d s (closing before x) k = at_closing m d s before x k
@@ -278,21 +282,21 @@ step_at m d s (operator e) k = at_operator m d s e k
 step_at m d s (opening f) k = at_opening m d s f k
 
 -- one token in statements
-abbrev pub step : (m : Mode) → BodyState m → Kind → Option (BodyState m)
+abbrev pub step : (m : Mode) → BodyState m → GrammarKind → Option (BodyState m)
 step m at k = step_at m at.depth at.stack at.place k
 
 -- Globals
 
--- the name of a data block goes on with its bytes, another name with its type
-abbrev pub row_type : (m : Mode) → List ℕ → VarIn m → Kind → Option (Row m)
-row_type m name v (kind.Fixed (fixed.Type ty)) = if is_free name then Some (at_end v (of_plain m ty)) else None
-row_type m name v (kind.Fixed fixed.Array) = if names_block name then Some (at_square v) else None
-row_type m name v other = None
+-- the name of a data block is followed by its bytes, another name by its type
+abbrev pub tail_type : (m : Mode) → List ℕ → VarIn m → GrammarKind → Option (GlobalTail m)
+tail_type m name v (kind.Fixed (fixed.Type ty)) = if is_free name then Some (at_end v (of_plain m ty)) else None
+tail_type m name v (kind.Fixed fixed.Array) = if names_block name then Some (at_square v) else None
+tail_type m name v other = None
 
 -- the place of a global after AT, a direct variable
-abbrev pub row_place : (m : Mode) → Kind → Option (Row m)
-row_place m (kind.Variable v line) = if is_direct v then Some (at_colon (at_var m v line)) else None
-row_place m other = None
+abbrev pub tail_place : (m : Mode) → GrammarKind → Option (GlobalTail m)
+tail_place m (kind.Variable v line) = if is_direct v then Some (at_colon (at_var m v line)) else None
+tail_place m other = None
 
 -- the first index of an array
 abbrev pub is_zero : ℕ → Bool
@@ -300,7 +304,7 @@ is_zero zero = true
 is_zero (suc n) = false
 
 -- a place in `[0..k] OF BYTE`
-abbrev pub is_array : (m : Mode) → Row m → Bool
+abbrev pub is_array : (m : Mode) → GlobalTail m → Bool
 is_array m (at_square v) = true
 is_array m (at_zero v) = true
 is_array m (at_dots v) = true
@@ -310,75 +314,75 @@ is_array m (at_of v last) = true
 is_array m (at_byte v last) = true
 is_array m x = false
 
--- `[0..k] OF BYTE`
-abbrev pub row_array : (m : Mode) → Row m → Kind → Option (Row m)
-row_array m (at_square v) (kind.Fixed fixed.OpenSquare) = Some (at_zero v)
-row_array m (at_zero v) (kind.Literal (lit.Decimal n)) = if is_zero n then Some (at_dots v) else None
-row_array m (at_dots v) (kind.Fixed fixed.Dots) = Some (at_last v)
-row_array m (at_last v) (kind.Literal (lit.Decimal last)) = Some (at_close v last)
-row_array m (at_close v last) (kind.Fixed fixed.CloseSquare) = Some (at_of v last)
-row_array m (at_of v last) (kind.Fixed fixed.Of) = Some (at_byte v last)
-row_array m (at_byte v last) (kind.Fixed (fixed.Type type.Byte)) = Some (at_becomes v last)
-row_array m x other = None
+-- a token of `[0..k] OF BYTE`
+abbrev pub tail_array : (m : Mode) → GlobalTail m → GrammarKind → Option (GlobalTail m)
+tail_array m (at_square v) (kind.Fixed fixed.OpenSquare) = Some (at_zero v)
+tail_array m (at_zero v) (kind.Literal (lit.Decimal n)) = if is_zero n then Some (at_dots v) else None
+tail_array m (at_dots v) (kind.Fixed fixed.Dots) = Some (at_last v)
+tail_array m (at_last v) (kind.Literal (lit.Decimal last)) = Some (at_close v last)
+tail_array m (at_close v last) (kind.Fixed fixed.CloseSquare) = Some (at_of v last)
+tail_array m (at_of v last) (kind.Fixed fixed.Of) = Some (at_byte v last)
+tail_array m (at_byte v last) (kind.Fixed (fixed.Type type.Byte)) = Some (at_becomes v last)
+tail_array m x other = None
 
--- the bytes in square brackets
-abbrev pub row_items : (m : Mode) → Row m → Kind → Option (Row m)
-row_items m (at_becomes v last) (kind.Fixed fixed.Becomes) = Some (at_open v last)
-row_items m (at_open v last) (kind.Fixed fixed.OpenSquare) = Some (at_item v last (no_items m))
-row_items m (at_item v last items) (kind.Literal (lit.Byte b)) = Some (at_comma v last (add_single m items b))
-row_items m (at_item v last items) (kind.Literal (lit.Decimal count)) = Some (at_count v last items count)
-row_items m (at_count v last items count) (kind.Fixed fixed.Open) = Some (at_value v last items count)
-row_items m (at_value v last items count) (kind.Literal (lit.Byte b)) = Some (at_value_end v last items count b)
-row_items m (at_value_end v last items count b) (kind.Fixed fixed.Close) =
+-- a token of the bytes in square brackets
+abbrev pub tail_items : (m : Mode) → GlobalTail m → GrammarKind → Option (GlobalTail m)
+tail_items m (at_becomes v last) (kind.Fixed fixed.Becomes) = Some (at_open v last)
+tail_items m (at_open v last) (kind.Fixed fixed.OpenSquare) = Some (at_item v last (no_items m))
+tail_items m (at_item v last items) (kind.Literal (lit.Byte b)) = Some (at_comma v last (add_single m items b))
+tail_items m (at_item v last items) (kind.Literal (lit.Decimal count)) = Some (at_count v last items count)
+tail_items m (at_count v last items count) (kind.Fixed fixed.Open) = Some (at_value v last items count)
+tail_items m (at_value v last items count) (kind.Literal (lit.Byte b)) = Some (at_value_end v last items count b)
+tail_items m (at_value_end v last items count b) (kind.Fixed fixed.Close) =
     Some (at_comma v last (add_times m items count b))
-row_items m (at_comma v last items) (kind.Fixed fixed.Comma) = Some (at_item v last items)
-row_items m (at_comma v last items) (kind.Fixed fixed.CloseSquare) = Some (at_end v (of_bytes m last items))
-row_items m x other = None
+tail_items m (at_comma v last items) (kind.Fixed fixed.Comma) = Some (at_item v last items)
+tail_items m (at_comma v last items) (kind.Fixed fixed.CloseSquare) = Some (at_end v (of_bytes m last items))
+tail_items m x other = None
 
 -- a token of a global after its name, but its `;`
-abbrev pub row_step : (m : Mode) → List ℕ → Row m → Kind → Option (Row m)
-row_step m name at_word (kind.Fixed fixed.At) = Some at_place
-row_step m name at_word k = None
-row_step m name at_place k = row_place m k
-row_step m name (at_colon v) (kind.Fixed fixed.Colon) = Some (at_type v)
-row_step m name (at_colon v) k = None
-row_step m name (at_type v) k = row_type m name v k
-row_step m name x k = if is_array m x then row_array m x k else row_items m x k
+abbrev pub tail_step : (m : Mode) → List ℕ → GlobalTail m → GrammarKind → Option (GlobalTail m)
+tail_step m name at_word (kind.Fixed fixed.At) = Some at_place
+tail_step m name at_word k = None
+tail_step m name at_place k = tail_place m k
+tail_step m name (at_colon v) (kind.Fixed fixed.Colon) = Some (at_type v)
+tail_step m name (at_colon v) k = None
+tail_step m name (at_type v) k = tail_type m name v k
+tail_step m name x k = if is_array m x then tail_array m x k else tail_items m x k
 
 -- a global ends
-abbrev pub row_end : (m : Mode) → GlobalsIn m → List ℕ → Line → Row m → Option (State m)
-row_end m done name line (at_end v ty) = Some (globals (add_global m done name line v ty))
-row_end m done name line (at_becomes v last) =
+abbrev pub tail_end : (m : Mode) → GlobalsIn m → List ℕ → Line → GlobalTail m → Option (State m)
+tail_end m done name line (at_end v ty) = Some (globals (add_global m done name line v ty))
+tail_end m done name line (at_becomes v last) =
     Some (globals (add_global m done name line v (of_bytes m last (no_items m))))
-row_end m done name line x = None
+tail_end m done name line x = None
 
 -- a token of a global after its name
-abbrev pub at_row : (m : Mode) → GlobalsIn m → List ℕ → Line → Row m → Kind → Option (State m)
-at_row m done name line x (kind.Fixed fixed.Semicolon) = row_end m done name line x
-at_row m done name line x k = option_map (λ (y : Row m). row done name line y) (row_step m name x k)
+abbrev pub at_tail : (m : Mode) → GlobalsIn m → List ℕ → Line → GlobalTail m → GrammarKind → Option (State m)
+at_tail m done name line x (kind.Fixed fixed.Semicolon) = tail_end m done name line x
+at_tail m done name line x k = option_map (λ (y : GlobalTail m). global_tail done name line y) (tail_step m name x k)
 
 -- a text after its section of globals
 abbrev pub before_units : (m : Mode) → GlobalSectionIn m → TextSoFar m
 before_units m before = record { globals = before; units = no_units m }
 
 -- a token in the section of globals where a global may begin
-abbrev pub at_globals : (m : Mode) → GlobalsIn m → Kind → Option (State m)
+abbrev pub at_globals : (m : Mode) → GlobalsIn m → GrammarKind → Option (State m)
 at_globals m done (kind.Variable (var.Name name) line) =
-    if may_name_global name then Some (row done name line at_word) else None
+    if may_name_global name then Some (global_tail done name line at_word) else None
 at_globals m done (kind.Fixed fixed.EndVar) = Some (between (before_units m (global_section m done)))
 at_globals m done other = None
 
 -- Units
 
 -- a token where a unit may begin or the text end
-abbrev pub at_between : (m : Mode) → TextSoFar m → Kind → Option (State m)
+abbrev pub at_between : (m : Mode) → TextSoFar m → GrammarKind → Option (State m)
 at_between m text (kind.Lead lead.Program line) = Some (heading text true line)
 at_between m text (kind.Lead lead.Function line) = Some (heading text false line)
 at_between m text (kind.Fixed fixed.End) = Some (over text)
 at_between m text other = None
 
 -- the first token of a text
-abbrev pub at_start : (m : Mode) → Kind → Option (State m)
+abbrev pub at_start : (m : Mode) → GrammarKind → Option (State m)
 at_start m (kind.Fixed fixed.VarGlobal) = Some (globals (no_globals m))
 at_start m other = at_between m (before_units m (no_global_section m)) other
 
@@ -387,7 +391,7 @@ abbrev pub begun_unit : (m : Mode) → TextSoFar m → HeadIn m → BegunUnit m
 begun_unit m text head = record { text = text; head = head }
 
 -- the name of a unit after its first word
-abbrev pub at_heading : (m : Mode) → TextSoFar m → Bool → Line → Kind → Option (State m)
+abbrev pub at_heading : (m : Mode) → TextSoFar m → Bool → Line → GrammarKind → Option (State m)
 at_heading m text program line (kind.Variable (var.Name name) place) =
     if may_name_unit name then Some (opened (begun_unit m text (head_of m program line name place))) else None
 at_heading m text program line other = None
@@ -412,14 +416,14 @@ section_end m begun formals done = formals_done begun (section_of m done)
 section_end m begun (temps before) done = inside begun before (section_of m done) (body_start m)
 
 -- a token in a section of a unit where a declaration may begin
-abbrev pub at_section : (m : Mode) → BegunUnit m → SectionKind m → LocalsIn m → Kind → Option (State m)
+abbrev pub at_section : (m : Mode) → BegunUnit m → SectionKind m → LocalsIn m → GrammarKind → Option (State m)
 at_section m begun which done (kind.Variable (var.Name name) line) =
     if may_name m which name then Some (typing begun which done name line local_colon) else None
 at_section m begun which done (kind.Fixed fixed.EndVar) = Some (section_end m begun which done)
 at_section m begun which done other = None
 
 -- a token of a formal or a local after its name
-abbrev pub at_typing : (m : Mode) → BegunUnit m → SectionKind m → LocalsIn m → List ℕ → Line → Typing → Kind
+abbrev pub at_typing : (m : Mode) → BegunUnit m → SectionKind m → LocalsIn m → List ℕ → Line → Typing → GrammarKind
     → Option (State m)
 at_typing m begun which done name line local_colon (kind.Fixed fixed.Colon) =
     Some (typing begun which done name line local_type)
@@ -448,28 +452,28 @@ leave m program begun before locals [] (statement body) =
 leave m program begun before locals s p = None
 
 -- a token in a unit's statements, or its end word
-abbrev pub at_inside : (m : Mode) → BegunUnit m → LocalSectionIn m → LocalSectionIn m → BodyState m → Kind
+abbrev pub at_inside : (m : Mode) → BegunUnit m → LocalSectionIn m → LocalSectionIn m → BodyState m → GrammarKind
     → Option (State m)
 at_inside m begun before locals at (kind.Fixed fixed.EndProgram) = leave m true begun before locals at.stack at.place
 at_inside m begun before locals at (kind.Fixed fixed.EndFunction) = leave m false begun before locals at.stack at.place
 at_inside m begun before locals at k = option_map (λ (to : BodyState m). inside begun before locals to) (step m at k)
 
 -- a token where the section of locals may begin, or the first statement
-abbrev pub at_formals_done : (m : Mode) → BegunUnit m → LocalSectionIn m → Kind → Option (State m)
+abbrev pub at_formals_done : (m : Mode) → BegunUnit m → LocalSectionIn m → GrammarKind → Option (State m)
 at_formals_done m begun before (kind.Fixed fixed.VarTemp) = Some (section begun (temps before) (no_locals m))
 at_formals_done m begun before k = at_inside m begun before (no_section m) (body_start m) k
 
 -- a token after the name of a unit; a program has no formals
-abbrev pub at_opened : (m : Mode) → BegunUnit m → Kind → Option (State m)
+abbrev pub at_opened : (m : Mode) → BegunUnit m → GrammarKind → Option (State m)
 at_opened m begun (kind.Fixed fixed.VarInOut) =
     if is_program m begun.head then None else Some (section begun formals (no_locals m))
 at_opened m begun k = at_formals_done m begun (no_section m) k
 
--- one token
-abbrev pub next : (m : Mode) → State m → Kind → Option (State m)
+-- one token of a text
+abbrev pub next : (m : Mode) → State m → GrammarKind → Option (State m)
 next m start k = at_start m k
 next m (globals done) k = at_globals m done k
-next m (row done name line x) k = at_row m done name line x k
+next m (global_tail done name line x) k = at_tail m done name line x k
 next m (between text) k = at_between m text k
 next m (heading text program line) k = at_heading m text program line k
 next m (opened begun) k = at_opened m begun k
@@ -490,8 +494,8 @@ level_at m d p s = d
 -- the level that the last token made
 abbrev pub last_level : (m : Mode) → State m → ℕ
 last_level m (inside begun before locals at) = level_at m at.depth at.place at.stack
-last_level m (row done name line (at_value v last items count)) = 1
-last_level m (row done name line (at_value_end v last items count b)) = 1
+last_level m (global_tail done name line (at_value v last items count)) = 1
+last_level m (global_tail done name line (at_value_end v last items count b)) = 1
 last_level m other = 0
 
 -- the state after tokens, and their levels, the last one first
@@ -499,7 +503,7 @@ pub record Passed (m : Mode) : Type 0 where
   pub state : State m
   pub levels : List ℕ
 
--- all tokens
-abbrev pub passes : (m : Mode) → State m → List ℕ → List Kind → Option (Passed m)
+-- all tokens of a text
+abbrev pub passes : (m : Mode) → State m → List ℕ → List GrammarKind → Option (Passed m)
 passes m q before [] = Some (record { state = q; levels = before })
 passes m q before (k ∷ ks) = option_and_then (λ r. passes m r (last_level m r ∷ before) ks) (next m q k)

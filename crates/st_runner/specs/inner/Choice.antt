@@ -13,16 +13,16 @@ use Rattle.st_tree.specs.declared.program.Located.{Located}
 use Rattle.st_tree.specs.declared.program.Stmt.{Stmt}
 
 -- the body of the first arm whose test is TRUE, or else the statements after ELSE
-abbrev pub picked : List Located → List Arm → List Stmt → State → Result (List Stmt) Fault
-picked globals [] other s = Ok other
-picked globals (arm ∷ rest) other s =
-    and_then (value globals arm.test s) (λ v. if is_set v then Ok arm.body else picked globals rest other s)
+abbrev pub if_body : List Located → List Arm → List Stmt → State → Result (List Stmt) Fault
+if_body globals [] other s = Ok other
+if_body globals (arm ∷ rest) other s =
+    and_then (value globals arm.test s) (λ v. if is_set v then Ok arm.body else if_body globals rest other s)
 
 -- an arm has a value
 unfoldable pub has_label : List ℤ → ℤ → Bool
 has_label labels n = list_any (λ label. int_eq label n) labels
 
 -- the body of the first arm that has a value, or else the statements after ELSE
-abbrev pub labelled : ℤ → List CaseArm → List Stmt → List Stmt
-labelled n [] other = other
-labelled n (arm ∷ rest) other = if has_label arm.labels n then arm.body else labelled n rest other
+abbrev pub case_body : ℤ → List CaseArm → List Stmt → List Stmt
+case_body n [] other = other
+case_body n (arm ∷ rest) other = if has_label arm.labels n then arm.body else case_body n rest other

@@ -14,7 +14,7 @@ pub record Costs : Type 0 where
   pub unit : ℕ
   pub call : ℕ → List Var → ℕ
 
--- the most that a statement costs at a time beside the frame that holds it
+-- the most that a statement costs at a time without the frame of its list
 abbrev pub most_step : Costs → S.Stmt-F ℕ ℕ ℕ → ℕ
 most_step k (S.Assign v e) = 0
 most_step k (S.AreaWrite w p e) = 0
@@ -26,7 +26,7 @@ most_step k S.Exit = 0
 most_step k S.Continue = 0
 most_step k S.Return = 0
 
--- the most that a statement costs at a time, with the statements in it, beside the frame that holds it
+-- the most that a statement costs at a time, with the statements in it, without the frame of its list
 abbrev pub most : Costs → Stmt → ℕ
 most k = fold-Stmt ℕ ℕ ℕ (most_step k) (λ arm. greatest arm.body) (λ arm. greatest arm.body)
 

@@ -8,7 +8,7 @@ use Rattle.st_tree.specs.Meaning.{Out, Calls}
 use Rattle.st_tree.specs.State.{State}
 use Rattle.st_tree.specs.declared.program.Located.{Located}
 
--- frames that are left mean after one end what all meant after another, and cost no more
+-- the frames that are left mean after one end what all frames meant after another, and cost no more
 pub record Leaves (from to : ℕ → State → Out) (before after : List Frame) : Type 0 where
   pub meaning : (g : List Located) (c : Calls) (u : ℕ) (s : State)
       → ending g c after (to u s) ≡ ending g c before (from u s)

@@ -23,7 +23,7 @@ size k (frame.Rest body) = k.rest
 size k (frame.Again test body) = k.again
 size k frame.Unit = k.unit
 
--- the most that a frame costs while the statements that it holds run
+-- the most that a frame costs while its statements run
 abbrev pub frame_tall : Costs → Frame → ℕ
 frame_tall k (frame.Rest body) = k.rest + body_most k body.now
 frame_tall k (frame.Again test body) = k.again + (k.rest + body_most k body.now)

@@ -10,7 +10,7 @@ use Rattle.st_runner.specs.inner.View.{IsSound, state_of}
 use Rattle.st_runner.specs.declared.frame.At.{At}
 use Rattle.st_runner.specs.declared.frame.At.TheVariants as at
 use Rattle.st_runner.specs.declared.frame.Frame.{Frame}
-use Rattle.st_runner.specs.declared.state.State.{State as Parts}
+use Rattle.st_runner.specs.declared.state.State.{State as RunnerState}
 use Rattle.st_tree.specs.Calls.{calls_to}
 use Rattle.st_tree.specs.Meaning.{Calls, meaning}
 use Rattle.st_tree.specs.State.{State}
@@ -30,14 +30,15 @@ most_formals (unit ∷ rest) = max (length unit.formals) (most_formals rest)
 
 -- the state is sound, a unit waits for each activation but the first, and what is left to do costs no more
 -- frames and activations than there are, with calls whose actuals have room
-pub record IsReady (tree : StProgram) (capacity : ℕ) (work : List Frame) (next : At) (state : Parts) : Type 0 where
+pub record IsReady (tree : StProgram) (capacity : ℕ) (work : List Frame)
+    (next : At) (state : RunnerState) : Type 0 where
   pub sound : IsSound (most_locals tree.pous) (most_formals tree.pous) state
   pub count : length state.activations.items ≡ 1 + units work
   pub frames : reach (stack_costs tree) work next ≤ capacity
   pub depth : reach (depth_costs tree) work next < ACTIVATIONS
   pub actuals : reach (misfit_costs tree) work next ≡ 0
 
--- a fact where statements follow at once
+-- a fact that is needed where the statements that wait come next
 abbrev pub IfWork : At → Type 0 → Type 0
 IfWork at.Work P = P
 IfWork (at.Test test body) P = Unit {0}
@@ -67,7 +68,7 @@ pub record Done (tree : StProgram) (stmt : Stmt) (before after : List Frame) (ne
 
 -- what needs no unit was done: from the frames that waited, what comes next ends as they did, costs no
 -- more, and keeps what is kept
-pub record Stepped (tree : StProgram) (before after : List Frame) (next : At) (s t : Parts) : Type 0 where
+pub record Stepped (tree : StProgram) (before after : List Frame) (next : At) (s t : RunnerState) : Type 0 where
   pub meaning : (c : Calls) (u : ℕ)
       → end_at tree.globals c after next u (state_of t) ≡ end_at tree.globals c before at.Work u (state_of s)
   pub reach : (k : Costs) → reach k after next ≤ tall k before
@@ -77,7 +78,7 @@ pub record Stepped (tree : StProgram) (before after : List Frame) (next : At) (s
 
 -- a unit was spent: with a unit less, what comes next ends as what came next before, and is ready
 pub record Spent (tree : StProgram) (capacity : ℕ) (before after : List Frame) (last next : At)
-    (s t : Parts) : Type 0 where
+    (s t : RunnerState) : Type 0 where
   pub meaning : (u : ℕ)
       → end_at tree.globals (calls_to u tree) after next u (state_of t)
       ≡ end_at tree.globals (calls_to (suc u) tree) before last (suc u) (state_of s)

@@ -42,18 +42,18 @@ misfit_costs tree = record { rest = 0; again = 0; unit = 0; call = misfit tree }
 
 -- The tree
 
--- globals stand for areas that a memory has
+-- the areas of globals are ones that a memory has
 abbrev pub AreGlobals : List Located → Type 0
 AreGlobals [] = Unit {0}
 AreGlobals (g ∷ rest) = IsActivation g.place.area × AreGlobals rest
 
--- what a unit of a tree keeps
+-- the rules for a unit of a tree that can be run
 pub record IsRunnableUnit (tree : StProgram) (n : ℕ) (unit : Pou) : Type 0 where
   pub chain : chain_of tree n ≤ ACTIVATIONS
   pub nesting : body_most nesting_costs unit.body ≤ deepest
   pub actuals : body_most (misfit_costs tree) unit.body ≡ 0
 
--- what a runner needs of a tree: what each of its units keeps, and globals that stand for areas of a memory
+-- the rules for a tree that can be run: those of each of its units, and globals whose areas a memory has
 pub record IsRunnable (tree : StProgram) : Type 0 where
   pub units : (n : ℕ) (unit : Pou) → slice_get tree.pous n ≡ Some unit → IsRunnableUnit tree n unit
   pub globals : AreGlobals tree.globals

@@ -16,23 +16,23 @@ use Rattle.st_tree.specs.Value.{value}
 use Rattle.st_tree.specs.declared.program.Located.{Located}
 use Rattle.st_tree.specs.declared.program.Stmt.{Stmt}
 
--- what follows where the statements above a frame ended so
-abbrev pub framed : List Located → Calls → Frame → Out → Out
-framed globals calls (frame.Rest body) o = then_do o (body_meaning globals calls body.now)
-framed globals calls (frame.Again test body) o =
+-- the end of a frame, after the statements above it ended
+abbrev pub resume_frame : List Located → Calls → Frame → Out → Out
+resume_frame globals calls (frame.Rest body) o = then_do o (body_meaning globals calls body.now)
+resume_frame globals calls (frame.Again test body) o =
     after_body o (loop (value globals test.now) (body_meaning globals calls body.now))
-framed globals calls frame.Unit o = after_unit o
+resume_frame globals calls frame.Unit o = after_unit o
 
--- what follows in all frames, of which the last is done first
+-- the end of all frames, of which the last is done first
 abbrev pub unwound : List Located → Calls → List Frame → Out → Out
 unwound globals calls [] o = o
-unwound globals calls (f ∷ rest) o = framed globals calls f (unwound globals calls rest o)
+unwound globals calls (f ∷ rest) o = resume_frame globals calls f (unwound globals calls rest o)
 
--- what is seen in the end where statements ended so, and these frames wait
+-- the end of a run where statements ended in this way, and these frames wait
 abbrev pub ending : List Located → Calls → List Frame → Out → End
 ending globals calls work o = end_seen (unwound globals calls work o)
 
--- how a run ends with some units that stands here: frames wait, this comes next, in this state
+-- the end of a run with some units where frames wait, this comes next, in this state
 abbrev pub end_at : List Located → Calls → List Frame → At → ℕ → State → End
 end_at globals calls work at.Work units s = ending globals calls work (Normal units s)
 end_at globals calls work (at.Test test body) units s =
@@ -49,7 +49,7 @@ or_none (first ∷ behind) below above = above
 abbrev pub with_rest : List Frame → Bor (List Stmt) → List Frame
 with_rest below rest = or_none rest.now below (below ++ frame.Rest rest ∷ [])
 
--- the outcome of a run for which this comes next
+-- the outcome of a run that does this next
 abbrev pub outcome_of : At → Outcome
 outcome_of at.Work = outcome.Going
 outcome_of (at.Test test body) = outcome.Going

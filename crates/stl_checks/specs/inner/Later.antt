@@ -1,7 +1,7 @@
 -- The stages behind that of the names.
 use Rattle.std.specs.Prelude.{Option}
 use Rattle.s7_base.specs.Broken.{first_of_all}
-use Rattle.s7_base.specs.declared.broken.Break.{Break}
+use Rattle.s7_base.specs.declared.rule_break.Break.{Break}
 use Rattle.stl_rules.specs.Stages.{bodies, no_blocks, or_later}
 use Rattle.stl_tree.specs.declared.raw.RawProgram.{RawProgram}
 

@@ -3,15 +3,15 @@ use Rattle.std.specs.Prelude.{ℕ, if◌then◌else◌, List, [], ◌∷◌, ◌
 use Rattle.s7_base.specs.declared.token.Token.{Token}
 use Rattle.stl_declarations.specs.declared.elements.Next.{Next}
 use Rattle.stl_declarations.specs.declared.elements.Next.TheVariants.{End, More, Other}
-use Rattle.stl_statements.specs.Readers.{further, read_as}
-use Rattle.stl_statements.specs.Words.{is_sign}
-use Rattle.stl_statements.specs.declared.mnemonic.Read.{Read}
+use Rattle.stl_statement_grammar.specs.Readers.{further, read_as}
+use Rattle.stl_statement_grammar.specs.Words.{is_sign}
+use Rattle.stl_statement_grammar.specs.declared.mnemonic.Read.{Read}
 
--- what stands behind an element of a list
+-- what follows an element of a list
 abbrev pub next_of : List ℕ → List Token → Next
 next_of close [] = Other
 next_of close (sign ∷ rest) = if is_sign close sign then End else if is_sign (codes ",") sign then More else Other
 
--- elements of so many tokens, and what is read behind them
+-- elements of this many tokens, and what is read after them
 abbrev pub read_further : {A : Type 0} → List A → ℕ → Read (List A) → Read (List A)
 read_further done size behind = further size (read_as (λ more. done ++ more) behind)

@@ -14,9 +14,9 @@ use Rattle.stl_tree.specs.declared.program.Program.{Program}
 abbrev pub activations : Frames → List Activation
 activations f = activation f.current ∷ f.callers
 
--- what an instruction works on
-abbrev pub seen : State → Now
-seen s =
+-- the state of the code, as the definitions have it
+abbrev pub now_of : State → Now
+now_of s =
     record {
       registers = values s.registers;
       brackets = s.brackets;
@@ -24,7 +24,7 @@ seen s =
       activations = activations s.frames;
     }
 
--- where a run stands, from its parts
+-- a run between two steps, from its parts
 abbrev pub standing : Program → Progress → State → Standing
-standing program progress.Running s = running program (seen s)
+standing program progress.Running s = running program (now_of s)
 standing program (progress.Over f) s = over s.memory f

@@ -5,10 +5,10 @@ use Rattle.stl_grammar.specs.declared.item.Reading.{Reading}
 use Rattle.stl_tree.specs.declared.raw.RawBlock.{RawBlock}
 use Rattle.stl_tree.specs.declared.raw.RawData.{RawData}
 
--- the last block is done, and this one follows
+-- the text so far, whose last block has ended, and this one follows
 abbrev pub with_last : Option RawBlock → Reading → Reading
 with_last next reading = record reading { done = blocks_in reading; last = next }
 
--- the last data block is done, and this one follows
+-- the text so far, whose last data block has ended, and this one follows
 abbrev pub with_last_db : Option RawData → Reading → Reading
 with_last_db next reading = record reading { dbs = dbs_in reading; last_db = next }

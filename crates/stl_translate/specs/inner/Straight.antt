@@ -13,10 +13,10 @@ last_steps [] = []
 last_steps (node ∷ []) = node.steps
 last_steps (node ∷ next ∷ rest) = last_steps (next ∷ rest)
 
--- a unit with these statements
+-- the unit of a graph of one node, with these statements
 abbrev pub straight_unit : GraphPou → Pou
 straight_unit unit = record unit.head { body = last_steps unit.graph.nodes }
 
--- the text
+-- the text of a graph program whose units are one node each
 abbrev pub straight : GraphProgram → StProgram
 straight graph = record { dbs = graph.dbs; globals = graph.globals; pous = map straight_unit graph.pous }

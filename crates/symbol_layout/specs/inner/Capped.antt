@@ -5,21 +5,23 @@ use Rattle.stl_tree.specs.declared.raw.ElemType.{ElemType}
 use Rattle.stl_rules.specs.Extents.{end_of, indices_in}
 use Rattle.stl_rules.specs.Paths.{is_index}
 use Rattle.stl_rules.specs.TooLarge.{passes}
-use Rattle.symbol_layout.specs.Kept.{capped}
+use Rattle.symbol_layout.specs.Kept.{capped_bits}
 
--- where a declaration ends behind what ends here, if the length does not pass the limit there
+-- the end of a declaration after one that ends at this bit, if the length does not pass the limit there
 abbrev pub end_within : ℕ → ℕ → Declaration → Option ℕ
 end_within limit end d = if passes limit (end_of end d) then None else Some (end_of end d)
 
--- of which type values may be, and how many are counted
+-- the elementary type of the initial values of a type, and how many of them are counted
 abbrev pub capped_takes : Option (ElemType × ℕ) → Option (ElemType × ℕ)
-capped_takes most = option_map (λ (pair : ElemType × ℕ). (pair.0, capped pair.1)) most
+capped_takes most = option_map (λ (pair : ElemType × ℕ). (pair.0, capped_bits pair.1)) most
 
--- how many elements stand before one, where so many rows stand before it: a dimension further
+-- how many elements of a dimension come before one at an index, after this many whole lines of the dimension
 abbrev pub row_behind : ℕ → ℤ × ℤ → ℤ → Option ℕ
-row_behind rows bounds i = if is_index bounds i then Some (rows * indices_in bounds + unsigned_abs (i -ℤ bounds.0)) else None
+row_behind rows bounds i =
+    if is_index bounds i then Some (rows * indices_in bounds + unsigned_abs (i -ℤ bounds.0)) else None
 
--- the same with the first of some indices
+-- how many elements of a dimension come before one at the first of some indices, after this many whole lines of the
+-- dimension
 abbrev pub next_row : ℕ → ℤ × ℤ → List ℤ → Option ℕ
 next_row rows bounds [] = None
 next_row rows bounds (i ∷ is) = row_behind rows bounds i

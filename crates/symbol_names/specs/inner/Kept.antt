@@ -5,14 +5,14 @@ use Rattle.memory_areas.specs.declared.call.BlockName.{BlockName}
 use Rattle.memory_areas.specs.declared.call.BlockName.TheVariants.{Ob}
 use Rattle.memory_areas.specs.declared.data_block.DataBlock.{DataBlock}
 use Rattle.s7_base.specs.Broken.{first_of_all}
-use Rattle.s7_base.specs.declared.broken.Break.{Break}
+use Rattle.s7_base.specs.declared.rule_break.Break.{Break}
 use Rattle.s7_base.specs.declared.reason.Reason.{Reason}
 use Rattle.s7_base.specs.declared.reason.Reason.TheVariants.{BadAddress, DuplicateName}
 use Rattle.stl_rules.specs.DataBlocks.{bytes_with}
 use Rattle.stl_rules.specs.Layouts.{breaks_in}
 use Rattle.stl_rules.specs.Names.{block_number, may_have}
 use Rattle.stl_rules.specs.Programs.{block_name, block_with, symbol_of}
-use Rattle.stl_rules.specs.Raw.{Scope, most_local}
+use Rattle.stl_rules.specs.Raw.{OperandScope, most_local}
 use Rattle.stl_rules.specs.DeclarationRules.{is_named, key_of}
 use Rattle.stl_rules.specs.Stages.{broken_if, heading_breaks, instr_breaks, is_address, valued_breaks, content_breaks}
 use Rattle.stl_tree.specs.declared.program.Block.{Block}
@@ -30,7 +30,7 @@ use Rattle.stl_tree.specs.declared.raw.SymbolLine.{SymbolLine}
 
 -- Data blocks
 
--- what a heading and what stands behind it break
+-- the rules that a heading and the contents of a data block break
 abbrev pub db_breaks : List (BlockKind × ℕ) → RawData → Result ℕ Reason → List Break
 db_breaks before d number = heading_breaks block.Db d.line before number ++ content_breaks d.initial d.kind
 
@@ -40,7 +40,8 @@ bytes_unless None bytes = Some bytes
 bytes_unless (Some first) bytes = None
 
 abbrev pub bytes_of_sections : List RawInitial → List (List Declaration) → Option (List ℕ)
-bytes_of_sections values sections = bytes_unless (first_of_all (valued_breaks sections values)) (bytes_with sections values)
+bytes_of_sections values sections =
+    bytes_unless (first_of_all (valued_breaks sections values)) (bytes_with sections values)
 
 abbrev pub bytes_kept : List RawInitial → RawDataKind → Option (List ℕ)
 bytes_kept values (data_kind.Own decls) = bytes_of_sections values (decls ∷ [])
@@ -51,7 +52,7 @@ abbrev pub data_by : Result ℕ Reason → Option (List ℕ) → Option DataBloc
 data_by (Ok n) (Some bytes) = if may_have block.Db n then Some (record { number = n; bytes = bytes }) else None
 data_by number bytes = None
 
--- nothing is kept where there are too many
+-- a data block, which is not kept where there are too many
 abbrev pub kept_if : Bool → Option DataBlock → Option DataBlock
 kept_if true made = made
 kept_if false made = None
@@ -61,30 +62,35 @@ data_kept keep symbols d = kept_if keep (data_by (block_number symbols block.Db 
 
 -- Blocks
 
--- what the temporaries and the instructions break
-abbrev pub content_breaks_of : Scope → List Break
-content_breaks_of scope = breaks_in most_local (scope.block.temps ∷ []) ++ flat_map (instr_breaks scope) scope.block.body
+-- the rules that the temporaries and the instructions of a block break
+abbrev pub content_breaks_of : OperandScope → List Break
+content_breaks_of scope =
+    breaks_in most_local (scope.block.temps ∷ []) ++ flat_map (instr_breaks scope) scope.block.body
 
--- what a heading, the temporaries and the instructions break
+-- the rules that the heading, the temporaries and the instructions of a block break
 abbrev pub block_breaks : RawProgram → List (BlockKind × ℕ) → RawBlock → List Break
 block_breaks text before raw =
-    heading_breaks raw.kind raw.line before (block_number text.symbols raw.kind raw.name) ++ breaks_in most_local (raw.temps ∷ [])
+    heading_breaks raw.kind raw.line before (block_number text.symbols raw.kind raw.name)
+    ++ breaks_in most_local (raw.temps ∷ [])
     ++ flat_map (instr_breaks (record { text = text; block = raw })) raw.body
 
--- the name of a block, any where its number is none of its kind
+-- the name of a block; any name where its number is none of its kind
 abbrev pub name_within : BlockKind → Result ℕ Reason → BlockName
 name_within kind (Ok n) = if may_have kind n then block_name kind (Ok n) else Ob 0
 name_within kind (Err reason) = Ob 0
 
 abbrev pub block_within : RawProgram → RawBlock → Block
 block_within text raw =
-    block_with (record { text = text; block = raw }) (name_within raw.kind (block_number text.symbols raw.kind raw.name))
+    block_with (record { text = text; block = raw })
+    (name_within raw.kind (block_number text.symbols raw.kind raw.name))
 
 -- Symbols
 
 abbrev pub symbol_kept : SymbolLine → Option Symbol
 symbol_kept line = if is_address line.address then symbol_of line else None
 
--- what a line breaks, where these names stand before
+-- the rules that a line of the symbol table breaks after lines of these names
 abbrev pub line_breaks : List (List ℕ) → SymbolLine → List Break
-line_breaks names line = broken_if (is_named (key_of line.name) names) line.line DuplicateName ++ broken_if (not (is_address line.address)) line.line BadAddress
+line_breaks names line =
+    broken_if (is_named (key_of line.name) names) line.line DuplicateName
+    ++ broken_if (not (is_address line.address)) line.line BadAddress

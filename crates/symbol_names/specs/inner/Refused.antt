@@ -16,6 +16,6 @@ abbrev pub decls_of : RawDataKind → List Declaration
 decls_of (data_kind.Own decls) = decls
 decls_of (data_kind.Instance name) = []
 
--- these as one section, behind the most bytes that they may take
+-- the declarations of a data block as one section, after the most bytes that they may take
 abbrev pub own_of : RawData → ℕ × List (List Declaration)
 own_of d = (most_in_block, decls_of d.kind ∷ [])

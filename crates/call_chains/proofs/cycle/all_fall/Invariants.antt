@@ -1,5 +1,5 @@
 use Rattle.std.proofs.Common.{◌≡◌, drop}
-use Rattle.call_chains.specs.Cycles.{all_fall}
+use Rattle.call_chains.specs.inner.Cycles.{all_fall}
 use Rattle.call_chains.proofs.cycle.all_fall.Given as goal
 
 abbrev pub invariant-loop-unit : goal.invariant-loop-unit

@@ -1,4 +1,4 @@
-use Rattle.call_chains.specs.Cycles.{IsFirstBefore}
+use Rattle.call_chains.specs.inner.Cycles.{IsFirstBefore}
 use Rattle.call_chains.proofs.cycle.consider_unit.Given as goal
 
 abbrev pub invariant-loop-call : goal.invariant-loop-call

@@ -1,4 +1,4 @@
-use Rattle.call_chains.specs.Cycles.{IsFirstBefore}
+use Rattle.call_chains.specs.inner.Cycles.{IsFirstBefore}
 use Rattle.call_chains.proofs.cycle.first_by.Given as goal
 
 abbrev pub invariant-loop-unit : goal.invariant-loop-unit

@@ -18,7 +18,8 @@ returns-in-Ok-clause-complete g c =
     (written _ _ c.in-Ok.reply c.finish.result c.as_bytes.result.now c.in-Ok.ensures.answer c.as_bytes.ensures c.finish.ensures.ends)
     (record {
       read_fault = read_cause _ _ _ c.finish.result
-          (inputs_read _ _ _ _ _ c.in-Ok.reply.status c.finish.result c.as_bytes.result.now c.in-Ok.ensures.answer.written c.finish.ensures.ends c.in-Ok.ensures.reads);
+          (inputs_read _ _ _ _ _ c.in-Ok.reply.status c.finish.result c.as_bytes.result.now
+          c.in-Ok.ensures.answer.written c.finish.ensures.ends c.in-Ok.ensures.reads);
       write_fault = write_cause _ c.in-Ok.reply.status c.finish.result c.in-Ok.ensures.answer.written c.finish.ensures.cause;
     })
 

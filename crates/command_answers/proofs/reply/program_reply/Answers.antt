@@ -7,14 +7,17 @@ use Rattle.command_answers.proofs.reply.program_reply.Goals as goal
 
 pub returns-in_ok-print-in-Translate-clause-answer : goal.returns-in_ok-print-in-Translate-clause-answer
 returns-in_ok-print-in-Translate-clause-answer g c =
-    done_alone (work_of c.args.job.now) AnswersTranslate c.args.program.now _ c.made.result c.in_ok-print-in-Translate.field-0.items (ap work_of c.in-Translate.is) c.made.ensures (
+    done_alone (work_of c.args.job.now) AnswersTranslate c.args.program.now _ c.reply_of_text.result
+    c.in_ok-print-in-Translate.field-0.items (ap work_of c.in-Translate.is) c.reply_of_text.ensures (
       refl,
       translates c.args.program.now c.in_ok-tree-in-Translate.tree c.in_ok-print-in-Translate.field-0.items
           c.in_ok-tree-in-Translate.ensures.proper c.in_ok-tree-in-Translate.ensures.same c.in_ok-print-in-Translate.ensures,
     )
 
 pub returns-in-Check-clause-answer : goal.returns-in-Check-clause-answer
-returns-in-Check-clause-answer g c = done_alone (work_of c.args.job.now) AnswersCheck c.args.program.now _ c.fixed.result accepted_line (ap work_of c.in-Check.is) c.fixed.ensures refl
+returns-in-Check-clause-answer g c =
+    done_alone (work_of c.args.job.now) AnswersCheck c.args.program.now _ c.reply_of_line.result accepted_line
+    (ap work_of c.in-Check.is) c.reply_of_line.ensures refl
 
 pub returns-in-Run-clause-reads : goal.returns-in-Run-clause-reads
 returns-in-Run-clause-reads g c =

@@ -13,4 +13,5 @@ returns-in-St-clause-reads g c =
     reads_asked _ c.in-Ok.command (task.St c.in-St.job) _ _ _ c.in-Ok.ensures (sym c.in-St.is ∙ c.task_of.ensures) c.text_reply.ensures.reads
 
 pub returns-in-Err-Usage-clause-answer : goal.returns-in-Err-Usage-clause-answer
-returns-in-Err-Usage-clause-answer g c = usage_asked _ _ _ c.fixed.result (rw c.in-Err-Usage.field-0-is at c.in-Err-Usage.ensures) c.fixed.ensures
+returns-in-Err-Usage-clause-answer g c =
+    usage_asked _ _ _ c.reply_of_line.result (rw c.in-Err-Usage.field-0-is at c.in-Err-Usage.ensures) c.reply_of_line.ensures

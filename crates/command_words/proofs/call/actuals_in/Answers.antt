@@ -15,7 +15,8 @@ returns-then-is_empty c =
     let rest : List ℕ = c.loop-actual.rest.now in
     let found : actual_of (take (first_size rest) rest) ≡ Some c.in-Some.actual = first_of (cc, search rules, grind (arith, common_steps)) in
     let put : before c.push.new.self (actuals_in (pieces_behind (drop (first_size rest) rest))) ≡ actuals_in (pieces c.args.text.now) =
-    rw (c.in_ok-push-in-Some.ensures.ok) (at_actual c.loop-actual.actuals c.in-Some.actual rest (actuals_in (pieces c.args.text.now)) found c.loop-actual.invariant) in
+    rw (c.in_ok-push-in-Some.ensures.ok)
+    (at_actual c.loop-actual.actuals c.in-Some.actual rest (actuals_in (pieces c.args.text.now)) found c.loop-actual.invariant) in
     let empty : length (drop (first_size rest) rest) ≡ 0 = first_of (cc, search rules, grind (arith, common_steps)) in
     sym (at_last c.push.new.self (drop (first_size rest) rest) (actuals_in (pieces c.args.text.now)) empty put)
 
@@ -24,7 +25,8 @@ loop-actual-preserved c =
     let rest : List ℕ = c.loop-actual.rest.now in
     let found : actual_of (take (first_size rest) rest) ≡ Some c.in-Some.actual = first_of (cc, search rules, grind (arith, common_steps)) in
     let put : before c.push.new.self (actuals_in (pieces_behind (drop (first_size rest) rest))) ≡ actuals_in (pieces c.args.text.now) =
-    rw (c.in_ok-push-in-Some.ensures.ok) (at_actual c.loop-actual.actuals c.in-Some.actual rest (actuals_in (pieces c.args.text.now)) found c.loop-actual.invariant) in
+    rw (c.in_ok-push-in-Some.ensures.ok)
+    (at_actual c.loop-actual.actuals c.in-Some.actual rest (actuals_in (pieces c.args.text.now)) found c.loop-actual.invariant) in
     let some : 0 < length (drop (first_size rest) rest) = first_of (cc, search rules, grind (arith, common_steps)) in
     let behind : c.rest_after-rest.result.now ≡ drop 1 (drop (first_size rest) rest) = first_of (cc, search rules, grind (arith, common_steps)) in
     rw behind (at_comma c.push.new.self (drop (first_size rest) rest) (actuals_in (pieces c.args.text.now)) some put)

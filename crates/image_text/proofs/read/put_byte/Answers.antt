@@ -10,4 +10,5 @@ pub returns-clause-stays : goal.returns-clause-stays
 returns-clause-stays c blocks memory =
     let place : Place = record { area = c.args.area; byte = c.args.at; bit = 0 } in
     bytes_leave_memories place c.args.value c.args.memory.now c.write_byte.new.self blocks c.ranges.value.fits memory
-    (subst (λ (r : Result (Unit {0}) Fault). Writes (write_byte place c.args.value c.args.memory.now) r c.args.memory.now c.write_byte.new.self) c.unwrap.ensures c.write_byte.ensures)
+    (subst (λ (r : Result (Unit {0}) Fault). Writes (write_byte place c.args.value c.args.memory.now) r c.args.memory.now c.write_byte.new.self)
+    c.unwrap.ensures c.write_byte.ensures)

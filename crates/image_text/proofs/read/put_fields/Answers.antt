@@ -8,8 +8,11 @@ use Rattle.image_text.proofs.read.put_fields.Goals as goal
 
 pub loop-left-preserved : goal.loop-left-preserved
 loop-left-preserved c =
-    let done = field_done c.args.area c.loop-left.at c.next_value-value.result.0 (or_none (values_of (pieces_left is_blank c.next_value-value.result.1.now))) (or_none (values_of (pieces_left is_blank c.loop-left.left.now)))
-    c.loop-left.memory c.put_byte.new.memory _ c.requires.named c.next_value-value.ensures.first c.loop-left.invariant.room c.put_byte.ensures.done c.loop-left.invariant.same in
+    let done =
+    field_done c.args.area c.loop-left.at c.next_value-value.result.0 (or_none (values_of (pieces_left is_blank c.next_value-value.result.1.now)))
+    (or_none (values_of (pieces_left is_blank c.loop-left.left.now)))
+    c.loop-left.memory c.put_byte.new.memory _ c.requires.named c.next_value-value.ensures.first
+    c.loop-left.invariant.room c.put_byte.ensures.done c.loop-left.invariant.same in
     let small = c.loop-left.invariant.small in
     record {
       bytes = c.next_value-value.ensures.bytes;

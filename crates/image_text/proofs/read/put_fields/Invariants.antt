@@ -2,7 +2,7 @@ use Rattle.std.proofs.Common.{◌≡◌, ◌+◌, ◌<◌, ◌^◌, true, length
 use Rattle.std.specs.Prelude.{IsSome}
 use Rattle.memory_areas.specs.Access.{or_none}
 use Rattle.memory_areas.specs.Areas.{bytes_of}
-use Rattle.image_text.specs.Image.{has_room, is_blank, values_of, written}
+use Rattle.image_text.specs.Image.{has_room, is_blank, values_of, with_bytes_from}
 use Rattle.image_text.specs.inner.Fields.{MemoryStays, pieces_left}
 use Rattle.image_text.proofs.read.put_fields.Given as goal
 
@@ -12,7 +12,8 @@ invariant-loop-left l = record {
   bytes : IsSome (values_of (pieces_left is_blank l.left));
   room : has_room (bytes_of l.area l.memory) l.at (length (or_none (values_of (pieces_left is_blank l.left)))) ≡ true;
   small : l.at + length (or_none (values_of (pieces_left is_blank l.left))) < 2 ^ 32;
-  same : written l.area l.at (or_none (values_of (pieces_left is_blank l.left))) l.memory ≡ written l.area l.byte (or_none (values_of (pieces_left is_blank l.fields))) l.initial.memory;
+  same : with_bytes_from l.area l.at (or_none (values_of (pieces_left is_blank l.left))) l.memory
+      ≡ with_bytes_from l.area l.byte (or_none (values_of (pieces_left is_blank l.fields))) l.initial.memory;
   stays : MemoryStays l.initial.memory l.memory;
 }
 

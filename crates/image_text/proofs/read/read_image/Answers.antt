@@ -12,7 +12,9 @@ loop-memory-preserved c =
     let next : c.saturating_add-line.result ≡ line_after c.loop-memory.line = grind (arith, common_steps) in
     let rest = left_behind (λ b. b == 10) c.cut_line.result.1.now some in
     let done = rw c.strip_return.ensures at c.in_ok-apply_line.ensures.done in
-    let behind = line_done c.loop-memory.line c.saturating_add-line.result c.loop-memory.rest.now c.cut_line.result.0.now c.cut_line.result.1.now c.loop-memory.memory c.apply_line.new.memory _
+    let behind =
+    line_done c.loop-memory.line c.saturating_add-line.result c.loop-memory.rest.now
+    c.cut_line.result.0.now c.cut_line.result.1.now c.loop-memory.memory c.apply_line.new.memory _
     c.cut_line.ensures.cut c.loop-memory.invariant.same done next in
     record {
       usable = c.in_ok-apply_line.ensures.usable;

@@ -17,7 +17,9 @@ returns-in-Some c =
     let at = stored_at c.args.number c.args.numbers.now c.args.blocks.now [] c.in-Some.position c.requires.1 (sym c.in-Some.ensures) in
     let within = within_stored c.args.number c.args.numbers.now c.args.blocks.now c.in-Some.position c.requires.1 (sym c.in-Some.ensures) in
     at.bytes
-    ∙ ap (λ (bytes : List ℕ). Some bytes) (get_or-map (λ (b : Vec ℕ Global). b.items) c.args.blocks.now c.in-Some.position c.index-blocks-position.result [] within ∙ first_of (search rules, grind (arith, common_steps)))
+    ∙ ap (λ (bytes : List ℕ). Some bytes)
+    (get_or-map (λ (b : Vec ℕ Global). b.items) c.args.blocks.now c.in-Some.position c.index-blocks-position.result [] within
+    ∙ first_of (search rules, grind (arith, common_steps)))
 
 pub returns-in-None : goal.returns-in-None
 returns-in-None c = not_stored c.args.number c.args.numbers.now c.args.blocks.now c.requires.1 (sym c.in-None.ensures)

@@ -1,7 +1,7 @@
 use Rattle.std.proofs.Common.{◌≡◌, ◌∙◌, [], length, sym, ap, get_or, Vec, Global, List, ℕ, map}
 use Rattle.std.specs.Prelude.{slice_set}
 use Rattle.std.proofs.lemmas.List.{get_or-map, map-set, with_items_is}
-use Rattle.memory_areas.specs.Areas.{replaced}
+use Rattle.memory_areas.specs.Areas.{overwrite}
 use Rattle.memory_areas.proofs.memory.replace_in_block.Goals as goal
 
 pub returns : goal.returns
@@ -15,4 +15,4 @@ returns c =
     ∙ ap (slice_set (map items c.args.blocks.now) c.args.position)
     (with_items_is block c.replace.new.bytes sized
     ∙ c.replace.ensures
-    ∙ ap (λ bytes. replaced bytes c.args.at c.args.new.now) (c.deref_mut.ensures.value ∙ sym old))
+    ∙ ap (λ bytes. overwrite bytes c.args.at c.args.new.now) (c.deref_mut.ensures.value ∙ sym old))

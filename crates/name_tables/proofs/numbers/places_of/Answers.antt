@@ -1,6 +1,6 @@
 use Rattle.std.proofs.Common.{◌≡◌, ◌+◌, Ok, take, get_or, subst, sym, ap, ◌∙◌}
 use Rattle.std.proofs.lemmas.List.{take_all}
-use Rattle.first_places.specs.Places.{first_place}
+use Rattle.name_tables.specs.Places.{first_place}
 use Rattle.name_tables.specs.Before.{is_block}
 use Rattle.name_tables.specs.inner.Places.{AreNumberPlaces, with_number_place}
 use Rattle.stl_tree.specs.declared.raw.BlockKind.TheVariants as block

@@ -2,8 +2,8 @@ use Rattle.std.proofs.Common.{◌≡◌, ◌+◌, map, nat_eq, refl, rules, subs
 use Rattle.std.proofs.lemmas.List.{take_all}
 use Rattle.std.specs.Cmp.Lexicographic.{pointwise}
 use Rattle.stl_rules.specs.DeclarationRules.{key_of}
-use Rattle.first_places.specs.Places.{first_place, with_place}
-use Rattle.first_places.proofs.Firsts.{key_turn, name_sound}
+use Rattle.name_tables.specs.Places.{first_place, with_place}
+use Rattle.name_tables.proofs.Firsts.{key_turn, name_sound}
 use Rattle.name_tables.specs.inner.Places.{AreNamePlaces, has_key}
 use Rattle.name_tables.proofs.symbols.places_of.Goals as goal
 
@@ -17,7 +17,8 @@ loop-place-preserved c =
     let put : map (λ e. (e.0.items, e.1)) c.put_place.new.places.entries ≡ with_place (pointwise nat_eq) c.in_ok-key.key.items place table
     = c.in_ok-put_place.ensures in
     subst (AreNamePlaces (take (place + 1) lines)) (sym (put ∙ ap (λ k. with_place (pointwise nat_eq) k place table) key))
-    (key_turn (pointwise nat_eq) name_sound has_key lines place line (key_of line.name) table c.loop-place-test.true c.index-lines-place.is (λ k. refl) c.loop-place.invariant)
+    (key_turn (pointwise nat_eq) name_sound has_key lines place line
+    (key_of line.name) table c.loop-place-test.true c.index-lines-place.is (λ k. refl) c.loop-place.invariant)
 
 pub returns : goal.returns
 returns c = λ key. c.loop-place.invariant key ∙ ap (first_place (has_key key)) (take_all c.loop-place.place c.args.lines.now c.loop-place-test.false)

@@ -59,8 +59,8 @@ abbrev in_fields : Former {0}
 in_fields = via (pair (const Location) this) Inside parts_of fields_of (λ T fields. refl) (λ T parts. refl)
 
 -- the box with another value in it
-abbrev refilled : {X Y : Type 0} → Box X Global → Y → Box Y Global
-refilled b value = box_at (b.ptr, b.alloc) value
+abbrev box_with : {X Y : Type 0} → Box X Global → Y → Box Y Global
+box_with b value = box_at (b.ptr, b.alloc) value
 
 -- the type of the boxes of a type's values
 abbrev boxes_of : RattleType → RattleType
@@ -76,19 +76,19 @@ module _ (from to : RattleType) (change : from.Denot → to.Denot) where
   turned alike v = λ i. one_value from (alike.mir_same i) (alike.own_same v i) (alike.shr_same v i) gnil
 
   -- a `Box` asks of its value's type no more than how that one value is laid out, owned and lent
-  box_alike : Alike from to change → Alike (boxes_of from) (boxes_of to) (λ b. refilled b (change b.value))
+  box_alike : Alike from to change → Alike (boxes_of from) (boxes_of to) (λ b. box_with b (change b.value))
   unfolding part_of
   box_alike alike = record {
     mir_same = λ i. (boxes_of (one_value from (alike.mir_same i) (λ _. ftrue) (λ _ _. nothing) gnil)).mir;
-    own_same = λ b i. (boxes_of (turned alike b.value i)).own_val (refilled b tt);
-    shr_same = λ b i. (boxes_of (turned alike b.value i)).shr_at (refilled b tt);
+    own_same = λ b i. (boxes_of (turned alike b.value i)).own_val (box_with b tt);
+    shr_same = λ b i. (boxes_of (turned alike b.value i)).shr_at (box_with b tt);
   }
 
   -- the struct places nothing itself: its `Box` places the value
   struct_alike : Alike from to change
       → Alike (stored.the_row from) (stored.the_row to) (in_fields.map from.Denot to.Denot change)
   struct_alike alike =
-      struct_places (stored.the_type from) (stored.the_type to) ((λ b. refilled b (change b.value)), tt) _
+      struct_places (stored.the_type from) (stored.the_type to) ((λ b. box_with b (change b.value)), tt) _
       (λ fields. refl) refl (laid _ _ _ (box_alike alike), tt)
 
   -- boxes of values that are laid out, owned and lent alike are so too: the view shows the value and

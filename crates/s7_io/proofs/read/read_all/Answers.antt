@@ -1,6 +1,6 @@
 use Rattle.std.proofs.Common.{arith}
 use Rattle.std.proofs.lemmas.List.{length-take}
-use Rattle.s7_io.proofs.SourceLemmas.{GaveExactly-piece, GaveAtMost-piece}
+use Rattle.s7_io.proofs.SourceLaws.{GaveExactly-piece, GaveAtMost-piece}
 use Rattle.s7_io.proofs.read.read_all.Goals as goal
 
 -- the piece has more bytes than the limit leaves, and not more than one over

@@ -1,7 +1,7 @@
 use Rattle.std.proofs.Common.{arith}
 use Rattle.std.proofs.Math.Seq.{take-add}
 use Rattle.std.proofs.lemmas.List.{take_rest}
-use Rattle.s7_io.proofs.SinkLemmas.{Took-more}
+use Rattle.s7_io.proofs.SinkLaws.{Took-more}
 use Rattle.s7_io.proofs.write.write_all.Goals as goal
 
 pub loop-done-preserved : goal.loop-done-preserved

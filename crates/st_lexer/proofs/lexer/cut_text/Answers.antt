@@ -15,4 +15,5 @@ pub loop-rest-preserved : goal.loop-rest-preserved
 loop-rest-preserved c =
     let found : piece_at c.loop-rest.rest.now ≡ Some (view c.in-Some.piece) = search rules in
     rw (c.rest_after-rest.ensures, c.line_past-line.ensures, c.front_of.ensures, c.size_of-size.ensures)
-    (after_piece (map token_seen c.loop-rest.tokens.items) (map token_seen c.keep_token.new.tokens.items) (view c.in-Some.piece) c.loop-rest.rest.now c.loop-rest.line _ found c.loop-rest.invariant (search rules))
+    (after_piece (map token_seen c.loop-rest.tokens.items) (map token_seen c.keep_token.new.tokens.items)
+    (view c.in-Some.piece) c.loop-rest.rest.now c.loop-rest.line _ found c.loop-rest.invariant (search rules))

@@ -5,7 +5,9 @@ use Rattle.st_printer.proofs.text.+put_hexadecimal.Goals as goal
 pub returns-then-count-eq0 : goal.returns-then-count-eq0
 returns-then-count-eq0 t c =
     let old : List ℕ = c.args.out.now.items in
-    sym (append-nil old) ∙ ap (λ (xs : List ℕ). old ++ xs) (sym (hexadecimal_none c.args.number)) ∙ ap (λ (k : ℕ). old ++ hexadecimal k c.args.number) (sym c.if-count-eq0.true)
+    sym (append-nil old)
+    ∙ ap (λ (xs : List ℕ). old ++ xs) (sym (hexadecimal_none c.args.number))
+    ∙ ap (λ (k : ℕ). old ++ hexadecimal k c.args.number) (sym c.if-count-eq0.true)
 
 pub returns : goal.returns
 returns t c =

@@ -8,8 +8,10 @@ loop-at-preserved c =
     let tree = c.args.tree.now in
     let work = c.loop-at.work in
     let ready = subst (λ (a : At). IsReady tree (vec_capacity work) work.items a c.loop-at.state) c.in-Work.is c.loop-at.invariant.1 in (
-      (λ d u. c.step-at.ensures.stepped.meaning d u ∙ ap (λ (a : At). end_at tree.globals d work.items a u (state_of c.loop-at.state)) (sym c.in-Work.is) ∙ c.loop-at.invariant.0 d u),
+      (λ d u. c.step-at.ensures.stepped.meaning d u
+          ∙ ap (λ (a : At). end_at tree.globals d work.items a u (state_of c.loop-at.state)) (sym c.in-Work.is) ∙ c.loop-at.invariant.0 d u),
       subst (λ n. IsReady tree n c.step-at.new.work.items c.step-at.result c.step-at.new.state) (sym c.step-at.ensures.capacity)
-          (stepped_ready tree (vec_capacity work) work.items c.step-at.new.work.items c.step-at.result c.loop-at.state c.step-at.new.state c.step-at.ensures.stepped ready),
+          (stepped_ready tree (vec_capacity work) work.items c.step-at.new.work.items
+          c.step-at.result c.loop-at.state c.step-at.new.state c.step-at.ensures.stepped ready),
       c.step-at.ensures.capacity ∙ c.loop-at.invariant.2,
     )

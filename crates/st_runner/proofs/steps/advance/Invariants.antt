@@ -15,6 +15,7 @@ decreases-loop-at l = left l.at (work_weight l.work.items)
 
 abbrev pub invariant-loop-at : goal.invariant-loop-at
 invariant-loop-at l =
-    ((c : Calls) (u : ℕ) → end_at l.tree.globals c l.work.items l.at u (state_of l.state) ≡ end_at l.tree.globals c l.fn.work.items at.Work u (state_of l.fn.state))
+    ((c : Calls) (u : ℕ)
+    → end_at l.tree.globals c l.work.items l.at u (state_of l.state) ≡ end_at l.tree.globals c l.fn.work.items at.Work u (state_of l.fn.state))
     × IsReady l.tree (vec_capacity l.work) l.work.items l.at l.state
     × (vec_capacity l.work ≡ vec_capacity l.fn.work)

@@ -6,9 +6,9 @@ use Rattle.st_runner.proofs.steps.choose_labelled.Goals as goal
 pub returns-in-Ok-clause-done : goal.returns-in-Ok-clause-done
 returns-in-Ok-clause-done c =
     let s = state_of c.args.state.now in
-    case_done c.args.tree.now c.args.work.now.items c.args.e.now c.args.arms.now c.args.other.now c.push_reserved.new.self.items c.labelled.result c.in-Ok.v s
+    case_done c.args.tree.now c.args.work.now.items c.args.e.now c.args.arms.now c.args.other.now c.push_reserved.new.self.items c.case_body.result c.in-Ok.v s
     (subst (λ (g : List Located). value g c.args.e.now s ≡ Ok c.in-Ok.v) c.as_slice.ensures (sym c.value.ensures ∙ c.in-Ok.is))
-    c.labelled.ensures c.push_reserved.ensures.items
+    c.case_body.ensures c.push_reserved.ensures.items
 
 pub returns-in-Err-clause-done : goal.returns-in-Err-clause-done
 returns-in-Err-clause-done c =

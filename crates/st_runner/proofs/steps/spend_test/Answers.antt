@@ -17,20 +17,24 @@ push_reserved-requires-in-Ok-true c =
     let room = test_room c.args.tree.now _ c.args.work.now.items c.args.state.now c.args.test c.args.body c.requires.ready in
     omega (arith, room, c.args.work.now.ok.0, c.push_reserved.ensures.len, c.push_reserved.ensures.capacity)
 
-pub returns-in-Ok-true-clause-spent : goal.returns-in-Ok-true-clause-spent
-returns-in-Ok-true-clause-spent c =
+pub returns-in-Ok-true-clause-spend_unit : goal.returns-in-Ok-true-clause-spend_unit
+returns-in-Ok-true-clause-spend_unit c =
     let s = state_of c.args.state.now in
-    test_true c.args.tree.now _ c.args.work.now.items c.args.state.now c.args.test c.args.body c.requires.ready c.push_reserved.new.self.items c.push_reserved-in-Ok-true.new.self.items c.push_reserved.ensures.items c.push_reserved-in-Ok-true.ensures.items
-    (subst (λ (g : List Located). and_then (value g c.args.test.now s) (λ v. Ok (is_set v)) ≡ Ok true) c.as_slice.ensures (sym c.is_true.ensures ∙ c.in-Ok-true.is ∙ ap (λ b. Ok b) c.in-Ok-true.field-0-test))
+    test_true c.args.tree.now _ c.args.work.now.items c.args.state.now c.args.test c.args.body c.requires.ready c.push_reserved.new.self.items
+    c.push_reserved-in-Ok-true.new.self.items c.push_reserved.ensures.items c.push_reserved-in-Ok-true.ensures.items
+    (subst (λ (g : List Located). and_then (value g c.args.test.now s) (λ v. Ok (is_set v)) ≡ Ok true) c.as_slice.ensures
+    (sym c.is_true.ensures ∙ c.in-Ok-true.is ∙ ap (λ b. Ok b) c.in-Ok-true.field-0-test))
 
-pub returns-in-Ok-false-clause-spent : goal.returns-in-Ok-false-clause-spent
-returns-in-Ok-false-clause-spent c =
+pub returns-in-Ok-false-clause-spend_unit : goal.returns-in-Ok-false-clause-spend_unit
+returns-in-Ok-false-clause-spend_unit c =
     let s = state_of c.args.state.now in
     test_false c.args.tree.now _ c.args.work.now.items c.args.state.now c.args.test c.args.body c.requires.ready
-    (subst (λ (g : List Located). and_then (value g c.args.test.now s) (λ v. Ok (is_set v)) ≡ Ok false) c.as_slice.ensures (sym c.is_true.ensures ∙ c.in-Ok-false.is ∙ ap (λ b. Ok b) c.in-Ok-false.field-0-test))
+    (subst (λ (g : List Located). and_then (value g c.args.test.now s) (λ v. Ok (is_set v)) ≡ Ok false) c.as_slice.ensures
+    (sym c.is_true.ensures ∙ c.in-Ok-false.is ∙ ap (λ b. Ok b) c.in-Ok-false.field-0-test))
 
-pub returns-in-Err-clause-spent : goal.returns-in-Err-clause-spent
-returns-in-Err-clause-spent c =
+pub returns-in-Err-clause-spend_unit : goal.returns-in-Err-clause-spend_unit
+returns-in-Err-clause-spend_unit c =
     let s = state_of c.args.state.now in
     test_fault c.args.tree.now _ c.args.work.now.items c.args.state.now c.args.test c.args.body c.requires.ready c.in-Err.fault
-    (subst (λ (g : List Located). value g c.args.test.now s ≡ Err c.in-Err.fault) c.as_slice.ensures (fault_is (value c.as_slice.result.now c.args.test.now s) is_set c.in-Err.fault (sym c.is_true.ensures ∙ c.in-Err.is)))
+    (subst (λ (g : List Located). value g c.args.test.now s ≡ Err c.in-Err.fault) c.as_slice.ensures
+    (fault_is (value c.as_slice.result.now c.args.test.now s) is_set c.in-Err.fault (sym c.is_true.ensures ∙ c.in-Err.is)))

@@ -1,4 +1,4 @@
-use Rattle.st_tree.proofs.Common.{List, sym, subst, area_assigned, assigned}
+use Rattle.st_tree.proofs.Common.{List, sym, subst, area_assignment, assignment}
 use Rattle.st_runner.proofs.Common.{Done, Changes, state_of, Expr, Arm, CaseArm, Located, Stmt}
 use Rattle.st_runner.proofs.Dones.{area_done, assign_done, continue_done, exit_done, return_done}
 use Rattle.st_tree.specs.declared.program.Stmt.TheVariants as stmt
@@ -11,7 +11,8 @@ returns-in-Assign-clause-done c =
     let t = state_of c.assign.new.self in
     subst (λ (x : Stmt). Done c.args.tree.now x ws ws c.next.result s t) (sym c.in-Assign.is)
     (assign_done c.args.tree.now ws c.in-Assign.var c.in-Assign.e s t c.assign.result c.next.result
-    (subst (λ (g : List Located). Changes (assigned g c.in-Assign.var c.in-Assign.e s) c.assign.result s t) c.as_slice-globals.ensures c.assign.ensures.change) c.next.ensures)
+    (subst (λ (g : List Located). Changes (assignment g c.in-Assign.var c.in-Assign.e s) c.assign.result s t)
+    c.as_slice-globals.ensures c.assign.ensures.change) c.next.ensures)
 
 pub returns-in-AreaWrite-clause-done : goal.returns-in-AreaWrite-clause-done
 returns-in-AreaWrite-clause-done c =
@@ -21,9 +22,10 @@ returns-in-AreaWrite-clause-done c =
     let w = c.in-AreaWrite.width in
     subst (λ (x : Stmt). Done c.args.tree.now x ws ws c.next-in-AreaWrite.result s t) (sym c.in-AreaWrite.is)
     (area_done c.args.tree.now ws w c.in-AreaWrite.pointer c.in-AreaWrite.e s t c.area_assign.result c.next-in-AreaWrite.result
-    (subst (λ (g : List Located). Changes (area_assigned g w c.in-AreaWrite.pointer c.in-AreaWrite.e s) c.area_assign.result s t) c.as_slice-globals.ensures
-    (subst (λ (p : Expr). Changes (area_assigned c.as_slice-globals.result.now w p c.in-AreaWrite.e s) c.area_assign.result s t) c.get.ensures
-    (subst (λ (e : Expr). Changes (area_assigned c.as_slice-globals.result.now w c.get.result.now e s) c.area_assign.result s t) c.get-in-AreaWrite.ensures c.area_assign.ensures.change))) c.next-in-AreaWrite.ensures)
+    (subst (λ (g : List Located). Changes (area_assignment g w c.in-AreaWrite.pointer c.in-AreaWrite.e s) c.area_assign.result s t) c.as_slice-globals.ensures
+    (subst (λ (p : Expr). Changes (area_assignment c.as_slice-globals.result.now w p c.in-AreaWrite.e s) c.area_assign.result s t) c.get.ensures
+    (subst (λ (e : Expr). Changes (area_assignment c.as_slice-globals.result.now w c.get.result.now e s) c.area_assign.result s t)
+    c.get-in-AreaWrite.ensures c.area_assign.ensures.change))) c.next-in-AreaWrite.ensures)
 
 pub returns-in-If-clause-done : goal.returns-in-If-clause-done
 returns-in-If-clause-done c =
@@ -32,7 +34,8 @@ returns-in-If-clause-done c =
     let s = state_of c.args.state.now in
     subst (λ (x : Stmt). Done c.args.tree.now x ws vs c.choose.result s s) (sym c.in-If.is)
     (subst (λ (xs : List Arm). Done c.args.tree.now (stmt.If xs c.in-If.other) ws vs c.choose.result s s) c.as_slice-in-If.ensures
-    (subst (λ (xs : List Stmt). Done c.args.tree.now (stmt.If c.as_slice-in-If.result.now xs) ws vs c.choose.result s s) c.as_slice-in-If-2.ensures c.choose.ensures.done))
+    (subst (λ (xs : List Stmt). Done c.args.tree.now (stmt.If c.as_slice-in-If.result.now xs) ws vs c.choose.result s s)
+    c.as_slice-in-If-2.ensures c.choose.ensures.done))
 
 pub returns-in-Case-clause-done : goal.returns-in-Case-clause-done
 returns-in-Case-clause-done c =
@@ -42,7 +45,8 @@ returns-in-Case-clause-done c =
     let s = state_of c.args.state.now in
     subst (λ (x : Stmt). Done c.args.tree.now x ws vs c.choose_labelled.result s s) (sym c.in-Case.is)
     (subst (λ (xs : List CaseArm). Done c.args.tree.now (stmt.Case e xs c.in-Case.other) ws vs c.choose_labelled.result s s) c.as_slice-in-Case.ensures
-    (subst (λ (xs : List Stmt). Done c.args.tree.now (stmt.Case e c.as_slice-in-Case.result.now xs) ws vs c.choose_labelled.result s s) c.as_slice-in-Case-2.ensures c.choose_labelled.ensures.done))
+    (subst (λ (xs : List Stmt). Done c.args.tree.now (stmt.Case e c.as_slice-in-Case.result.now xs) ws vs c.choose_labelled.result s s)
+    c.as_slice-in-Case-2.ensures c.choose_labelled.ensures.done))
 
 pub returns-in-Exit-clause-done : goal.returns-in-Exit-clause-done
 returns-in-Exit-clause-done c = exit_done c.args.tree.now _ _ _ c.in-Exit.is c.exit_loop.ensures.leaves

@@ -6,7 +6,8 @@ use Rattle.st_runner.proofs.steps.step.Goals as goal
 pub returns-in_default-clause-stepped : goal.returns-in_default-clause-stepped
 returns-in_default-clause-stepped c =
     let fs = c.pop.new.self.items in
-    body_ended c.args.tree.now c.args.work.now.items c.args.state.now fs c.in-Some-Rest.body (c.in-Some-Rest.ensures.items ∙ ap (λ f. fs ++ f ∷ []) c.in-Some-Rest.field-0-is)
+    body_ended c.args.tree.now c.args.work.now.items c.args.state.now fs c.in-Some-Rest.body
+    (c.in-Some-Rest.ensures.items ∙ ap (λ f. fs ++ f ∷ []) c.in-Some-Rest.field-0-is)
     (no_items c.in-Some-Rest.body.now c.in_default.ensures.cases)
 
 pub statement-requires-clause-running : goal.statement-requires-clause-running
@@ -23,20 +24,25 @@ statement-requires-clause-room c =
 pub leave-requires : goal.leave-requires
 leave-requires c =
     let fs = c.pop.new.self.items in
-    may_leave c.args.tree.now _ c.args.work.now.items fs c.args.state.now c.requires.ready (c.in-Some-Unit.ensures.items ∙ ap (λ f. fs ++ f ∷ []) c.in-Some-Unit.field-0-is)
+    may_leave c.args.tree.now _ c.args.work.now.items fs c.args.state.now c.requires.ready
+    (c.in-Some-Unit.ensures.items ∙ ap (λ f. fs ++ f ∷ []) c.in-Some-Unit.field-0-is)
 
 pub returns-in-Some-clause-stepped : goal.returns-in-Some-clause-stepped
 returns-in-Some-clause-stepped c =
     let fs = c.pop.new.self.items in
-    first_statement c.args.tree.now c.args.work.now.items c.args.state.now fs c.push_rest.new.work.items c.statement.new.work.items c.in-Some-Rest.body c.in-Some.rest c.in-Some.stmt.now c.statement.result c.statement.new.state
-    (c.in-Some-Rest.ensures.items ∙ ap (λ f. fs ++ f ∷ []) c.in-Some-Rest.field-0-is) c.in-Some.ensures.cases.0 c.push_rest.ensures.items c.statement.ensures.done c.statement.ensures.sound c.statement.ensures.same
+    first_statement c.args.tree.now c.args.work.now.items c.args.state.now fs c.push_rest.new.work.items
+    c.statement.new.work.items c.in-Some-Rest.body c.in-Some.rest c.in-Some.stmt.now c.statement.result c.statement.new.state
+    (c.in-Some-Rest.ensures.items ∙ ap (λ f. fs ++ f ∷ []) c.in-Some-Rest.field-0-is) c.in-Some.ensures.cases.0
+    c.push_rest.ensures.items c.statement.ensures.done c.statement.ensures.sound c.statement.ensures.same
 
 pub returns-in-Some-Again-clause-stepped : goal.returns-in-Some-Again-clause-stepped
 returns-in-Some-Again-clause-stepped c =
     let fs = c.pop.new.self.items in
-    loop_again c.args.tree.now c.args.work.now.items c.args.state.now fs c.in-Some-Again.test c.in-Some-Again.body (c.in-Some-Again.ensures.items ∙ ap (λ f. fs ++ f ∷ []) c.in-Some-Again.field-0-is)
+    loop_again c.args.tree.now c.args.work.now.items c.args.state.now fs c.in-Some-Again.test c.in-Some-Again.body
+    (c.in-Some-Again.ensures.items ∙ ap (λ f. fs ++ f ∷ []) c.in-Some-Again.field-0-is)
 
 pub returns-in-Some-Unit-clause-stepped : goal.returns-in-Some-Unit-clause-stepped
 returns-in-Some-Unit-clause-stepped c =
     let fs = c.pop.new.self.items in
-    unit_ended c.args.tree.now c.args.work.now.items c.args.state.now fs c.leave.new.self (c.in-Some-Unit.ensures.items ∙ ap (λ f. fs ++ f ∷ []) c.in-Some-Unit.field-0-is) c.leave.ensures.change c.leave.ensures.sound c.leave.ensures.less
+    unit_ended c.args.tree.now c.args.work.now.items c.args.state.now fs c.leave.new.self
+    (c.in-Some-Unit.ensures.items ∙ ap (λ f. fs ++ f ∷ []) c.in-Some-Unit.field-0-is) c.leave.ensures.change c.leave.ensures.sound c.leave.ensures.less

@@ -11,8 +11,10 @@ returns-in-Some-clause-refused c =
 
 pub returns-in-Err-clause-refused : goal.returns-in-Err-clause-refused
 returns-in-Err-clause-refused c =
-    let sound : first_break c.args.raw.now ≡ None = ap first_of_all (sym (c.as_slice.ensures ∙ c.in_ok-judged.ensures.breaks)) ∙ sym c.first_of_all.ensures ∙ c.in_default.is in
+    let sound : first_break c.args.raw.now ≡ None =
+    ap first_of_all (sym (c.as_slice.ensures ∙ c.in_ok-judged.ensures.breaks)) ∙ sym c.first_of_all.ensures ∙ c.in_default.is in
     let calls = c.as_slice-2.ensures ∙ c.in_ok-judged.ensures.calls in
     let units = c.as_slice-3.ensures in
     refused_by_chain c.args.raw.now c.in-Err.refusal sound
-    (subst (λ (g : Graph). IsChainRefused g c.args.raw.now.pous c.in-Err.refusal) calls (subst (λ us. IsChainRefused c.as_slice-2.result.now us c.in-Err.refusal) units c.in-Err.ensures.err))
+    (subst (λ (g : Graph). IsChainRefused g c.args.raw.now.pous c.in-Err.refusal) calls
+    (subst (λ us. IsChainRefused c.as_slice-2.result.now us c.in-Err.refusal) units c.in-Err.ensures.err))

@@ -1,5 +1,5 @@
 use Rattle.std.proofs.Common.{◌≡◌, drop}
-use Rattle.stl_statements.specs.Numbers.{bits_from}
+use Rattle.stl_statement_grammar.specs.Numbers.{bits_from}
 use Rattle.stl_constants.specs.inner.Bits.{AreBits}
 use Rattle.stl_constants.proofs.number.bits_of.Given as goal
 

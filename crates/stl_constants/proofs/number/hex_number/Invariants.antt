@@ -1,5 +1,5 @@
 use Rattle.std.proofs.Common.{◌≡◌, ◌≤◌, drop}
-use Rattle.stl_statements.specs.Numbers.{hex_from}
+use Rattle.stl_statement_grammar.specs.Numbers.{hex_from}
 use Rattle.stl_constants.proofs.number.hex_number.Given as goal
 
 -- the digits that are left, after the value so far, give the number of all

@@ -2,7 +2,7 @@ use Rattle.std.proofs.Common.{◌≡◌, ◌<◌, List, [], ◌∷◌, length, N
 use Rattle.std.specs.List.{find}
 use Rattle.s7_base.specs.declared.token.Token.{Token}
 use Rattle.status_word.specs.declared.test.Test.{Test}
-use Rattle.stl_statements.specs.Statements.{is_asked}
+use Rattle.stl_statement_grammar.specs.Statements.{is_asked}
 use Rattle.stl_constants.proofs.Tables.{find_none}
 use Rattle.stl_instructions.proofs.operand.first_asked.Goals as goal
 

@@ -1,9 +1,9 @@
 use Rattle.std.proofs.Common.{◌∙◌, ◌||◌, sym}
 use Rattle.s7_base.specs.Tokens.{is_same_word}
 use Rattle.status_word.specs.declared.test.Test.{Test}
-use Rattle.stl_statements.specs.Mnemonics.{goes_on}
-use Rattle.stl_statements.specs.Statements.{first_of, second_of}
-use Rattle.stl_statements.specs.Words.{is_sign_kind, is_word_kind}
+use Rattle.stl_statement_grammar.specs.Mnemonics.{goes_on}
+use Rattle.stl_statement_grammar.specs.Statements.{first_of, second_of}
+use Rattle.stl_statement_grammar.specs.Words.{is_sign_kind, is_word_kind}
 use Rattle.stl_constants.proofs.Tables.{find_refused}
 use Rattle.stl_instructions.proofs.operand.test_at.Goals as goal
 

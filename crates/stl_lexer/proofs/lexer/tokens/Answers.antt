@@ -10,7 +10,8 @@ returns c = at_end c.loop-rest.tokens c.loop-rest.line c.loop-rest.before c.loop
 
 pub returns-in_default : goal.returns-in_default
 unfolding tokens_of
-returns-in_default c = at_bad_token c.loop-rest.tokens c.loop-rest.line c.loop-rest.before c.loop-rest.rest.now _ (search rules) (search rules) c.loop-rest.invariant
+returns-in_default c =
+    at_bad_token c.loop-rest.tokens c.loop-rest.line c.loop-rest.before c.loop-rest.rest.now _ (search rules) (search rules) c.loop-rest.invariant
 
 pub loop-rest-preserved : goal.loop-rest-preserved
 loop-rest-preserved c =

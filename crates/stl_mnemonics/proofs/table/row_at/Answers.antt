@@ -1,7 +1,7 @@
 use Rattle.std.proofs.Common.{◌∙◌, ◌||◌, sym}
 use Rattle.s7_base.specs.Tokens.{is_same_word}
-use Rattle.stl_statements.specs.Mnemonics.{goes_on}
-use Rattle.stl_statements.specs.Words.{is_sign_kind, is_word_kind}
+use Rattle.stl_statement_grammar.specs.Mnemonics.{goes_on}
+use Rattle.stl_statement_grammar.specs.Words.{is_sign_kind, is_word_kind}
 use Rattle.stl_mnemonics.specs.declared.table.Row.{Row}
 use Rattle.stl_constants.proofs.Tables.{find_refused}
 use Rattle.stl_mnemonics.proofs.table.row_at.Goals as goal

@@ -1,7 +1,7 @@
 use Rattle.std.proofs.Common.{◌≡◌, ◌<◌, List, [], ◌∷◌, length, None, sym, arith}
 use Rattle.std.specs.List.{find}
 use Rattle.s7_base.specs.declared.token.Token.{Token}
-use Rattle.stl_statements.specs.Mnemonics.{stands_at}
+use Rattle.stl_statement_grammar.specs.Mnemonics.{stands_at}
 use Rattle.stl_mnemonics.specs.declared.table.Row.{Row}
 use Rattle.stl_mnemonics.specs.Rows.{view}
 use Rattle.stl_constants.proofs.Tables.{find_none}

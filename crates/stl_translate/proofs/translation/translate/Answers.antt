@@ -18,4 +18,5 @@ pub returns-clause-same : goal.returns-clause-same
 returns-clause-same c =
     let graph = c.in_ok-graph.graph in
     IfOk-weaker c.straight.result (λ (tree : StProgram). tree ≡ straight graph) (λ (tree : StProgram). Same c.args.program.now tree)
-    (λ tree e. subst (λ (tree : StProgram). Same c.args.program.now tree) (sym e) (same_text c.args.program.now c.requires graph c.in_ok-graph.ensures.same)) c.straight.ensures
+    (λ tree e. subst (λ (tree : StProgram). Same c.args.program.now tree) (sym e) (same_text c.args.program.now c.requires graph c.in_ok-graph.ensures.same))
+    c.straight.ensures

@@ -5,7 +5,7 @@ use Rattle.stl_tree.specs.declared.raw.InitialItem.{InitialItem}
 use Rattle.symbol_layout.proofs.Laying.{array_laid, laid_all, laid_next}
 use Rattle.stl_rules.specs.Contents.{bits_behind, filled_to, times, type_bits, values_of}
 use Rattle.stl_rules.specs.Extents.{elements_in}
-use Rattle.stl_rules.specs.declared.laid.Extent.{Extent}
+use Rattle.stl_rules.specs.declared.layout.Extent.{Extent}
 use Rattle.symbol_layout.proofs.contents.«+contents».Goals as goal
 
 pub put_bits-loop-d-preserved : goal.put_bits-loop-d-preserved

@@ -21,7 +21,8 @@ pub put_block-requires-clause-number : goal.put_block-requires-clause-number
 put_block-requires-clause-number c =
     let symbols = c.args.names.now.symbols in
     number_is (number_of_block symbols) c.args.raws.now c.loop-place.place c.index-raws-place.result c.loop-place-test.true c.index-raws-place.is
-    c.blocks-in-loop-place.result.now c.number_at-number.result (c.blocks-in-loop-place.ensures ∙ ap (block_numbers symbols) (sym c.requires.raws)) c.number_at-number.ensures
+    c.blocks-in-loop-place.result.now c.number_at-number.result
+    (c.blocks-in-loop-place.ensures ∙ ap (block_numbers symbols) (sym c.requires.raws)) c.number_at-number.ensures
 
 pub loop-place-preserved : goal.loop-place-preserved
 loop-place-preserved c =
@@ -29,12 +30,14 @@ loop-place-preserved c =
     let place = c.loop-place.place in
     let text = c.args.names.now in
     let first = c.loop-place.blocks.first in
-    let noted : c.put_block.new.blocks.first ≡ with_breaks first (block_breaks text (numbers_before (take place (block_numbers text.symbols c.args.raws.now))) raw)
+    let noted : c.put_block.new.blocks.first
+    ≡ with_breaks first (block_breaks text (numbers_before (take place (block_numbers text.symbols c.args.raws.now))) raw)
     = c.in_ok-put_block.ensures.first
     ∙ ap (λ all. with_breaks first (block_breaks text (numbers_before (take place (block_numbers text.symbols all))) raw)) (sym c.requires.raws) in (
       map_turn (block_within text) c.args.blocks.now.made c.loop-place.blocks.made c.put_block.new.blocks.made c.args.raws.now place raw c.loop-place-test.true
           c.index-raws-place.is c.loop-place.invariant.0 c.in_ok-put_block.ensures.made,
-      block_turn text first c.put_block.new.blocks.first _ c.args.raws.now place raw c.loop-place-test.true c.index-raws-place.is noted c.loop-place.invariant.1,
+      block_turn text first c.put_block.new.blocks.first _ c.args.raws.now place raw
+          c.loop-place-test.true c.index-raws-place.is noted c.loop-place.invariant.1,
     )
 
 pub returns-clause-made : goal.returns-clause-made

@@ -20,4 +20,5 @@ loop-raw-preserved c = (
 
 pub returns-clause-body : goal.returns-clause-body
 returns-clause-body c =
-    c.loop-raw.invariant.0 ∙ ap (λ raws. c.args.body.now ++ map (instr_of c.args.scope.now) raws) (take_all c.loop-raw.raw-index c.args.raws.now c.loop-raw-test.false)
+    c.loop-raw.invariant.0
+    ∙ ap (λ raws. c.args.body.now ++ map (instr_of c.args.scope.now) raws) (take_all c.loop-raw.raw-index c.args.raws.now c.loop-raw-test.false)

@@ -13,7 +13,7 @@ use Rattle.symbol_names.proofs.Turns.{db_turn, dbs_ended, long_enough, number_is
 use Rattle.symbol_names.proofs.data.put_each.Goals as goal
 
 pub loop-place-init : goal.loop-place-init
-loop-place-init c = (sym (append-nil c.args.found.now.laid.items), sym (append-nil c.args.found.now.made), refl)
+loop-place-init c = (sym (append-nil c.args.found.now.declarations.items), sym (append-nil c.args.found.now.made), refl)
 
 -- the data blocks of the text are those that are gone over
 pub number_at-number-requires : goal.number_at-number-requires
@@ -34,19 +34,23 @@ loop-place-preserved c =
     let place = c.loop-place.place in
     let symbols = c.args.names.now.symbols in
     let first = c.loop-place.found.first in
-    let noted : c.put_data.new.found.first ≡ with_breaks first (db_breaks (numbers_before (take place (db_numbers symbols c.args.dbs.now))) d (block_number symbols block.Db d.name))
+    let noted : c.put_data.new.found.first
+    ≡ with_breaks first (db_breaks (numbers_before (take place (db_numbers symbols c.args.dbs.now))) d (block_number symbols block.Db d.name))
     = c.in_ok-put_data.ensures.first
-    ∙ ap (λ all. with_breaks first (db_breaks (numbers_before (take place (db_numbers symbols all))) d (block_number symbols block.Db d.name))) (sym c.requires) in (
-      map_turn own_of c.args.found.now.laid.items c.loop-place.found.laid.items c.put_data.new.found.laid.items c.args.dbs.now place d c.loop-place-test.true
-          c.index-dbs-place.is c.loop-place.invariant.0 c.in_ok-put_data.ensures.laid,
+    ∙ ap (λ all. with_breaks first (db_breaks (numbers_before (take place (db_numbers symbols all))) d (block_number symbols block.Db d.name)))
+    (sym c.requires) in (
+      map_turn own_of c.args.found.now.declarations.items c.loop-place.found.declarations.items
+          c.put_data.new.found.declarations.items c.args.dbs.now place d c.loop-place-test.true
+          c.index-dbs-place.is c.loop-place.invariant.0 c.in_ok-put_data.ensures.declarations,
       put_turn (data_kept c.args.keep symbols) c.args.found.now.made c.loop-place.found.made c.put_data.new.found.made c.args.dbs.now place d
           c.loop-place-test.true c.index-dbs-place.is c.loop-place.invariant.1 c.in_ok-put_data.ensures.made,
       db_turn symbols first c.put_data.new.found.first _ c.args.dbs.now place d c.loop-place-test.true c.index-dbs-place.is noted c.loop-place.invariant.2,
     )
 
-pub returns-clause-laid : goal.returns-clause-laid
-returns-clause-laid c =
-    c.loop-place.invariant.0 ∙ ap (λ dbs. c.args.found.now.laid.items ++ map own_of dbs) (take_all c.loop-place.place c.args.dbs.now c.loop-place-test.false)
+pub returns-clause-declarations : goal.returns-clause-declarations
+returns-clause-declarations c =
+    c.loop-place.invariant.0
+    ∙ ap (λ dbs. c.args.found.now.declarations.items ++ map own_of dbs) (take_all c.loop-place.place c.args.dbs.now c.loop-place-test.false)
 
 pub returns-clause-made : goal.returns-clause-made
 returns-clause-made c =

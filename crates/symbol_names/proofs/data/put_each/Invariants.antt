@@ -10,7 +10,7 @@ use Rattle.symbol_names.proofs.data.put_each.Given as goal
 -- what is found and what the rest breaks are what all data blocks break
 abbrev pub invariant-loop-place : goal.invariant-loop-place
 invariant-loop-place l =
-    (l.found.laid.items ≡ l.initial.found.laid.items ++ map own_of (take l.place l.dbs))
+    (l.found.declarations.items ≡ l.initial.found.declarations.items ++ map own_of (take l.place l.dbs))
     × (l.found.made ≡ l.initial.found.made ++ filter_map (data_kept l.keep l.names.symbols) (take l.place l.dbs))
     × (with_breaks l.found.first (dbs_behind l.names.symbols (numbers_before (take l.place (db_numbers l.names.symbols l.dbs))) (drop l.place l.dbs))
     ≡ with_breaks l.initial.found.first (dbs_behind l.names.symbols [] l.dbs))

@@ -10,11 +10,11 @@ returns-clause-first c =
     let raw = c.args.raw.now in
     let text = c.args.names.now in
     let a = c.note_symbols.new.first in
-    let b = c.in_ok-laid.field-0.first in
+    let b = c.in_ok-declarations.field-0.first in
     let many = c.note_too_many.new.first in
     let of_symbols : a ≡ with_breaks None (symbols_behind [] raw.symbols)
     = c.in_ok-note_symbols.ensures ∙ ap (λ lines. with_breaks None (symbols_behind [] lines)) c.as_slice.ensures in
-    let found : b ≡ with_breaks a (dbs_behind text.symbols [] c.as_slice-2.result.now) = c.in_ok-laid.ensures.first in
+    let found : b ≡ with_breaks a (dbs_behind text.symbols [] c.as_slice-2.result.now) = c.in_ok-declarations.ensures.first in
     let of_dbs : b ≡ with_breaks a (dbs_behind raw.symbols [] raw.dbs)
     = found ∙ ap (λ dbs. with_breaks a (dbs_behind text.symbols [] dbs)) c.as_slice-2.ensures
     ∙ ap (λ t. with_breaks a (dbs_behind t.symbols [] raw.dbs)) c.requires in

@@ -1,5 +1,5 @@
 use Rattle.std.proofs.Common.{◌≡◌, ◌≤◌, ◌+◌, ◌∷◌, [], length, ap, ◌∙◌, subst, arith, length-append}
-use Rattle.call_chains.specs.Search.{AllReached, IsClosedButFor, unmarked}
+use Rattle.call_chains.specs.Search.{AllReached, IsClosedButFor, count_unmarked}
 use Rattle.call_chains.proofs.Reached.{none_waits, taken, taken_follows}
 use Rattle.call_chains.proofs.search.Search.run.Goals as goal
 
@@ -19,8 +19,11 @@ visit-requires-clause-reached c =
 
 pub loop-unit-smaller : goal.loop-unit-smaller
 loop-unit-smaller c =
-    let left : unmarked c.visit.new.self.seen.items + length c.visit.new.self.work.items ≤ unmarked c.loop-unit.self.seen.items + length c.pop.new.self.items = c.in_ok-visit.ensures.left in
-    let taken_one : length c.loop-unit.self.work.items ≡ length c.pop.new.self.items + 1 = ap length c.in-Some.ensures.items ∙ length-append c.pop.new.self.items (c.in-Some.unit ∷ []) in
+    let left : count_unmarked c.visit.new.self.seen.items + length c.visit.new.self.work.items
+    ≤ count_unmarked c.loop-unit.self.seen.items + length c.pop.new.self.items =
+    c.in_ok-visit.ensures.left in
+    let taken_one : length c.loop-unit.self.work.items ≡ length c.pop.new.self.items + 1 =
+    ap length c.in-Some.ensures.items ∙ length-append c.pop.new.self.items (c.in-Some.unit ∷ []) in
     omega (arith, left, taken_one)
 
 pub visit-requires-clause-followed : goal.visit-requires-clause-followed

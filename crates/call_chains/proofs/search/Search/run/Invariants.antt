@@ -1,10 +1,10 @@
 use Rattle.std.proofs.Common.{◌≡◌, ◌+◌, length}
-use Rattle.call_chains.specs.Search.{IsClosedButFor, IsSound, unmarked}
+use Rattle.call_chains.specs.Search.{IsClosedButFor, IsSound, count_unmarked}
 use Rattle.call_chains.proofs.search.Search.run.Given as goal
 
 -- a unit is taken, and each that comes to wait gets a mark
 abbrev pub decreases-loop-unit : goal.decreases-loop-unit
-decreases-loop-unit l = unmarked l.self.seen.items + length l.self.work.items
+decreases-loop-unit l = count_unmarked l.self.seen.items + length l.self.work.items
 
 abbrev pub invariant-loop-unit : goal.invariant-loop-unit
 invariant-loop-unit l = record {

@@ -1,6 +1,6 @@
 use Rattle.std.proofs.Common.{slice_get, ap, ◌∙◌}
 use Rattle.std.specs.Prelude.{option_and_then}
-use Rattle.first_places.specs.Places.{first_place}
+use Rattle.name_tables.specs.Places.{first_place}
 use Rattle.stl_tree.specs.declared.raw.BlockKind.TheVariants as block
 use Rattle.stl_tree.specs.declared.raw.RawProgram.{RawProgram}
 use Rattle.name_tables.specs.Before.{db_numbers, is_block}

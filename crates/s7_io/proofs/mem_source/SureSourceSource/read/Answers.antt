@@ -1,6 +1,6 @@
 use Rattle.std.proofs.Common.{arith}
 use Rattle.std.proofs.lemmas.List.{length-take}
-use Rattle.s7_io.proofs.SourceLemmas.{copied-front}
+use Rattle.s7_io.proofs.SourceLaws.{copied-front}
 use Rattle.s7_io.proofs.mem_source.SureSourceSource.read.Goals as goal
 
 pub returns-clause-bytes : goal.returns-clause-bytes

@@ -16,7 +16,8 @@ start-requires-clause-reachable c =
     let call = c.args.call.now in
     let unit = c.in-Some.unit.now in
     given_reached c.args.tree.now.dbs unit call.block call.instance call.actuals
-    (subst (λ (b : Bool). Decides b (FitsUnit c.args.tree.now.dbs unit call.block call.instance call.actuals)) c.if-not-fits_unit.false (c.fits_unit.ensures c.args.tree.now.dbs c.requires.memory))
+    (subst (λ (b : Bool). Decides b (FitsUnit c.args.tree.now.dbs unit call.block call.instance call.actuals)) c.if-not-fits_unit.false
+    (c.fits_unit.ensures c.args.tree.now.dbs c.requires.memory))
 
 pub invariant_of-result : goal.invariant_of-result
 invariant_of-result c =
@@ -26,10 +27,12 @@ invariant_of-result c =
     let work = c.in_ok-work.work in
     let runnable = proper_runs tree c.requires.proper in
     let called = subst (λ (xs : List Pou). unit_called call.block xs ≡ Some unit) c.as_slice-units.ensures c.in-Some.ensures in
-    let sound = subst (λ (xs : List Pou). IsSound (most_locals xs) (most_formals xs) c.in_ok-state.state) c.as_slice-units.ensures c.in_ok-state.ensures.sound in (
+    let sound =
+    subst (λ (xs : List Pou). IsSound (most_locals xs) (most_formals xs) c.in_ok-state.state) c.as_slice-units.ensures c.in_ok-state.ensures.sound in (
       runnable,
       subst (λ n. IsReady tree n work.items at.Work c.in_ok-state.state) (sym c.in_ok-work.ensures.room)
-          (ready_at_start tree runnable call unit c.as_slice-2.result c.in_ok-state.state work.items called c.as_slice-2.ensures c.in_ok-work.ensures.items sound c.in_ok-state.ensures.one),
+          (ready_at_start tree runnable call unit c.as_slice-2.result c.in_ok-state.state work.items
+          called c.as_slice-2.ensures c.in_ok-work.ensures.items sound c.in_ok-state.ensures.one),
     )
 
 pub returns : goal.returns
@@ -40,6 +43,8 @@ returns c =
     let work = c.in_ok-work.work in
     let called = subst (λ (xs : List Pou). unit_called call.block xs ≡ Some unit) c.as_slice-units.ensures c.in-Some.ensures in (
       fits_there tree call unit called
-          (subst (λ (b : Bool). Decides b (FitsUnit tree.dbs unit call.block call.instance call.actuals)) c.if-not-fits_unit.false (c.fits_unit.ensures tree.dbs c.requires.memory)),
-      ends_as_run tree call c.args.memory.areas unit c.as_slice-2.result (state_of c.in_ok-state.state) work.items called c.as_slice-2.ensures c.in_ok-work.ensures.items c.in_ok-state.ensures.begins,
+          (subst (λ (b : Bool). Decides b (FitsUnit tree.dbs unit call.block call.instance call.actuals)) c.if-not-fits_unit.false
+          (c.fits_unit.ensures tree.dbs c.requires.memory)),
+      ends_as_run tree call c.args.memory.areas unit c.as_slice-2.result
+          (state_of c.in_ok-state.state) work.items called c.as_slice-2.ensures c.in_ok-work.ensures.items c.in_ok-state.ensures.begins,
     )

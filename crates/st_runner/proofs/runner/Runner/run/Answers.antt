@@ -26,4 +26,5 @@ returns-clause-outcome c =
     ∙ ap (λ (s : Standing). end_within s n) c.self.view_is
     ∙ ap (end_within c.args.self.now) none in
     subst (λ (o : Outcome). Shows o (end_within c.args.self.now c.args.k) areas) (sym c.outcome_of.ensures)
-    (subst (λ (x : End). Shows (outcome_of c.go.new.at) x areas) e (settled_shows tree c.go.new.work.items c.go.new.at (state_of c.go.new.state) c.go.ensures.settled))
+    (subst (λ (x : End). Shows (outcome_of c.go.new.at) x areas) e
+    (settled_shows tree c.go.new.work.items c.go.new.at (state_of c.go.new.state) c.go.ensures.settle))

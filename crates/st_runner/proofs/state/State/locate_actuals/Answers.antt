@@ -16,8 +16,9 @@ module _ (g : List Located) (s : State) where
   then_one (Ok a) (Err f) rs e = cc
   then_one (Err f) more rs e = cc
 
-  pub located_more : (vs : List Var) (i : ℕ) (d : Var) (rs : List Reference) (r : Reference) → i < length vs → located_actuals g (take i vs) s ≡ Ok rs → located_actual g (slice_index_or vs i d) s ≡ Ok r →
-      located_actuals g (take (suc i) vs) s ≡ Ok (rs ++ r ∷ [])
+  pub located_more : (vs : List Var) (i : ℕ) (d : Var) (rs : List Reference) (r : Reference) → i < length vs
+      → located_actuals g (take i vs) s ≡ Ok rs → located_actual g (slice_index_or vs i d) s ≡ Ok r
+      → located_actuals g (take (suc i) vs) s ≡ Ok (rs ++ r ∷ [])
   located_more [] i d rs r h e k = absurd (omega arith)
   located_more (v ∷ vs) zero d rs r h e k =
       let none : rs ≡ [] = cc in
@@ -28,8 +29,9 @@ module _ (g : List Located) (s : State) where
       ∙ ap (λ q. and_then q (λ b. Ok (parts.0 ∷ b))) (located_more vs i d parts.1 r (omega arith) parts.3 k)
       ∙ ap (λ (ys : List Reference). Ok (ys ++ r ∷ [])) (sym parts.4)
 
-  pub located_fault : (vs : List Var) (i : ℕ) (d : Var) (rs : List Reference) (f : Fault) → i < length vs → located_actuals g (take i vs) s ≡ Ok rs → located_actual g (slice_index_or vs i d) s ≡ Err f →
-      located_actuals g vs s ≡ Err f
+  pub located_fault : (vs : List Var) (i : ℕ) (d : Var) (rs : List Reference) (f : Fault) → i < length vs
+      → located_actuals g (take i vs) s ≡ Ok rs → located_actual g (slice_index_or vs i d) s ≡ Err f
+      → located_actuals g vs s ≡ Err f
   located_fault [] i d rs f h e k = absurd (omega arith)
   located_fault (v ∷ vs) zero d rs f h e k = ap (λ q. and_then q (λ a. and_then (located_actuals g vs s) (λ b. Ok (a ∷ b)))) k
   located_fault (v ∷ vs) (suc i) d rs f h e k =
@@ -39,7 +41,8 @@ module _ (g : List Located) (s : State) where
 
 pub returns-in-Err-clause-fault : goal.returns-in-Err-clause-fault
 returns-in-Err-clause-fault c =
-    located_fault c.args.globals.now (state_of c.args.self.now) c.args.actuals.now c.loop-actual.actual-index _ c.loop-actual.formals.items c.in-Err.fault c.loop-actual-test.true c.loop-actual.invariant.0
+    located_fault c.args.globals.now (state_of c.args.self.now) c.args.actuals.now c.loop-actual.actual-index
+    _ c.loop-actual.formals.items c.in-Err.fault c.loop-actual-test.true c.loop-actual.invariant.0
     (sym c.located_actual.ensures.value ∙ c.in-Err.is)
 
 pub loop-actual-preserved : goal.loop-actual-preserved
@@ -48,7 +51,9 @@ loop-actual-preserved c =
     let s = state_of c.args.self.now in
     let rs = c.loop-actual.formals.items in
     let r = c.in-Ok.reference in
-    let more = located_more g s c.args.actuals.now c.loop-actual.actual-index _ rs r c.loop-actual-test.true c.loop-actual.invariant.0 (sym c.located_actual.ensures.value ∙ c.in-Ok.is) in
+    let more =
+    located_more g s c.args.actuals.now c.loop-actual.actual-index _ rs r c.loop-actual-test.true c.loop-actual.invariant.0
+    (sym c.located_actual.ensures.value ∙ c.in-Ok.is) in
     let one : suc c.loop-actual.actual-index ≡ c.loop-actual.actual-index + 1 = omega arith in
     let items = c.push_reserved.ensures.items in (
       ap (λ n. located_actuals g (take n c.args.actuals.now) s) (sym one) ∙ more ∙ ap (λ (ys : List Reference). Ok ys) (sym items),

@@ -21,5 +21,6 @@ returns-clause-state c =
           w.self-is ∙ c.loop.invariant ∙ ap (λ k. steps_on k c.args.self.now) all
       | then-loop-test+in_default w ↦ let within : c.loop.counter ≤ c.args.n = first_of (search rules, omega arith) in
           let stands : next_of (standing before.program.now before.progress before.state) ≡ None = search rules in
-          w.self-is ∙ still_early c.loop.counter c.args.n c.args.self.now (standing before.program.now before.progress before.state) within c.loop.invariant stands
+          w.self-is
+          ∙ still_early c.loop.counter c.args.n c.args.self.now (standing before.program.now before.progress before.state) within c.loop.invariant stands
     ]

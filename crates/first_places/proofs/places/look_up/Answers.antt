@@ -1,7 +1,0 @@
-use Rattle.std.proofs.Common.{nat_eq, ◌∙◌}
-use Rattle.std.specs.Cmp.Lexicographic.{pointwise}
-use Rattle.first_places.proofs.Tables.{looks}
-use Rattle.first_places.proofs.places.look_up.Goals as goal
-
-pub returns : goal.returns
-returns c = c.copied.ensures ∙ c.get.ensures.value ∙ looks (pointwise nat_eq) (λ k. k.items) c.args.key.now c.args.places.now.entries

@@ -1,9 +1,0 @@
-pub mod Builders
-pub mod DoesRow
-pub mod Fetching
-pub mod Nodes
-pub mod Pointing
-pub mod Reading
-pub mod Related
-pub mod Templates
-pub mod Writes

@@ -1,7 +1,0 @@
-use Rattle.std.proofs.Common.{◌∙◌}
-use Rattle.st_bodies.proofs.Loops.{in_loop_is}
-use Rattle.st_bodies.proofs.statement.in_loop.Goals as goal
-
--- src/statement.rt:34:1
-pub returns : goal.returns
-returns c = c.has_loop.ensures ∙ in_loop_is c.args.frames.now

@@ -1,9 +1,0 @@
-pub mod Bodies
-pub mod Expressions
-pub mod Globals
-pub mod ReadProper
-pub mod Sees
-pub mod Statements
-pub mod Units
-pub mod Values
-pub mod Worded

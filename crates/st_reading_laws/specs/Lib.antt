@@ -1,0 +1,3 @@
+pub mod SyntaxLaws
+pub mod TypedLaws
+pub mod inner

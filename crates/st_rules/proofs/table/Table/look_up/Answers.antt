@@ -1,6 +1,0 @@
-use Rattle.std.proofs.Common.{ap, ◌∙◌}
-use Rattle.st_rules.proofs.Tables.{looks}
-use Rattle.st_rules.proofs.table.Table.look_up.Goals as goal
-
-pub returns : goal.returns
-returns g c = c.copied.ensures ∙ c.get.ensures.value ∙ looks _ c.args.key.now _ ∙ ap (Rattle.st_rules.specs.Names.look_up c.args.key.now) c.self.view_is

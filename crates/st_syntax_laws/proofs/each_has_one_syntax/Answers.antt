@@ -1,5 +1,0 @@
-use Rattle.st_syntax_laws.proofs.SomeSyntax.{each_has_one_syntax}
-use Rattle.st_syntax_laws.proofs.each_has_one_syntax.Goals as goal
-
-pub returns : goal.returns
-returns c = each_has_one_syntax

@@ -1,5 +1,0 @@
-use Rattle.st_syntax_laws.proofs.JudgedSyntax.{judged_trees}
-use Rattle.st_syntax_laws.proofs.judged_trees.Goals as goal
-
-pub returns : goal.returns
-returns c = judged_trees

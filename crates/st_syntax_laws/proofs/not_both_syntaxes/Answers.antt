@@ -1,5 +1,0 @@
-use Rattle.st_syntax_laws.proofs.OneSyntax.{not_both_syntaxes}
-use Rattle.st_syntax_laws.proofs.not_both_syntaxes.Goals as goal
-
-pub returns : goal.returns
-returns c = not_both_syntaxes

@@ -1,5 +1,0 @@
-use Rattle.st_syntax_laws.proofs.OneGrammar.{one_grammar}
-use Rattle.st_syntax_laws.proofs.one_grammar.Goals as goal
-
-pub returns : goal.returns
-returns c = one_grammar

@@ -1,2 +1,0 @@
-pub mod SyntaxLaws
-pub mod inner

@@ -1,5 +1,0 @@
-use Rattle.st_types_laws.proofs.OneAnswer.{not_both}
-use Rattle.st_types_laws.proofs.not_both.Goals as goal
-
-pub returns : goal.returns
-returns c = not_both

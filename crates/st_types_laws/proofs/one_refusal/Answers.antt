@@ -1,5 +1,0 @@
-use Rattle.st_types_laws.proofs.OneAnswer.{one_refusal}
-use Rattle.st_types_laws.proofs.one_refusal.Goals as goal
-
-pub returns : goal.returns
-returns c = one_refusal

@@ -1,5 +1,0 @@
-use Rattle.st_types_laws.proofs.OneAnswer.{one_tree}
-use Rattle.st_types_laws.proofs.one_tree.Goals as goal
-
-pub returns : goal.returns
-returns c = one_tree

@@ -1,0 +1,15 @@
+-- The shapes of operands, as the code takes them in two.
+use Rattle.stl_statement_grammar.specs.declared.mnemonic.OperandForm.{OperandForm}
+use Rattle.stl_statement_grammar.specs.declared.mnemonic.OperandForm.TheVariants as shape
+
+-- an operand of this form is neither a place nor a name
+abbrev pub IsPlainForm : OperandForm → Type 0
+IsPlainForm shape.Bit = ⊥
+IsPlainForm shape.Checked = ⊥
+IsPlainForm shape.CheckedOrNothing = ⊥
+IsPlainForm shape.Loaded = ⊥
+IsPlainForm shape.Stored = ⊥
+IsPlainForm (shape.PointerLoaded r) = ⊥
+IsPlainForm (shape.PointerStored r) = ⊥
+IsPlainForm shape.Opened = ⊥
+IsPlainForm other = Unit {0}

@@ -1,0 +1,2 @@
+mod OperandCases
+mod PointerCases

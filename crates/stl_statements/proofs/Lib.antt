@@ -1,2 +1,0 @@
-mod OperandRows
-mod PointerRows

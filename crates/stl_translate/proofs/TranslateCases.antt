@@ -1,0 +1,77 @@
+-- The text of some small programs, by computation.
+use Rattle.std.specs.Prelude.{◌≡◌, ℕ, List, [], ◌∷◌, ◌++◌, map, codes}
+use Rattle.std.specs.Fmt.{digits}
+use Rattle.s7_base.specs.declared.check.Check.TheVariants as check
+use Rattle.memory_areas.specs.declared.place.AreaName.TheVariants as area
+use Rattle.memory_areas.specs.declared.call.BlockName.{BlockName}
+use Rattle.memory_areas.specs.declared.call.BlockName.TheVariants as name
+use Rattle.stl_tree.specs.declared.program.Operand.{Operand}
+use Rattle.stl_tree.specs.declared.program.Operand.TheVariants as operand
+use Rattle.stl_tree.specs.declared.program.BitArg.TheVariants as arg
+use Rattle.stl_tree.specs.declared.program.Op.{Op}
+use Rattle.stl_tree.specs.declared.program.Op.TheVariants as op
+use Rattle.stl_tree.specs.declared.program.Instr.{Instr}
+use Rattle.stl_tree.specs.declared.program.Block.{Block}
+use Rattle.st_tree.specs.Spelling.{unit_text, line, literal_text, spelling}
+use Rattle.st_tree.proofs.Equations.{canon_equations, text_assign}
+use Rattle.instruction_lowering.specs.inner.Lowering.{graph_program_of}
+use Rattle.stl_translate.specs.inner.Straight.{straight}
+
+abbrev instr_of : Op → Instr
+instr_of o = record { line = record { 0 = 3 }; op = o }
+
+-- a block with these instructions before its end word
+abbrev block_of : BlockName → List Op → Block
+block_of n ops = record { name = n; line = record { 0 = 1 }; formals = []; body = map instr_of (ops ++ op.BlockEnd ∷ []) }
+
+abbrev text_of : List Block → List ℕ
+text_of blocks = spelling (straight (graph_program_of (record { dbs = []; instances = []; blocks = blocks; symbols = [] })))
+
+abbrev input : ℕ → Operand
+input bit = operand.Direct area.I 0 bit
+
+series_of_two : text_of (block_of (name.Ob 1)
+    (op.Check check.A (arg.At (input 0)) ∷ op.Check check.A (arg.At (input 1)) ∷ op.Assign (operand.Direct area.Q 4 0) ∷ []) ∷ [])
+    ≡ codes "PROGRAM OB1\n"
+    ++ codes "    RLO := (RLO OR NOT NFC) AND %IX0.0 OR ORB;\n    NFC := TRUE;\n"
+    ++ codes "    RLO := (RLO OR NOT NFC) AND %IX0.1 OR ORB;\n    NFC := TRUE;\n"
+    ++ codes "    %QX4.0 := RLO;\n    ORB := FALSE;\n    NFC := FALSE;\n"
+    ++ codes "    ORB := FALSE;\n    NFC := FALSE;\n    OS := FALSE;\nEND_PROGRAM\n"
+unfolding digits unit_text line literal_text
+series_of_two = simp (text_assign, canon_equations)
+
+negated_series : text_of (block_of (name.Fc 10) (op.Check check.An (arg.At (input 0)) ∷ []) ∷ [])
+    ≡ codes
+    "PROGRAM FC10\n    RLO := (RLO OR NOT NFC) AND NOT %IX0.0 OR ORB;\n    NFC := TRUE;\n    ORB := FALSE;\n    NFC := FALSE;\n    OS := FALSE;\nEND_PROGRAM\n"
+unfolding digits unit_text line literal_text
+negated_series = simp (text_assign, canon_equations)
+
+parallel : text_of (block_of (name.Fb 1) (op.Check check.O (arg.At (input 0)) ∷ []) ∷ [])
+    ≡ codes
+    "PROGRAM FB1\n    RLO := RLO AND NFC OR %IX0.0;\n    ORB := FALSE;\n    NFC := TRUE;\n    ORB := FALSE;\n    NFC := FALSE;\n    OS := FALSE;\nEND_PROGRAM\n"
+unfolding digits unit_text line literal_text
+parallel = simp (text_assign, canon_equations)
+
+negated_parallel : text_of (block_of (name.Ob 65535) (op.Check check.On (arg.At (operand.Direct area.M 8191 7)) ∷ []) ∷ [])
+    ≡ codes "PROGRAM OB65535\n    RLO := RLO AND NFC OR NOT %MX8191.7;\n    ORB := FALSE;\n    NFC := TRUE;\n    ORB := FALSE;\n    NFC := FALSE;\n    OS := FALSE;\nEND_PROGRAM\n"
+unfolding digits unit_text line literal_text
+negated_parallel = simp (text_assign, canon_equations)
+
+exclusive : text_of (block_of (name.Ob 1) (op.Check check.X (arg.At (input 0)) ∷ op.Check check.Xn (arg.At (input 1)) ∷ []) ∷ [])
+    ≡ codes "PROGRAM OB1\n"
+    ++ codes "    RLO := RLO AND NFC XOR %IX0.0;\n    ORB := FALSE;\n    NFC := TRUE;\n"
+    ++ codes "    RLO := RLO AND NFC XOR NOT %IX0.1;\n    ORB := FALSE;\n    NFC := TRUE;\n"
+    ++ codes "    ORB := FALSE;\n    NFC := FALSE;\n    OS := FALSE;\nEND_PROGRAM\n"
+unfolding digits unit_text line literal_text
+exclusive = simp (text_assign, canon_equations)
+
+-- nothing stands behind the first end word of a body
+early_end : text_of (block_of (name.Ob 1) (op.Assign (operand.Direct area.Q 4 0) ∷ op.BlockEnd ∷ op.Assign (operand.Direct area.Q 4 1) ∷ []) ∷ [])
+    ≡ codes "PROGRAM OB1\n    %QX4.0 := RLO;\n    ORB := FALSE;\n    NFC := FALSE;\n    ORB := FALSE;\n    NFC := FALSE;\n    OS := FALSE;\nEND_PROGRAM\n"
+unfolding digits unit_text line literal_text
+early_end = simp (text_assign, canon_equations)
+
+two_blocks : text_of (block_of (name.Ob 1) [] ∷ block_of (name.Ob 35) [] ∷ [])
+    ≡ codes "PROGRAM OB1\n    ORB := FALSE;\n    NFC := FALSE;\n    OS := FALSE;\nEND_PROGRAM\nPROGRAM OB35\n    ORB := FALSE;\n    NFC := FALSE;\n    OS := FALSE;\nEND_PROGRAM\n"
+unfolding digits unit_text line literal_text
+two_blocks = simp (text_assign, canon_equations)

@@ -1,0 +1,226 @@
+-- Related states, as one thing after another changes.
+use Rattle.std.proofs.Common.{◌≡◌, ℕ, suc, ◌+◌, ◌^◌, ◌<◌, pos, List, [], ◌∷◌, ◌++◌, length, Option, Some, None, refl, sym, ap, subst, ◌∙◌, arith}
+use Rattle.std.specs.Prelude.{ℤ, slice_set}
+use Rattle.memory_areas.specs.Areas.{Contents}
+use Rattle.memory_areas.specs.Access.{HoldsBytes, area_named}
+use Rattle.memory_areas.specs.declared.place.AreaName.{AreaName}
+use Rattle.memory_areas.specs.declared.place.Place.{Place}
+use Rattle.status_word.specs.StatusBits.{StatusBits}
+use Rattle.s7_base.specs.declared.check.Entry.{Entry}
+use Rattle.s7_base.specs.declared.register.Reg.{Reg}
+use Rattle.s7_base.specs.declared.register.Reg.TheVariants as reg
+use Rattle.stl_tree.specs.Now.{Activation, Now, depth}
+use Rattle.stl_tree.specs.Registers.{RegisterValues}
+use Rattle.stl_tree.specs.StlRun.{going_on}
+pub use Rattle.instruction_laws.proofs.RangeEffects.{any_status}
+use Rattle.instruction_laws.specs.Ranges.{AreInRange}
+use Rattle.st_tree.specs.State.{Activation as Running, State, db_number, di_number, depth as depth_of_state, place_of, with_local}
+use Rattle.st_tree.specs.declared.state.Reference.{Reference}
+use Rattle.st_tree.specs.Values.{pattern}
+use Rattle.st_tree.specs.declared.state.Value.{Value}
+use Rattle.st_tree.specs.declared.state.Reference.TheVariants as reference
+use Rattle.template_parts.specs.Related.{AreAlike, AreFormals, Frames, IsConstant, Related, StandForSame, formals_of_block, value_in, without_cells}
+use Rattle.template_parts.proofs.Cells.{cell_read_alike}
+use Rattle.template_parts.proofs.Units.{last_with, with_locals}
+
+-- Formals
+
+-- a formal stands for the same where the cells are as they were
+cell_kept : (before after : Contents) (waiting : List Running) (p : Place) (r : Reference) → after.cells ≡ before.cells
+    → StandForSame before waiting p r → StandForSame after waiting p r
+cell_kept before after waiting p (reference.Register r) e h = h
+cell_kept before after waiting p (reference.Place q ty) e h = h
+cell_kept before after waiting p (reference.Local d i) e h = (h.0, by (value_in waiting d i) h.1)
+  where
+    by : (v : Option Value) → IsConstant before p v → IsConstant after p v
+    by None k = k
+    by (Some v) k = cell_read_alike p h.0 v.ty after before e ∙ k
+
+formals_kept : (before after : Contents) (waiting : List Running) (places : List (Option Place)) (references : List Reference) → after.cells ≡ before.cells
+    → AreFormals before waiting places references → AreFormals after waiting places references
+formals_kept before after waiting [] [] e h = tt
+formals_kept before after waiting [] (r ∷ references) e h = elim h [ ]
+formals_kept before after waiting (None ∷ places) references e h = elim h [ ]
+formals_kept before after waiting (Some p ∷ places) [] e h = elim h [ ]
+formals_kept before after waiting (Some p ∷ places) (r ∷ references) e h =
+    (cell_kept before after waiting p r e h.0, formals_kept before after waiting places references e h.1)
+
+-- The running unit
+
+-- a local of the last unit takes a value
+last_set : (waiting : List Running) (running : Running) (i : ℕ) (v : Value)
+    → with_local (length waiting) i v (waiting ++ running ∷ []) ≡ waiting ++ record running { locals = slice_set running.locals i v } ∷ []
+last_set [] running i v = refl
+last_set (a ∷ waiting) running i v = ap (λ (rest : List Running). a ∷ rest) (last_set waiting running i v)
+
+one_longer : (waiting : List Running) (running : Running) → length (waiting ++ running ∷ []) ≡ suc (length waiting)
+one_longer [] running = refl
+one_longer (a ∷ waiting) running = ap suc (one_longer waiting running)
+
+-- What changes, one thing at a time
+
+module _ (frames : Frames) (now : Now) (s : State) (related : Related frames now s) where
+  -- the number of the running unit is that of those that wait
+  pub as_many_wait : depth_of_state s ≡ length frames.waiting
+  as_many_wait =
+      let all : length s.activations ≡ suc (length frames.waiting) = ap length related.units ∙ one_longer frames.waiting related.running in
+      omega arith
+
+  -- other status bits, and register variables that have their numbers
+  pub keep_bits : (bits : StatusBits) (registers : Reg → ℤ) → AreAlike (record now.registers { status = bits }) registers
+      → Related frames (record now { registers = record now.registers { status = bits } }) (record s { registers = registers })
+  keep_bits bits registers alike =
+      record {
+        registers = alike;
+        range = any_status now.registers bits related.range;
+        memory = related.memory;
+        bytes = related.bytes;
+        blocks = related.blocks;
+        running = related.running;
+        units = related.units;
+        depth = related.depth;
+        formals = related.formals;
+      }
+
+  -- other registers, in their ranges
+  pub keep_registers : (after : RegisterValues) (registers : Reg → ℤ) → AreAlike after registers → AreInRange after
+      → Related frames (record now { registers = after }) (record s { registers = registers })
+  keep_registers after registers alike range =
+      record {
+        registers = alike;
+        range = range;
+        memory = related.memory;
+        bytes = related.bytes;
+        blocks = related.blocks;
+        running = related.running;
+        units = related.units;
+        depth = related.depth;
+        formals = related.formals;
+      }
+
+  -- another memory, which holds bytes, and in its cells what was there
+  pub keep_memory : (m : Contents) → HoldsBytes m → m.cells ≡ now.memory.cells
+      → Related frames (record now { memory = m }) (record s { memory = without_cells m })
+  keep_memory m holds cells =
+      record {
+        registers = related.registers;
+        range = related.range;
+        memory = refl;
+        bytes = holds;
+        blocks = related.blocks;
+        running = related.running;
+        units = related.units;
+        depth = related.depth;
+        formals = formals_kept now.memory m frames.waiting (formals_of_block frames.blocks) related.running.formals cells related.formals;
+      }
+
+  -- other open brackets, of which the related state says nothing
+  pub keep_brackets : (entries : List Entry) → Related frames (record now { brackets = entries }) s
+  keep_brackets entries =
+      record {
+        registers = related.registers;
+        range = related.range;
+        memory = related.memory;
+        bytes = related.bytes;
+        blocks = related.blocks;
+        running = related.running;
+        units = related.units;
+        depth = related.depth;
+        formals = related.formals;
+      }
+
+  -- another value in a local of the running unit
+  pub keep_local : (i : ℕ) (v : Value) → Related frames now (record s { activations = with_local (depth_of_state s) i v s.activations })
+  keep_local i v =
+      record {
+        registers = related.registers;
+        range = related.range;
+        memory = related.memory;
+        bytes = related.bytes;
+        blocks = related.blocks;
+        running = record related.running { locals = slice_set related.running.locals i v };
+        units = ap (λ (d : ℕ). with_local d i v s.activations) as_many_wait
+            ∙ ap (with_local (length frames.waiting) i v) related.units ∙ last_set frames.waiting related.running i v;
+        depth = related.depth;
+        formals = related.formals;
+      }
+
+  -- other values in all of them
+  pub keep_locals : (xs : List Value) → Related frames now (record s { activations = with_locals xs s.activations })
+  keep_locals xs =
+      record {
+        registers = related.registers;
+        range = related.range;
+        memory = related.memory;
+        bytes = related.bytes;
+        blocks = related.blocks;
+        running = record related.running { locals = xs };
+        units = ap (with_locals xs) related.units ∙ last_with xs frames.waiting related.running;
+        depth = related.depth;
+        formals = related.formals;
+      }
+
+-- the frames, whose running block goes on behind its instruction
+abbrev pub frames_on : Frames → Frames
+frames_on frames = record frames { blocks = going_on frames.blocks }
+
+-- the same formals, and as many blocks
+on_formals : (blocks : List Activation) → formals_of_block (going_on blocks) ≡ formals_of_block blocks
+on_formals [] = refl
+on_formals (a ∷ waiting) = refl
+
+on_length : (blocks : List Activation) → length (going_on blocks) ≡ length blocks
+on_length [] = refl
+on_length (a ∷ waiting) = refl
+
+-- the running activation goes on behind its instruction
+pub keep_position : (frames : Frames) (now : Now) (s : State) → Related frames now s
+    → Related (frames_on frames) (record now { activations = going_on now.activations }) s
+keep_position frames now s related =
+    record {
+      registers = related.registers;
+      range = related.range;
+      memory = related.memory;
+      bytes = related.bytes;
+      blocks = ap going_on related.blocks;
+      running = related.running;
+      units = related.units;
+      depth = related.depth ∙ sym (on_length frames.blocks);
+      formals =
+          subst (λ (places : List (Option Place)). AreFormals now.memory frames.waiting places related.running.formals)
+          (sym (on_formals frames.blocks)) related.formals;
+    }
+
+-- Places
+
+number_kept : (n : ℕ) → n < 2 ^ 16 → pattern 16 (pos n) ≡ n
+number_kept n h = omega arith
+
+same_depth : (blocks : List Activation) (n : ℕ) → suc n ≡ length blocks → n ≡ depth blocks
+same_depth [] n e = absurd (omega arith)
+same_depth (a ∷ waiting) n e = omega arith
+
+-- the place of a written operand
+abbrev pub place_now : AreaName → ℕ → ℕ → Now → Place
+place_now a byte x now = record { area = area_named a now.registers.db now.registers.di (depth now.activations); byte = byte; bit = x }
+
+module _ (frames : Frames) (now : Now) (s : State) (related : Related frames now s) where
+  -- the numbers by which places are found
+  pub same_db : db_number s ≡ now.registers.db
+  same_db = ap (pattern 16) (related.registers reg.DbNo tt) ∙ number_kept now.registers.db related.range.db
+
+  pub same_di : di_number s ≡ now.registers.di
+  same_di = ap (pattern 16) (related.registers reg.DiNo tt) ∙ number_kept now.registers.di related.range.di
+
+  pub as_deep_as : depth_of_state s ≡ depth now.activations
+  as_deep_as =
+      as_many_wait frames now s related ∙ same_depth frames.blocks (length frames.waiting) related.depth
+      ∙ sym (ap depth related.blocks)
+
+  -- an operand and its variable name the same place
+  pub same_place : (a : AreaName) (byte x : ℕ) → place_of a byte x s ≡ place_now a byte x now
+  same_place a byte x = rw (same_db, same_di, as_deep_as) refl
+
+  -- the areas of both memories are the same
+  pub same_areas : s.memory.areas ≡ now.memory.areas
+  same_areas = ap (λ (m : Contents). m.areas) related.memory

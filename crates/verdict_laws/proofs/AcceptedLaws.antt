@@ -1,0 +1,323 @@
+-- The verdict gives only programs that keep the rules.
+use Rattle.std.proofs.Common.{◌≡◌, ◌≢◌, ℕ, zero, suc, ◌+◌, List, [], ◌∷◌, ◌++◌, length, Bool, true, false, not, if◌then◌else◌, Option, Some, None, Result, Ok, Err, refl, sym, ap, subst, ◌∙◌, arith}
+use Rattle.std.specs.Prelude.{All, IfOk, IfSome, ◌==◌, map, nat_le, nat_lt, slice_get}
+use Rattle.std.specs.Option.{is_some}
+use Rattle.std.specs.List.{flat_map, position_or_len}
+use Rattle.std.proofs.lemmas.Bool.{and_parts, both_ways, le-ltb, leb-true, ne_eqb, not-false}
+use Rattle.std.proofs.lemmas.List.Concat.{flat_map-cons}
+use Rattle.std.proofs.lemmas.List.Elements.{All-append, All-cons, All-nil, All-head, All-tail}
+use Rattle.memory_areas.specs.Access.{is_byte_in, is_unaligned}
+use Rattle.memory_areas.specs.declared.call.BlockName.{BlockName}
+use Rattle.memory_areas.specs.declared.place.AreaName.{AreaName}
+use Rattle.memory_areas.specs.declared.place.AreaName.TheVariants as area_name
+use Rattle.memory_areas.specs.declared.sizes.TheConstants.{MOST_BLOCKS}
+use Rattle.s7_base.specs.Broken.{first_of_all}
+use Rattle.s7_base.specs.declared.rule_break.Break.{Break}
+use Rattle.s7_base.specs.declared.reason.Line.{Line}
+use Rattle.s7_base.specs.declared.reason.Reason.{Reason}
+use Rattle.s7_base.specs.declared.reason.Reason.TheVariants.{BadAddress, DuplicateName}
+use Rattle.s7_base.specs.declared.reason.Rejection.{Rejection}
+use Rattle.stl_tree.specs.Accepted.{AreDistinct, HasOperand, HaveOperands, IsAccepted, IsAcceptedBlock, IsBlockNumber, IsEnded, IsSymbol}
+use Rattle.stl_tree.specs.Brackets.{AreNested, WithNumber, open_behind}
+use Rattle.stl_tree.specs.StlRun.{block_named, is_same_name}
+use Rattle.stl_grammar.specs.Items.{is_data}
+use Rattle.stl_grammar.specs.RawPrograms.{raw_text}
+use Rattle.stl_rules.specs.Accepting.{IsKept}
+use Rattle.stl_rules.specs.DeclarationRules.{is_named, key_of, with_name}
+use Rattle.stl_rules.specs.Layouts.{breaks_in}
+use Rattle.stl_rules.specs.Names.{block_number, may_have}
+use Rattle.stl_rules.specs.Programs.{block_name, block_of, block_with, body_of, instr_of, program_of, symbol_area, symbol_at, symbol_in, symbol_of}
+use Rattle.stl_rules.specs.Raw.{OperandScope, are_refused, most_in_block, most_local}
+use Rattle.stl_rules.specs.Stages.{blocks_behind, bodies, body_breaks, brackets_at, brackets_from, broken_if, content_breaks, dbs_behind, first_broken, heading_breaks, initial_breaks, instr_breaks, is_address, is_among, names, no_blocks, none_among, one_too_many, open_at_end, open_then, stages, symbols_behind, with_block_number}
+use Rattle.stl_rules.specs.Verdict.{checked_program, judged_by, verdict}
+use Rattle.verdict_laws.specs.VerdictLaws.{VerdictIsAccepted}
+use Rattle.stl_tree.specs.declared.program.Block.{Block}
+use Rattle.stl_tree.specs.declared.program.Instr.{Instr}
+use Rattle.stl_tree.specs.declared.program.Op.TheVariants as op
+use Rattle.stl_tree.specs.declared.program.Program.{Program}
+use Rattle.stl_tree.specs.declared.raw.BlockKind.{BlockKind}
+use Rattle.stl_tree.specs.declared.raw.BlockKind.TheVariants as block
+use Rattle.stl_tree.specs.declared.raw.Declaration.{Declaration}
+use Rattle.stl_tree.specs.declared.raw.RawBlock.{RawBlock}
+use Rattle.stl_tree.specs.declared.raw.RawData.{RawData}
+use Rattle.stl_tree.specs.declared.raw.RawDataKind.{RawDataKind}
+use Rattle.stl_tree.specs.declared.raw.RawDataKind.TheVariants as data_kind
+use Rattle.stl_tree.specs.declared.raw.RawInitial.{RawInitial}
+use Rattle.stl_tree.specs.declared.raw.RawInstr.{RawInstr}
+use Rattle.stl_tree.specs.declared.raw.RawProgram.{RawProgram}
+use Rattle.stl_tree.specs.declared.raw.SymbolAddress.{SymbolAddress}
+use Rattle.stl_tree.specs.declared.raw.SymbolAddress.TheVariants as address
+use Rattle.stl_tree.specs.declared.raw.SymbolLine.{SymbolLine}
+use Rattle.stl_statement_grammar.specs.Mnemonics.{mnemonic_named}
+use Rattle.verdict_laws.proofs.StageLaws.{accepts, kept as stages_kept}
+use Rattle.verdict_laws.proofs.CodeBlocks.{HoldsCode, IsCode, of_text}
+use Rattle.verdict_laws.proofs.DataBlockLaws.{are_blocks, comes_among, not_broken, numbers, stays_among}
+use Rattle.stl_rules.proofs.Lists.{all_made, no_parts, none_of_all}
+use Rattle.verdict_laws.proofs.ProgramLaws.{IsClear, IsLaidOut, behind_instr, has_operand, lies_in, opened}
+
+-- Brackets
+
+end_nested : (line : Line) (n : ℕ) → open_at_end line n ≡ [] → AreNested (record { line = line; op = op.BlockEnd } ∷ []) n
+end_nested line zero e = tt
+end_nested line (suc n) e = absurd cc
+
+nested_from : (P : ℕ → Type 0) (o : Option ℕ) (n : ℕ) → o ≡ Some n → P n → WithNumber o P
+nested_from P o n e h = subst (λ x. WithNumber x P) (sym e) h
+
+-- instructions that break no rule of names and of brackets are nested
+nested : (scope : OperandScope) (n : ℕ) (raws : List RawInstr) → IsClear scope → All (λ raw. instr_breaks scope raw ≡ []) raws
+    → brackets_from scope.block.end_line n raws ≡ []
+    → AreNested (map (instr_of scope) raws ++ (record { line = scope.block.end_line; op = op.BlockEnd } ∷ [])) n
+nested scope n [] clear all e = end_nested scope.block.end_line n e
+nested scope n (raw ∷ rest) clear all e =
+    let what = mnemonic_named raw.op.mnemonic in
+    let parts = no_parts (brackets_at raw.line what n) (brackets_from scope.block.end_line (open_then what n) rest) e in
+    nested_from (AreNested (map (instr_of scope) rest ++ (record { line = scope.block.end_line; op = op.BlockEnd } ∷ [])))
+    (open_behind (instr_of scope raw).op n) (open_then what n)
+    (behind_instr scope raw n clear (All-head (λ x. instr_breaks scope x ≡ []) raw rest all) parts.0)
+    (nested scope (open_then what n) rest clear (All-tail (λ x. instr_breaks scope x ≡ []) raw rest all) parts.1)
+
+-- Bodies
+
+ends_behind : (i : Instr) (rest : List Instr) → IsEnded rest → IsEnded (i ∷ rest)
+ends_behind i [] h = absurd h
+ends_behind i (j ∷ rest) h = h
+
+ended : (body : List Instr) (line : Line) → IsEnded (body ++ (record { line = line; op = op.BlockEnd } ∷ []))
+ended [] line = refl
+ended (i ∷ rest) line = ends_behind i (rest ++ (record { line = line; op = op.BlockEnd } ∷ [])) (ended rest line)
+
+abbrev Holds : Instr → Type 0
+Holds i = HasOperand i.op
+
+operands : (scope : OperandScope) (raws : List RawInstr) → IsClear scope → All (λ raw. instr_breaks scope raw ≡ []) raws → All Holds (map (instr_of scope) raws)
+operands scope [] clear all = All-nil Holds
+operands scope (raw ∷ rest) clear all =
+    All-cons Holds (instr_of scope raw) (map (instr_of scope) rest)
+    (has_operand scope raw clear (All-head (λ x. instr_breaks scope x ≡ []) raw rest all))
+    (operands scope rest clear (All-tail (λ x. instr_breaks scope x ≡ []) raw rest all))
+
+operands_of : (scope : OperandScope) → IsClear scope → All (λ raw. instr_breaks scope raw ≡ []) scope.block.body → HaveOperands (body_of scope)
+operands_of scope clear all =
+    All-append Holds (map (instr_of scope) scope.block.body) (record { line = scope.block.end_line; op = op.BlockEnd } ∷ [])
+    (operands scope scope.block.body clear all)
+    (All-cons Holds (record { line = scope.block.end_line; op = op.BlockEnd }) [] tt (All-nil Holds))
+
+-- Blocks
+
+-- no block of some has a name
+abbrev NoneNamed : BlockName → List Block → Type 0
+NoneNamed called blocks = All (λ (b : Block). is_same_name b.name called ≡ false) blocks
+
+first_fails : (blocks : List Block) (called : BlockName) → NoneNamed called blocks
+    → position_or_len (λ (b : Block). is_same_name b.name called) blocks ≡ length blocks
+first_fails [] called h = refl
+first_fails (b ∷ rest) called h =
+    by (is_same_name b.name called) (All-head (λ (x : Block). is_same_name x.name called ≡ false) b rest h)
+    (first_fails rest called (All-tail (λ (x : Block). is_same_name x.name called ≡ false) b rest h))
+  where
+    by : (t : Bool) → t ≡ false → position_or_len (λ (x : Block). is_same_name x.name called) rest ≡ length rest
+        → (if not t then 1 + position_or_len (λ (x : Block). is_same_name x.name called) rest else 0) ≡ suc (length rest)
+    by true e m = absurd cc
+    by false e m = omega (arith, m)
+
+none_named : (blocks : List Block) (called : BlockName) → NoneNamed called blocks → block_named called blocks ≡ None
+none_named blocks called h =
+    ap (λ n. if nat_lt n (length blocks) then Some n else None) (first_fails blocks called h) ∙ past (length blocks)
+  where
+    past : (n : ℕ) → (if nat_lt n n then Some n else None) ≡ None
+    past n = ap (λ t. if t then Some n else None) (le-ltb n n (omega arith))
+
+-- blocks of one name are of one kind and number, where none is a data block
+other_name : (before : List (BlockKind × ℕ)) (kind : BlockKind) (n : ℕ) (other : BlockKind) (m : ℕ) → is_data kind ≡ false → is_data other ≡ false
+    → is_among kind n before ≡ false → is_among other m before ≡ true → is_same_name (block_name kind (Ok n)) (block_name other (Ok m)) ≡ false
+other_name before kind n other m code its_code new old = by kind other code its_code new old
+  where
+    differ : (k : BlockKind) → is_among k n before ≡ false → is_among k m before ≡ true → (n == m) ≡ false
+    differ k f t = ne_eqb n m (λ e. both_ways (is_among k n before) f (subst (λ i. is_among k i before ≡ true) (sym e) t))
+
+    by : (a b : BlockKind) → is_data a ≡ false → is_data b ≡ false → is_among a n before ≡ false → is_among b m before ≡ true
+        → is_same_name (block_name a (Ok n)) (block_name b (Ok m)) ≡ false
+    by block.Db b c d f t = absurd cc
+    by a block.Db c d f t = absurd cc
+    by block.Ob block.Ob c d f t = differ block.Ob f t
+    by block.Fc block.Fc c d f t = differ block.Fc f t
+    by block.Fb block.Fb c d f t = differ block.Fb f t
+    by block.Ob block.Fc c d f t = refl
+    by block.Ob block.Fb c d f t = refl
+    by block.Fc block.Ob c d f t = refl
+    by block.Fc block.Fb c d f t = refl
+    by block.Fb block.Ob c d f t = refl
+    by block.Fb block.Fc c d f t = refl
+
+-- a block with a number of its kind keeps the rules
+abbrev IsMade : BlockKind → ℕ → Block → Type 0
+IsMade kind n b = (b.name ≡ block_name kind (Ok n)) × IsAcceptedBlock b
+
+-- what blocks become that stand behind these
+record AreKept (before : List (BlockKind × ℕ)) (blocks : List Block) : Type 0 where
+  kept : All IsAcceptedBlock blocks
+  apart : AreDistinct blocks
+  others : (kind : BlockKind) (n : ℕ) → is_data kind ≡ false → is_among kind n before ≡ true → NoneNamed (block_name kind (Ok n)) blocks
+
+number_is : (kind : BlockKind) (n : ℕ) → may_have kind n ≡ true → IsBlockNumber (block_name kind (Ok n))
+number_is block.Ob n e = opened n e
+number_is block.Db n e = opened n e
+number_is block.Fc n e = leb-true n 65535 (and_parts (nat_le 0 n) (nat_le n 65535) e).1
+number_is block.Fb n e = leb-true n 65535 (and_parts (nat_le 0 n) (nat_le n 65535) e).1
+
+-- a block whose names and brackets break no rule
+made : (scope : OperandScope) (kind : BlockKind) (n : ℕ) → IsClear scope → may_have kind n ≡ true
+    → All (λ raw. instr_breaks scope raw ≡ []) scope.block.body → body_breaks scope.block ≡ []
+    → IsMade kind n (block_with scope (block_name kind (Ok n)))
+made scope kind n clear e all closed = (
+  refl,
+  record {
+    operands = operands_of scope clear all;
+    brackets = nested scope 0 scope.block.body clear all closed;
+    ends = ended (map (instr_of scope) scope.block.body) scope.block.end_line;
+    number = number_is kind n e;
+    formals = refl;
+  },
+)
+
+with_one : (kind : BlockKind) (n : ℕ) (before : List (BlockKind × ℕ)) (b : Block) (rest : List Block) → is_data kind ≡ false → is_among kind n before ≡ false
+    → IsMade kind n b → AreKept (with_block_number kind before (Ok n)) rest → AreKept before (b ∷ rest)
+with_one kind n before b rest code new is k =
+    record {
+      kept = All-cons IsAcceptedBlock b rest is.1 k.kept;
+      apart = (none_named rest b.name (subst (λ i. NoneNamed i rest) (sym is.0) (k.others kind n code (comes_among kind n before))), k.apart);
+      others = λ other m its_code h.
+          All-cons (λ (x : Block). is_same_name x.name (block_name other (Ok m)) ≡ false) b rest
+          (ap (λ i. is_same_name i (block_name other (Ok m))) is.0 ∙ other_name before kind n other m code its_code new h)
+          (k.others other m its_code (stays_among other m kind before (Ok n) h));
+    }
+
+headed : (scope : OperandScope) (kind : BlockKind) (before : List (BlockKind × ℕ)) (r : Result ℕ Reason) (rest : List Block) → IsClear scope
+    → is_data kind ≡ false → heading_breaks kind scope.block.line before r ≡ [] → All (λ raw. instr_breaks scope raw ≡ []) scope.block.body
+    → body_breaks scope.block ≡ [] → AreKept (with_block_number kind before r) rest
+    → AreKept before (block_with scope (block_name kind r) ∷ rest)
+headed scope kind before (Err reason) rest clear code e all closed k = absurd cc
+headed scope kind before (Ok n) rest clear code e all closed k =
+    let h = numbers kind scope.block.line before n e in
+    with_one kind n before (block_with scope (block_name kind (Ok n))) rest code h.1 (made scope kind n clear h.0 all closed) k
+
+-- declarations that break no rule
+not_refused : (limit : ℕ) (decls : List Declaration) → breaks_in limit (decls ∷ []) ≡ [] → are_refused limit (decls ∷ []) ≡ false
+not_refused limit decls e = ap (λ breaks. is_some (first_of_all breaks)) e
+
+own_laid_out : (values : List RawInitial) (kind : RawDataKind) → content_breaks values kind ≡ [] → IsLaidOut kind
+own_laid_out values (data_kind.Own decls) e =
+    not_refused most_in_block decls (no_parts (breaks_in most_in_block (decls ∷ []))
+    (if are_refused most_in_block (decls ∷ []) then [] else flat_map (initial_breaks (decls ∷ [])) values) e).0
+own_laid_out values (data_kind.Instance name) e = tt
+
+laid_out : (symbols : List SymbolLine) (before : List (BlockKind × ℕ)) (dbs : List RawData)
+    → dbs_behind symbols before dbs ≡ [] → All (λ (d : RawData). IsLaidOut d.kind) dbs
+laid_out symbols before [] e = All-nil (λ (d : RawData). IsLaidOut d.kind)
+laid_out symbols before (d ∷ dbs) e =
+    let number = block_number symbols block.Db d.name in
+    let all = no_parts (heading_breaks block.Db d.line before number ++ content_breaks d.initial d.kind)
+    (dbs_behind symbols (with_block_number block.Db before number) dbs) e in
+    let own = no_parts (heading_breaks block.Db d.line before number) (content_breaks d.initial d.kind) all.0 in
+    All-cons (λ (x : RawData). IsLaidOut x.kind) d dbs (own_laid_out d.initial d.kind own.1)
+    (laid_out symbols (with_block_number block.Db before number) dbs all.1)
+
+kept : (text : RawProgram) (before : List (BlockKind × ℕ)) (raws : List RawBlock) → All (λ (d : RawData). IsLaidOut d.kind) text.dbs
+    → All IsCode raws → blocks_behind text before raws ≡ [] → flat_map body_breaks raws ≡ [] → AreKept before (map (block_of text) raws)
+kept text before [] dbs code e closed =
+    record {
+      kept = All-nil IsAcceptedBlock;
+      apart = tt;
+      others = λ kind n its_code h. All-nil (λ (b : Block). is_same_name b.name (block_name kind (Ok n)) ≡ false);
+    }
+kept text before (raw ∷ raws) dbs code e closed =
+    let scope : OperandScope = record { text = text; block = raw } in
+    let number = block_number text.symbols raw.kind raw.name in
+    let all = no_parts (heading_breaks raw.kind raw.line before number ++ breaks_in most_local (raw.temps ∷ []) ++ flat_map (instr_breaks scope) raw.body)
+    (blocks_behind text (with_block_number raw.kind before number) raws) e in
+    let own =
+    no_parts (heading_breaks raw.kind raw.line before number ++ breaks_in most_local (raw.temps ∷ [])) (flat_map (instr_breaks scope) raw.body) all.0 in
+    let head = no_parts (heading_breaks raw.kind raw.line before number) (breaks_in most_local (raw.temps ∷ [])) own.0 in
+    let brackets = no_parts (body_breaks raw) (flat_map body_breaks raws) (sym (flat_map-cons body_breaks raw raws) ∙ closed) in
+    let clear : IsClear scope = record { temps = not_refused most_local raw.temps head.1; dbs = dbs } in
+    headed scope raw.kind before number (map (block_of text) raws) clear
+    (All-head IsCode raw raws code) head.0 (none_of_all (instr_breaks scope) raw.body own.1) brackets.0
+    (kept text (with_block_number raw.kind before number) raws dbs (All-tail IsCode raw raws code) all.1 brackets.1)
+
+-- There is a block
+
+some_block : (text : RawProgram) (raws : List RawBlock) → none_among raws ≡ [] → map (block_of text) raws ≢ []
+some_block text [] none = absurd cc
+some_block text (raw ∷ rest) none = λ g. cc
+
+-- Symbols
+
+-- the address of a symbol that breaks no rule
+abbrev IsAddressed : SymbolLine → Type 0
+IsAddressed line = is_address line.address ≡ true
+
+addressed : (before : List (List ℕ)) (lines : List SymbolLine) → symbols_behind before lines ≡ [] → All IsAddressed lines
+addressed before [] e = All-nil IsAddressed
+addressed before (line ∷ lines) e =
+    let twice : List Break = broken_if (is_named (key_of line.name) before) line.line DuplicateName in
+    let outside : List Break = broken_if (not (is_address line.address)) line.line BadAddress in
+    let all = no_parts (twice ++ outside) (symbols_behind (with_name (key_of line.name) before) lines) e in
+    let own = no_parts twice outside all.0 in
+    All-cons IsAddressed line lines (not-false (is_address line.address) (not_broken (not (is_address line.address)) line.line BadAddress own.1))
+    (addressed (with_name (key_of line.name) before) lines all.1)
+
+symbol_is : (name : List ℕ) (a : SymbolAddress) → is_address a ≡ true → IfSome (symbol_at name a) IsSymbol
+symbol_is name (address.At place) e = let there = lies_in place e in of_area place.area there.0 there.1
+  where
+    of_area : (area : AreaName) → is_byte_in area place.width place.byte ≡ true → is_unaligned place.width place.bit ≡ false
+        → IfSome (symbol_in name place (symbol_area area)) IsSymbol
+    of_area area_name.I inside aligned = (inside, aligned)
+    of_area area_name.Q inside aligned = (inside, aligned)
+    of_area area_name.M inside aligned = (inside, aligned)
+    of_area other inside aligned = tt
+symbol_is name elsewhere e = tt
+
+-- Programs
+
+-- a raw program that breaks no rule has an accepted program, where its blocks are no data blocks
+pub raw_accepted : (raw : RawProgram) → All IsCode raw.blocks → names raw ≡ [] → bodies raw ≡ [] → no_blocks raw ≡ [] → IsAccepted (program_of raw)
+raw_accepted raw code named closed some =
+    let all =
+    no_parts (symbols_behind [] raw.symbols ++ dbs_behind raw.symbols [] raw.dbs ++ one_too_many (slice_get raw.dbs MOST_BLOCKS))
+    (blocks_behind raw [] raw.blocks) named in
+    let few = no_parts (symbols_behind [] raw.symbols ++ dbs_behind raw.symbols [] raw.dbs) (one_too_many (slice_get raw.dbs MOST_BLOCKS)) all.0 in
+    let dbs = no_parts (symbols_behind [] raw.symbols) (dbs_behind raw.symbols [] raw.dbs) few.0 in
+    let k = kept raw [] raw.blocks (laid_out raw.symbols [] raw.dbs dbs.1) code all.1 closed in
+    record {
+      some = some_block raw raw.blocks some;
+      blocks = k.kept;
+      names = k.apart;
+      dbs = are_blocks raw.symbols raw.dbs dbs.1 few.1;
+      symbols = all_made IsAddressed IsSymbol symbol_of (λ line h. symbol_is line.name line.address h) raw.symbols (addressed [] raw.symbols dbs.0);
+      instances = refl;
+    }
+
+-- the program of a raw program that is judged so keeps the rules
+judged_accepted : (raw : RawProgram) (program : Program) → All IsCode raw.blocks → checked_program raw ≡ Ok program → IsAccepted program
+unfolding checked_program
+judged_accepted raw program code e =
+    let a = accepts raw (first_broken (stages raw)) program refl e in
+    let on_bodies : List (List Break) = bodies raw ∷ no_blocks raw ∷ [] in
+    let on_all : List (List Break) = no_blocks raw ∷ [] in
+    let all : All IsKept (stages raw) = stages_kept (stages raw) a.none_named in
+    let later : All IsKept on_bodies = All-tail IsKept (names raw) on_bodies all in
+    let last : All IsKept on_all = All-tail IsKept (bodies raw) on_all later in
+    let named : names raw ≡ [] = All-head IsKept (names raw) on_bodies all in
+    let closed : bodies raw ≡ [] = All-head IsKept (bodies raw) on_all later in
+    let some : no_blocks raw ≡ [] = All-head IsKept (no_blocks raw) [] last in
+    subst IsAccepted a.same (raw_accepted raw code named closed some)
+
+by_raw : (r : Result RawProgram Rejection) (program : Program) → IfOk r HoldsCode → judged_by r ≡ Ok program → IsAccepted program
+by_raw (Ok raw) program code e = judged_accepted raw program code e
+by_raw (Err refused) program code e = absurd cc
+
+-- and so does that of a text
+pub verdict_accepted : VerdictIsAccepted
+unfolding verdict
+verdict_accepted bytes program e = by_raw (raw_text bytes) program (of_text bytes) e

@@ -1,0 +1,5 @@
+pub mod AcceptedLaws
+mod CodeBlocks
+mod DataBlockLaws
+mod ProgramLaws
+pub mod StageLaws

@@ -1,0 +1,514 @@
+-- The instructions of a program have their operands, and its blocks their numbers.
+use Rattle.std.proofs.Common.{◌≡◌, ℕ, zero, suc, ◌<◌, ◌+◌, ◌^◌, List, [], ◌∷◌, Bool, true, false, not, if◌then◌else◌, Option, Some, None, Result, Ok, Err, refl, ap, ◌∙◌, arith}
+use Rattle.std.specs.List.{find}
+use Rattle.std.proofs.lemmas.List.Elements.{All-head, All-tail}
+use Rattle.std.specs.Prelude.{All, IfOk, IfSome, nat_le, nat_lt, option_map}
+use Rattle.std.proofs.lemmas.Int.{ints}
+use Rattle.std.proofs.lemmas.Bool.{and_parts, le-leb, leb-true, ltb-true, not-true}
+use Rattle.memory_areas.specs.Access.{bits_wide, bytes_wide, is_byte_in, is_unaligned}
+use Rattle.memory_areas.specs.declared.place.AreaName.{AreaName}
+use Rattle.memory_areas.specs.declared.place.AreaName.TheVariants as area
+use Rattle.memory_areas.specs.declared.sizes.TheConstants.{INPUT_BYTES, LOCAL_BYTES, MARKER_BYTES, OUTPUT_BYTES}
+use Rattle.s7_base.specs.declared.reason.Reason.{Reason}
+use Rattle.nesting_stack.specs.Entries.{most_open}
+use Rattle.s7_base.specs.Broken.{rule_break}
+use Rattle.s7_base.specs.declared.reason.Line.{Line}
+use Rattle.s7_base.specs.declared.reason.Reason.TheVariants.{TooManyBrackets, UnknownName}
+use Rattle.s7_base.specs.SignedNumbers.{is_over}
+use Rattle.s7_base.specs.declared.check.Check.{Check}
+use Rattle.s7_base.specs.declared.check.Check.TheVariants as check
+use Rattle.s7_base.specs.declared.word.Width.{Width}
+use Rattle.s7_base.specs.declared.word.Width.TheVariants as width
+use Rattle.status_word.specs.declared.test.Test.{Test}
+use Rattle.stl_tree.specs.Accepted.{HasOperand, IsBlockOpened, IsComparison, IsNumberHolder, IsNumberWidth, IsOffset, IsOperand, MayHoldPointer, is_of_pointers, may_hold_pointers}
+use Rattle.stl_tree.specs.Accumulators.{signed_part}
+use Rattle.stl_statement_grammar.specs.Constants.{constant, fits, value_in}
+use Rattle.stl_statement_grammar.specs.Pointers.{is_in_reach, offset_of, value_of}
+use Rattle.stl_statement_grammar.specs.Mnemonics.{mnemonic_named}
+use Rattle.stl_rules.specs.Programs.{adding, alone, check_op, combining, comparing, instr_of, is_compared, loading, loading_pointer, moving_pointer, on_bit, on_number, op_by, op_of, op_or_rule, op_with, or_any, or_bad_operand, opening, other_by, pointer_op, shifting, storing, storing_pointer, check_alone, with_number, within}
+use Rattle.stl_rules.specs.Extents.{width_of}
+use Rattle.stl_rules.specs.Names.{block_number, db_numbered, is_number, may_have, symbol_named}
+use Rattle.stl_rules.specs.Paths.{component_in}
+use Rattle.stl_rules.specs.Raw.{OperandScope, are_refused, resolved_operand, given_component, given_held, given_if, given_in, given_in_data, given_in_kind, given_number, given_open, given_path, given_place, given_pointer, given_symbol, is_placed, may_stand, most_in_block, most_local, operand_at, place_of_kind}
+use Rattle.stl_rules.specs.declared.resolved_operand.ResolvedOperand.{ResolvedOperand}
+use Rattle.stl_rules.specs.declared.resolved_operand.ResolvedOperand.TheVariants as behind
+use Rattle.stl_rules.specs.Stages.{brackets_at, broken_by, instr_breaks, open_then}
+use Rattle.stl_tree.specs.Brackets.{open_behind}
+use Rattle.stl_tree.specs.Shifts.{most_steps}
+use Rattle.stl_statement_grammar.specs.Statements.{is_in_area}
+use Rattle.stl_tree.specs.WordLogic.{width_of as logic_width}
+use Rattle.stl_tree.specs.declared.accumulator.LogicRow.{LogicRow}
+use Rattle.stl_tree.specs.declared.accumulator.ShiftRow.{ShiftRow}
+use Rattle.stl_statement_grammar.specs.declared.mnemonic.Mnemonic.{Mnemonic}
+use Rattle.stl_statement_grammar.specs.declared.mnemonic.Mnemonic.TheVariants as is
+use Rattle.stl_tree.specs.declared.program.Ar.{Ar}
+use Rattle.stl_tree.specs.declared.program.Ar.TheVariants as ar
+use Rattle.stl_tree.specs.declared.program.ArLoad.TheVariants as ar_load
+use Rattle.stl_tree.specs.declared.program.ArStore.TheVariants as ar_store
+use Rattle.stl_tree.specs.declared.raw.RawPointer.{RawPointer}
+use Rattle.stl_tree.specs.declared.program.LoadArg.TheVariants as load
+use Rattle.stl_tree.specs.declared.program.Op.{Op}
+use Rattle.stl_tree.specs.declared.program.Op.TheVariants as op
+use Rattle.stl_tree.specs.declared.program.Operand.{Operand}
+use Rattle.stl_tree.specs.declared.program.Operand.TheVariants.{ByMemory, ByRegister, Crossing, Direct}
+use Rattle.stl_rules.specs.declared.layout.Component.{Component}
+use Rattle.stl_tree.specs.declared.raw.BlockKind.TheVariants as block
+use Rattle.stl_tree.specs.declared.raw.Declaration.{Declaration}
+use Rattle.stl_tree.specs.declared.raw.ElemType.{ElemType}
+use Rattle.stl_tree.specs.declared.raw.PathStep.{PathStep}
+use Rattle.stl_tree.specs.declared.raw.RawActual.{RawActual}
+use Rattle.stl_tree.specs.declared.raw.RawCall.{RawCall}
+use Rattle.stl_tree.specs.declared.raw.RawData.{RawData}
+use Rattle.stl_tree.specs.declared.raw.RawDataKind.{RawDataKind}
+use Rattle.stl_tree.specs.declared.raw.RawDataKind.TheVariants as data_kind
+use Rattle.stl_tree.specs.declared.raw.RawInstr.{RawInstr}
+use Rattle.stl_tree.specs.declared.raw.RawName.TheVariants as raw_name
+use Rattle.stl_tree.specs.declared.raw.RawOp.{RawOp}
+use Rattle.stl_tree.specs.declared.raw.RawOperand.{RawOperand, RawOperand-F, out-RawOperand}
+use Rattle.stl_tree.specs.declared.raw.RawOperand.TheOpen as layer
+use Rattle.stl_tree.specs.declared.raw.RawPlace.{RawPlace}
+use Rattle.stl_tree.specs.declared.raw.SymbolAddress.{SymbolAddress}
+use Rattle.stl_tree.specs.declared.raw.SymbolAddress.TheVariants as address
+
+-- Operands
+
+abbrev IsGiven : ResolvedOperand → Type 0
+IsGiven behind.Unjudged = ⊥
+IsGiven (behind.At o w) = IsOperand w o
+IsGiven (behind.Db n) = IsBlockOpened n
+IsGiven (behind.Di n) = IsBlockOpened n
+IsGiven (behind.DbBy o) = IsNumberHolder o
+IsGiven (behind.DiBy o) = IsNumberHolder o
+IsGiven more = Unit {0}
+
+-- a number that a data block may have
+pub opened : (n : ℕ) → may_have block.Db n ≡ true → IsBlockOpened n
+opened n e = let p = and_parts (nat_le 1 n) (nat_le n 65535) e in (leb-true 1 n p.0, leb-true n 65535 p.1)
+
+-- a byte of any area is one that a data block may have
+in_block : (a : AreaName) (w : Width) (byte : ℕ) → is_byte_in a w byte ≡ true → is_byte_in area.Db w byte ≡ true
+in_block area.I w byte e = le-leb byte 65535 (omega (arith, leb-true (byte + bytes_wide w) INPUT_BYTES e))
+in_block area.Q w byte e = le-leb byte 65535 (omega (arith, leb-true (byte + bytes_wide w) OUTPUT_BYTES e))
+in_block area.M w byte e = le-leb byte 65535 (omega (arith, leb-true (byte + bytes_wide w) MARKER_BYTES e))
+in_block area.L w byte e = le-leb byte 65535 (omega (arith, leb-true (byte + bytes_wide w) LOCAL_BYTES e))
+in_block area.Db w byte e = e
+in_block area.Di w byte e = e
+
+pub lies_in : (place : RawPlace) → is_in_area place ≡ true → IsOperand place.width (Direct place.area place.byte place.bit)
+lies_in place e =
+    let p = and_parts (is_byte_in place.area place.width place.byte) (not (is_unaligned place.width place.bit)) e in
+    (p.0, not-true (is_unaligned place.width place.bit) p.1)
+
+placed_is : (place : RawPlace) (number : Option ℕ) → is_placed place number ≡ true → IsGiven (operand_at place number)
+placed_is place None e = lies_in place e
+placed_is place (Some n) e =
+    let p = and_parts (is_in_area place) (may_have block.Db n) e in
+    let there = lies_in place p.0 in
+    (opened n p.1, in_block place.area place.width place.byte there.0, there.1)
+
+place_is : (place : RawPlace) → IsGiven (given_place place)
+place_is place = by (is_placed place place.block) refl
+  where
+    by : (b : Bool) → is_placed place place.block ≡ b → IsGiven (if b then operand_at place place.block else behind.Outside place.area place.width)
+    by true e = placed_is place place.block e
+    by false e = tt
+
+-- pointers
+
+in_reach : (p : RawPointer) → is_in_reach p ≡ true → IsOffset (offset_of p)
+in_reach p e =
+    let parts = and_parts (nat_le p.byte 65535) (nat_le p.bit 7) e in
+    omega (arith, leb-true p.byte 65535 parts.0, leb-true p.bit 7 parts.1)
+
+if_is : (b : Bool) (name : AreaName) (w : Width) (o : Operand) → (b ≡ true → IsOperand w o) → IsGiven (given_if b name w o)
+if_is true name w o h = h refl
+if_is false name w o h = tt
+
+stands : (w : Width) (place : RawPlace) → may_stand w place ≡ true → (may_hold_pointers place.area ≡ true) × (is_byte_in place.area w place.byte ≡ true)
+stands w place e = and_parts (may_hold_pointers place.area) (is_byte_in place.area w place.byte) e
+
+pointer_is : (p : RawPointer) → IsGiven (given_pointer p)
+pointer_is p = by (is_in_reach p)
+  where
+    by : (b : Bool) → IsGiven (if b then behind.Constant (constant width.Dword (value_of p)) else behind.NoPointer)
+    by true = tt
+    by false = tt
+
+held_is : (make : Operand → ResolvedOperand) → ((o : Operand) → IsNumberHolder o → IsGiven (make o)) → (place : RawPlace) → IsGiven (given_held make place)
+held_is make h place = by (may_stand width.Word place) refl
+  where
+    by : (b : Bool) → may_stand width.Word place ≡ b → IsGiven (if b then make (Direct place.area place.byte 0) else behind.NoNumber)
+    by true e = let there = stands width.Word place e in h (Direct place.area place.byte 0) (there.0, (there.1, refl))
+    by false e = tt
+
+symbol_is : (o : Option SymbolAddress) → IsGiven (given_symbol o)
+symbol_is (Some (address.At place)) = place_is place
+symbol_is other = tt
+
+kind_is : (number : Option ℕ) (name : AreaName) (at : Component) (o : Option ElemType) → IsGiven (place_of_kind number name at o)
+kind_is number name at None = tt
+kind_is number name at (Some e) =
+    place_is (record { block = number; area = name; width = width_of e; byte = at.byte; bit = at.bit })
+
+component_is : (number : Option ℕ) (name : AreaName) (o : Option Component) → IsGiven (given_component number name o)
+component_is number name None = tt
+component_is number name (Some at) = kind_is number name at at.kind
+
+path_is : (limit : ℕ) (number : Option ℕ) (name : AreaName) (decls : List Declaration) (path : List PathStep)
+    → are_refused limit (decls ∷ []) ≡ false → IsGiven (given_path limit number name (decls ∷ []) path)
+path_is limit number name decls path kept = by (are_refused limit (decls ∷ [])) kept
+  where
+    by : (b : Bool) → b ≡ false → IsGiven (if b then behind.Unjudged else given_component number name (component_in (decls ∷ []) path))
+    by true e = absurd cc
+    by false e = component_is number name (component_in (decls ∷ []) path)
+
+-- declarations of a data block that break no rule
+abbrev pub IsLaidOut : RawDataKind → Type 0
+IsLaidOut (data_kind.Own decls) = are_refused most_in_block (decls ∷ []) ≡ false
+IsLaidOut (data_kind.Instance name) = Unit {0}
+
+in_kind_is : (n : ℕ) (path : List PathStep) (kind : RawDataKind) → IsLaidOut kind → IsGiven (given_in_kind n path kind)
+in_kind_is n path (data_kind.Own decls) h = path_is most_in_block (Some n) area.Db decls path h
+in_kind_is n path (data_kind.Instance name) h = tt
+
+in_data_is : (n : ℕ) (path : List PathStep) (o : Option RawData) → IfSome o (λ (d : RawData). IsLaidOut d.kind) → IsGiven (given_in_data n path o)
+in_data_is n path None h = tt
+in_data_is n path (Some d) h = in_kind_is n path d.kind h
+
+number_is : (make : ℕ → ResolvedOperand) → ((n : ℕ) → IsGiven (make n)) → (r : Result ℕ Reason) → IsGiven (given_number make r)
+number_is make h (Ok n) = h n
+number_is make h (Err UnknownName) = tt
+number_is make h (Err reason) = tt
+
+open_is : (make : ℕ → ResolvedOperand) → ((n : ℕ) → IsBlockOpened n → IsGiven (make n)) → (n : ℕ) → IsGiven (given_open make n)
+open_is make h n = by (may_have block.Db n) refl
+  where
+    by : (b : Bool) → may_have block.Db n ≡ b → IsGiven (if b then make n else behind.NoNumber)
+    by true e = h n (opened n e)
+    by false e = tt
+
+-- where a block stands whose temporaries, and the data blocks of whose text, break no rule
+pub record IsClear (scope : OperandScope) : Type 0 where
+  pub temps : are_refused most_local (scope.block.temps ∷ []) ≡ false
+  pub dbs : All (λ (d : RawData). IsLaidOut d.kind) scope.text.dbs
+
+-- what is found has what all have
+found_is : {X : Type 0} (P : X → Type 0) (test : X → Bool) (xs : List X) → All P xs → IfSome (find test xs) P
+found_is P test [] all = tt
+found_is P test (x ∷ xs) all = by (test x) (All-head P x xs all) (found_is P test xs (All-tail P x xs all))
+  where
+    by : (b : Bool) → P x → IfSome (find test xs) P → IfSome (if b then Some x else find test xs) P
+    by true h more = h
+    by false h more = more
+
+layer_is : (scope : OperandScope) (o : RawOperand-F RawOperand RawActual RawCall) → IsClear scope → IsGiven (given_in scope o)
+layer_is scope (layer.At place) clear = place_is place
+layer_is scope (layer.Named name) clear = symbol_is (symbol_named scope.text.symbols name)
+layer_is scope (layer.InBlock name path) clear =
+    number_is (λ n. given_in_data n path (db_numbered scope.text.symbols scope.text.dbs n))
+    (λ n. in_data_is n path (db_numbered scope.text.symbols scope.text.dbs n)
+    (found_is (λ (d : RawData). IsLaidOut d.kind) (λ (d : RawData). is_number n (block_number scope.text.symbols block.Db d.name)) scope.text.dbs clear.dbs))
+    (block_number scope.text.symbols block.Db (raw_name.Name name))
+layer_is scope (layer.Local path) clear = path_is most_local None area.L scope.block.temps path clear.temps
+layer_is scope (layer.OpenDb name) clear =
+    number_is (given_open (λ n. behind.Db n)) (open_is (λ n. behind.Db n) (λ n h. h)) (block_number scope.text.symbols block.Db name)
+layer_is scope (layer.OpenDi name) clear =
+    number_is (given_open (λ n. behind.Di n)) (open_is (λ n. behind.Di n) (λ n h. h)) (block_number scope.text.symbols block.Db name)
+layer_is scope (layer.Pointer p) clear = pointer_is p
+layer_is scope (layer.ByMemory name w place) clear =
+    if_is (may_stand width.Dword place) name w (ByMemory name place.area place.byte) (λ e. stands width.Dword place e)
+layer_is scope (layer.ByRegister name w r p) clear =
+    if_is (is_in_reach p) name w (ByRegister name r (offset_of p)) (λ e. in_reach p e)
+layer_is scope (layer.Crossing w r p) clear = if_is (is_in_reach p) area.M w (Crossing r (offset_of p)) (λ e. in_reach p e)
+layer_is scope (layer.OpenDbBy place) clear = held_is (λ o. behind.DbBy o) (λ o h. h) place
+layer_is scope (layer.OpenDiBy place) clear = held_is (λ o. behind.DiBy o) (λ o h. h) place
+layer_is scope more clear = tt
+
+given_is : (scope : OperandScope) (o : RawOperand) → IsClear scope → IsGiven (resolved_operand scope o)
+unfolding resolved_operand
+given_is scope o clear = layer_is scope (out-RawOperand o) clear
+
+-- Instructions
+
+-- what an instruction does to the open brackets
+data Turn : Type 0 where
+  opens : Turn
+  closes : Turn
+  keeps : Turn
+  ends : Turn
+
+abbrev turn_of : Op → Turn
+turn_of (op.Bracket c) = opens
+turn_of op.Close = closes
+turn_of op.BlockEnd = ends
+turn_of other = keeps
+
+abbrev turn_by : Option Mnemonic → Turn
+turn_by (Some (is.Bracket c)) = opens
+turn_by (Some is.Close) = closes
+turn_by other = keeps
+
+-- an instruction has its operand, and does this to the open brackets
+abbrev Is : Turn → Op → Type 0
+Is turn o = HasOperand o × (turn_of o ≡ turn)
+
+-- one that keeps them
+abbrev Fits : Op → Type 0
+Fits o = Is keeps o
+
+abbrev MayBe : Option Op → Type 0
+MayBe o = IfSome o Fits
+
+alone_by : (turn : Turn) (o : Op) → Is turn o → (g : ResolvedOperand) → IfSome (alone o g) (Is turn)
+alone_by turn o h behind.Nothing = h
+alone_by turn o h more = tt
+
+alone_is : (o : Op) → Fits o → (g : ResolvedOperand) → MayBe (alone o g)
+alone_is o h g = alone_by keeps o h g
+
+on_bit_is : (o : Operand → Op) → ((x : Operand) → IsOperand width.Bit x → Fits (o x)) → (g : ResolvedOperand) → IsGiven g → MayBe (on_bit o g)
+on_bit_is o h (behind.At x width.Bit) k = h x k
+on_bit_is o h more k = tt
+
+unchecked_is : (c : Check) → MayBe (check_alone c)
+unchecked_is check.O = (tt, refl)
+unchecked_is more = tt
+
+checked_is : (c : Check) (g : ResolvedOperand) → IsGiven g → MayBe (check_op c g)
+checked_is c behind.Nothing h = unchecked_is c
+checked_is c (behind.At x width.Bit) h = (h, refl)
+checked_is c (behind.Flag t) h = (tt, refl)
+checked_is c more h = tt
+
+-- a width that is one of a number, or is not
+on_number_is : (o : Operand → Width → Op) → ((x : Operand) (w : Width) → IsNumberWidth w → IsOperand w x → Fits (o x w))
+    → (x : Operand) (w : Width) → IsOperand w x → MayBe (on_number o x w)
+on_number_is o h x width.Bit k = tt
+on_number_is o h x width.Byte k = h x width.Byte tt k
+on_number_is o h x width.Word k = h x width.Word tt k
+on_number_is o h x width.Dword k = h x width.Dword tt k
+
+within_is : (bits value : ℕ) (o : ℕ → Op) → (value < 2 ^ bits → Fits (o value)) → MayBe (option_map o (within bits value))
+within_is bits value o h = by (nat_lt value (2 ^ bits)) refl
+  where
+    by : (b : Bool) → nat_lt value (2 ^ bits) ≡ b → MayBe (option_map o (if b then Some value else None))
+    by true e = h (ltb-true value (2 ^ bits) e)
+    by false e = tt
+
+loading_is : (g : ResolvedOperand) → IsGiven g → MayBe (loading g)
+loading_is (behind.At x w) k = on_number_is (λ y u. op.Load (load.At y u)) (λ y u n i. ((n, i), refl)) x w k
+loading_is behind.Stw k = (tt, refl)
+loading_is behind.DbNo k = (tt, refl)
+loading_is behind.DiNo k = (tt, refl)
+loading_is (behind.Constant c) k = within_is 32 c.value (λ value. op.Load (load.Constant value)) (λ h. (h, refl))
+loading_is more k = tt
+
+storing_is : (g : ResolvedOperand) → IsGiven g → MayBe (storing g)
+storing_is (behind.At x w) k = on_number_is op.Transfer (λ y u n i. ((n, i), refl)) x w k
+storing_is behind.Stw k = (tt, refl)
+storing_is more k = tt
+
+-- a part is in its range
+word_fits : (n : ℕ) → is_over 16 (signed_part width.Word n) ≡ false
+word_fits n = grind (arith, ints)
+
+dword_fits : (n : ℕ) → is_over 32 (signed_part width.Dword n) ≡ false
+dword_fits n = grind (arith, ints)
+
+adding_is : (g : ResolvedOperand) → MayBe (adding g)
+adding_is (behind.Constant c) = by c.signed
+  where
+    by : (b : Bool) → Fits (if b then op.AddWord (signed_part width.Word c.value) else op.AddDword (signed_part width.Dword c.value))
+    by true = (word_fits c.value, refl)
+    by false = (dword_fits c.value, refl)
+adding_is more = tt
+
+compared_is : (t : Test) (w : Width) → is_compared t w ≡ true → IsComparison t w
+compared_is t width.Word e = e
+compared_is t width.Dword e = e
+compared_is t width.Bit e = absurd cc
+compared_is t width.Byte e = absurd cc
+
+comparing_is : (t : Test) (w : Width) (g : ResolvedOperand) → MayBe (comparing t w g)
+comparing_is t w behind.Nothing = by (is_compared t w) refl
+  where
+    by : (b : Bool) → is_compared t w ≡ b → MayBe (if b then Some (op.Compare t w) else None)
+    by true e = (compared_is t w e, refl)
+    by false e = tt
+comparing_is t w more = tt
+
+with_number_is : (o : ℕ → Op) → ((n : ℕ) → n < 2 ^ 8 → Fits (o n)) → (g : ResolvedOperand) → MayBe (with_number o g)
+with_number_is o h (behind.Constant c) = within_is 8 c.value o (λ k. h c.value k)
+with_number_is o h more = tt
+
+shifting_is : (row : ShiftRow) (g : ResolvedOperand) → MayBe (shifting row g)
+shifting_is row behind.Nothing = (tt, refl)
+shifting_is row (behind.Constant c) = by (nat_le c.value (most_steps row)) refl
+  where
+    by : (b : Bool) → nat_le c.value (most_steps row) ≡ b → MayBe (if b then Some (op.Shift row (Some c.value)) else None)
+    by true e = (leb-true c.value (most_steps row) e, refl)
+    by false e = tt
+shifting_is row more = tt
+
+pointed_is : (o : Operand → Op) → ((x : Operand) → MayHoldPointer width.Dword x → Fits (o x))
+    → (x : Operand) (w : Width) → IsOperand w x → MayBe (pointer_op o x w)
+pointed_is o h x width.Dword k = by (is_of_pointers x) refl
+  where
+    by : (b : Bool) → is_of_pointers x ≡ b → MayBe (if b then Some (o x) else None)
+    by true e = h x (e, k)
+    by false e = tt
+pointed_is o h x width.Bit k = tt
+pointed_is o h x width.Byte k = tt
+pointed_is o h x width.Word k = tt
+
+other_is : (o : Ar → Op) → Fits (o ar.One) → (r : Ar) → MayBe (other_by o r)
+other_is o h ar.One = h
+other_is o h ar.Two = tt
+
+loading_pointer_is : (r : Ar) (g : ResolvedOperand) → IsGiven g → MayBe (loading_pointer r g)
+loading_pointer_is r behind.Nothing k = (tt, refl)
+loading_pointer_is r (behind.Constant c) k = within_is 32 c.value (λ p. op.LoadAr r (ar_load.Constant p)) (λ h. (h, refl))
+loading_pointer_is r (behind.At x w) k = pointed_is (λ y. op.LoadAr r (ar_load.At y)) (λ y h. (h, refl)) x w k
+loading_pointer_is r behind.OtherAr k = other_is (λ a. op.LoadAr a ar_load.OtherAr) (refl, refl) r
+loading_pointer_is r more k = tt
+
+storing_pointer_is : (r : Ar) (g : ResolvedOperand) → IsGiven g → MayBe (storing_pointer r g)
+storing_pointer_is r behind.Nothing k = (tt, refl)
+storing_pointer_is r (behind.At x w) k = pointed_is (λ y. op.StoreAr r (ar_store.At y)) (λ y h. (h, refl)) x w k
+storing_pointer_is r behind.OtherAr k = other_is (λ a. op.StoreAr a ar_store.OtherAr) (refl, refl) r
+storing_pointer_is r more k = tt
+
+moving_pointer_is : (r : Ar) (g : ResolvedOperand) → MayBe (moving_pointer r g)
+moving_pointer_is r behind.Nothing = (tt, refl)
+moving_pointer_is r (behind.Constant c) = within_is 19 c.value (λ offset. op.AddAr r (Some offset)) (λ h. (h, refl))
+moving_pointer_is r more = tt
+
+opening_is : (g : ResolvedOperand) → IsGiven g → MayBe (opening g)
+opening_is (behind.Db n) h = (h, refl)
+opening_is (behind.Di n) h = (h, refl)
+opening_is (behind.DbBy o) h = (h, refl)
+opening_is (behind.DiBy o) h = (h, refl)
+opening_is more h = tt
+
+combining_is : (row : LogicRow) (g : ResolvedOperand) → MayBe (combining row g)
+combining_is row behind.Nothing = (tt, refl)
+combining_is row (behind.Constant c) = by (fits (logic_width row) c)
+  where
+    value : ℕ
+    value = value_in (logic_width row) c
+
+    by : (b : Bool) → MayBe (if b then option_map (λ v. op.Logic row (Some v)) (within (bits_wide (logic_width row)) value) else None)
+    by true = within_is (bits_wide (logic_width row)) value (λ v. op.Logic row (Some v)) (λ h. (h, refl))
+    by false = tt
+combining_is row more = tt
+
+with_is : (what : Mnemonic) (g : ResolvedOperand) → IsGiven g → IfSome (op_with what g) (Is (turn_by (Some what)))
+with_is (is.Check c) g h = checked_is c g h
+with_is (is.Bracket c) g h = alone_by opens (op.Bracket c) (tt, refl) g
+with_is is.Close g h = alone_by closes op.Close (tt, refl) g
+with_is is.Assign g h = on_bit_is op.Assign (λ x k. (k, refl)) g h
+with_is is.Set g h = on_bit_is op.Set (λ x k. (k, refl)) g h
+with_is is.Reset g h = on_bit_is op.Reset (λ x k. (k, refl)) g h
+with_is is.SetRlo g h = alone_is op.SetRlo (tt, refl) g
+with_is is.ClearRlo g h = alone_is op.ClearRlo (tt, refl) g
+with_is is.NotRlo g h = alone_is op.NotRlo (tt, refl) g
+with_is is.Save g h = alone_is op.Save (tt, refl) g
+with_is is.EdgeUp g h = on_bit_is op.EdgeUp (λ x k. (k, refl)) g h
+with_is is.EdgeDown g h = on_bit_is op.EdgeDown (λ x k. (k, refl)) g h
+with_is is.Load g h = loading_is g h
+with_is is.Transfer g h = storing_is g h
+with_is (is.Arith row) g h = alone_is (op.Arith row) (tt, refl) g
+with_is (is.Compare t w) g h = comparing_is t w g
+with_is is.Plus g h = adding_is g
+with_is is.Inc g h = with_number_is op.Inc (λ n k. (k, refl)) g
+with_is is.Dec g h = with_number_is op.Dec (λ n k. (k, refl)) g
+with_is (is.Shift row) g h = shifting_is row g
+with_is is.Rlda g h = alone_is op.Rlda (tt, refl) g
+with_is is.Rrda g h = alone_is op.Rrda (tt, refl) g
+with_is (is.Logic row) g h = combining_is row g
+with_is (is.Unary row) g h = alone_is (op.Unary row) (tt, refl) g
+with_is is.Tak g h = alone_is op.Tak (tt, refl) g
+with_is is.Push g h = alone_is op.Push (tt, refl) g
+with_is is.Pop g h = alone_is op.Pop (tt, refl) g
+with_is (is.LoadAr r) g h = loading_pointer_is r g h
+with_is (is.StoreAr r) g h = storing_pointer_is r g h
+with_is is.ExchangeAr g h = alone_is op.ExchangeAr (tt, refl) g
+with_is (is.AddAr r) g h = moving_pointer_is r g
+with_is is.Open g h = opening_is g h
+with_is is.ExchangeDb g h = alone_is op.ExchangeDb (tt, refl) g
+with_is is.Nop g h = with_number_is (λ n. op.Nop) (λ n k. (tt, refl)) g
+with_is is.TimerOrCounter g h = tt
+with_is is.Later g h = tt
+with_is (is.LeftOut kind) g h = tt
+
+by_is : (what : Option Mnemonic) (g : ResolvedOperand) → IsGiven g → IfSome (op_by what g) (Is (turn_by what))
+by_is None g h = tt
+by_is (Some what) g h = with_is what g h
+
+or_bad_is : (turn : Turn) (o : Option Op) → IfSome o (Is turn) → IfOk (or_bad_operand o) (Is turn)
+or_bad_is turn None h = tt
+or_bad_is turn (Some o) h = h
+
+or_rule_is : (what : Option Mnemonic) (g : ResolvedOperand) → IsGiven g → IfOk (op_or_rule what g) (Is (turn_by what))
+or_rule_is what behind.Unknown h = tt
+or_rule_is what behind.Unfit h = tt
+or_rule_is what behind.NoNumber h = tt
+or_rule_is what behind.Unjudged h = absurd h
+or_rule_is what (behind.Outside name w) h = tt
+or_rule_is what behind.NoPointer h = tt
+or_rule_is what g h = or_bad_is (turn_by what) (op_by what g) (by_is what g h)
+
+op_is : (scope : OperandScope) (raw : RawOp) → IsClear scope → IfOk (op_of scope raw) (Is (turn_by (mnemonic_named raw.mnemonic)))
+unfolding op_of
+op_is scope raw clear = or_rule_is (mnemonic_named raw.mnemonic) (resolved_operand scope raw.operand) (given_is scope raw.operand clear)
+
+-- an instruction that breaks no rule is one of a program
+any_is : (P : Op → Type 0) (line : Line) (r : Result Op Reason) → IfOk r P → broken_by line r ≡ [] → P (or_any r)
+any_is P line (Ok o) h e = h
+any_is P line (Err rule) h e = absurd cc
+
+instr_is : (scope : OperandScope) (raw : RawInstr) → IsClear scope → instr_breaks scope raw ≡ []
+    → Is (turn_by (mnemonic_named raw.op.mnemonic)) (instr_of scope raw).op
+instr_is scope raw clear e = any_is (Is (turn_by (mnemonic_named raw.op.mnemonic))) raw.line (op_of scope raw.op) (op_is scope raw.op clear) e
+
+-- it has its operand
+pub has_operand : (scope : OperandScope) (raw : RawInstr) → IsClear scope → instr_breaks scope raw ≡ [] → HasOperand (instr_of scope raw).op
+has_operand scope raw clear e = (instr_is scope raw clear e).0
+
+-- Brackets
+
+-- how many are open behind a turn, if it may stand there
+abbrev open_by : Turn → ℕ → Option ℕ
+open_by opens n = if nat_lt n most_open then Some (suc n) else None
+open_by closes zero = None
+open_by closes (suc n) = Some n
+open_by keeps n = Some n
+open_by ends zero = Some 0
+open_by ends (suc n) = None
+
+behind_op : (o : Op) (n : ℕ) → open_behind o n ≡ open_by (turn_of o) n
+behind_op (op.Bracket c) n = refl
+behind_op op.Close zero = refl
+behind_op op.Close (suc n) = refl
+behind_op op.BlockEnd zero = refl
+behind_op op.BlockEnd (suc n) = refl
+behind_op other n = refl
+
+room : (b : Bool) (line : Line) (n : ℕ) → (if b then [] else rule_break line TooManyBrackets) ≡ [] → (if b then Some (suc n) else None) ≡ Some (suc n)
+room true line n e = refl
+room false line n e = absurd cc
+
+behind_turn : (line : Line) (what : Option Mnemonic) (n : ℕ) → brackets_at line what n ≡ [] → open_by (turn_by what) n ≡ Some (open_then what n)
+behind_turn line (Some (is.Bracket c)) n e = room (nat_lt n most_open) line n e
+behind_turn line (Some is.Close) zero e = absurd cc
+behind_turn line (Some is.Close) (suc n) e = refl
+behind_turn line other n e = refl
+
+-- and does to brackets what its mnemonic says
+pub behind_instr : (scope : OperandScope) (raw : RawInstr) (n : ℕ) → IsClear scope → instr_breaks scope raw ≡ []
+    → brackets_at raw.line (mnemonic_named raw.op.mnemonic) n ≡ []
+    → open_behind (instr_of scope raw).op n ≡ Some (open_then (mnemonic_named raw.op.mnemonic) n)
+behind_instr scope raw n clear e f =
+    behind_op (instr_of scope raw).op n
+    ∙ ap (λ t. open_by t n) (instr_is scope raw clear e).1
+    ∙ behind_turn raw.line (mnemonic_named raw.op.mnemonic) n f
