@@ -12,6 +12,7 @@ stamp=$out/stl2st.sums
 log=$out/build.log
 crate=$top/crates/stl2st
 first_build="half an hour to an hour on four processors"
+progress_every=300   # seconds between two lines about a build that has no terminal
 
 # A source that every version of the program accepts.
 empty_block=$'ORGANIZATION_BLOCK OB 1\nBEGIN\nEND_ORGANIZATION_BLOCK'
@@ -103,6 +104,31 @@ show_progress() {
     printf '\r\033[Kstl2st: %s, %d min' "$what" $(((SECONDS - begun) / 60)) >&2
 }
 
+# How many crates are to be built still, of how many: one is built where its library is there, and no source of
+# it is newer.
+crates_left() {
+    local name made left=0 all=0
+    for name in $(crates_below); do
+        all=$((all + 1))
+        made=$top/crates/$name/out/rlib/$name.rlib
+        [[ -e $made && -z $(find "$top/crates/$name"/{src,specs,proofs} -newer "$made" -print -quit) ]] || left=$((left + 1))
+    done 2> /dev/null
+    echo "$left of $all"
+}
+
+# A line every few minutes, where there is no terminal. What waits holds no stream, so that whoever reads the
+# front's streams to their end does not wait for it.
+tell_progress() {
+    local name told=$SECONDS
+    while sleep 1 <&- >&- 2>&-; kill -0 "$$" && kill -0 "$builder"; do
+        [[ $((SECONDS - told)) -ge $progress_every ]] || continue
+        told=$SECONDS
+        name=$(crate_of "$builder")
+        name=${name%%$'\n'*}
+        say "still building after $(((SECONDS - begun) / 60)) min: ${name:+proving $name, and }$(crates_left) crates are left" 2>&3
+    done 3>&2 2> /dev/null
+}
+
 clear_progress() {
     [[ $on_terminal == no ]] || printf '\r\033[K' >&2
 }
@@ -151,11 +177,15 @@ free_memory() {
 # Runs rt in the program's crate, in a process group of its own, with an empty block to read. (Job control
 # would give it a group too, and take the terminal from the pipe that the front stands in.)
 run_rt() {
-    local ended
+    local ended teller=
     bind_to_front TERM
     (cd -- "$crate" && exec "${bound[@]}" setsid rt "$@") \
         < <(echo "$empty_block") > "$out/answer" 2>> "$log" &
     builder=$!
+    if [[ $on_terminal == no ]]; then
+        tell_progress <&- >&- {lock}>&- &
+        teller=$!
+    fi
     while [[ $on_terminal == yes ]] && kill -0 "$builder" 2> /dev/null; do
         show_progress
         sleep 1 <&- >&- 2>&- &
@@ -163,6 +193,7 @@ run_rt() {
     done
     # (a pause ends the wait, and not the build)
     until wait "$builder"; ended=$?; ! kill -0 "$builder" 2> /dev/null; do :; done
+    [[ -z $teller ]] || { kill "$teller" && wait "$teller"; } 2> /dev/null
     return "$ended"
 }
 
@@ -198,6 +229,7 @@ install_program() {
 # Builds until the sources stayed the same throughout. A failed build leaves the former program.
 build() {
     local begun=$SECONDS sum
+    [[ ! -t 2 || $1 != "not built yet" ]] || say "for a first look without this wait, '$self try COMMAND ..' runs it unproved in a minute or two"
     say "the program is $1: proving and building it takes $first_build the first time, and less after a change; the log is $log"
     while sum=$(sources_sum); do
         if ! run_build; then

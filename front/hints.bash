@@ -16,7 +16,10 @@ note_position() {
 # Finds the file that was the source, by its name or as standard input.
 find_text() {
     local file
-    if [[ $1 != - ]]; then
+    if [[ $joins == yes ]]; then
+        text_name="the joined text"
+        text_file=$1
+    elif [[ $1 != - ]]; then
         text_name=$(shown "$1")
         [[ ! -f $1 ]] || text_file=$1
     elif [[ $position == 0 ]] && file=$(readlink "/proc/$$/fd/0") && [[ -f $file && $file -ef /proc/$$/fd/0 ]]; then
@@ -29,19 +32,36 @@ find_text() {
 # or where the run is a long one.
 first_line() {
     local image=${arguments[3]-}
+    if [[ -n $answer ]]; then
+        [[ -z $text_file ]] || head -n 1 -- "$answer" | head -c 200 | tr -d '\0'
+        return
+    fi
     [[ -n $text_file && (! -e $image || -f $image) ]] || return 0
     timeout --foreground 5 "$program" "${arguments[@]}" < "$text_file" 2> /dev/null | head -n 1 | head -c 200 | tr -d '\0'
 }
 
-# A line of a file, to be shown on one line: blanks are squeezed, control characters left out, and Latin-1 is
-# shown as the terminal wants it.
+# A line of a file, to be shown on one line. Where it has nothing but ASCII that takes few processes.
 line_of() {
+    local LC_ALL=C IFS=$' \t' line words
+    line=$(sed -n -- "$2{p;q;}" "$1" 2> /dev/null | tr -d '\0')
+    line=${line%$'\r'}
+    if [[ $line == *[![:print:][:blank:]]* ]]; then
+        display <<< "$line"
+    else
+        read -r -a words <<< "$line"
+        line=${words[*]}
+        printf '%s\n' "${line:0:160}"
+    fi
+}
+
+# Shows text on one line: blanks are squeezed, control characters left out, and Latin-1 is shown as the terminal
+# wants it.
+display() {
     local line
-    line=$(LC_ALL=C sed -n -- "$2{p;q;}" "$1" 2> /dev/null | tr '\t\r' '  ' | tr -s ' ' \
-        | tr -d '\000-\011\013-\037\177' | head -c 160)
+    line=$(tr '\t\r\n' '   ' | tr -s ' ' | tr -d '\000-\011\013-\037\177' | head -c 160)
     line=${line# }
     line=${line% }
-    if [[ ${LC_ALL:-${LC_CTYPE:-${LANG-}}} != *[Uu][Tt][Ff]* ]]; then
+    if [[ $shown_in != *[Uu][Tt][Ff]* ]]; then
         printf '%s\n' "$line" | tr '\200-\377' '?'
     elif printf '%s' "$line" | iconv -f UTF-8 -t UTF-8 > /dev/null 2>&1; then
         printf '%s\n' "$line"
@@ -52,9 +72,9 @@ line_of() {
 
 # Says what is wrong on a line of a file: NAME:LINE: sentence: text
 say_where() {
-    local name=$1 file=$2 line=$3 sentence=$4 text
+    local place=$1 file=$2 line=$3 sentence=$4 text
     text=$(line_of "$file" "$line")
-    printf '%s:%s: %s%s\n' "$name" "$line" "$sentence" "${text:+: $text}" >&2
+    printf '%s: %s%s\n' "$place" "$sentence" "${text:+: $text}" >&2
 }
 
 # A refusal of the source: its line, a sentence, and where more is said. A command over a Structured Text has a
@@ -65,7 +85,8 @@ hint_refused() {
     if [[ $(first_line) =~ $form ]]; then
         line=${BASH_REMATCH[1]}
         name=${BASH_REMATCH[4]:-${BASH_REMATCH[2]}}
-        say_where "$text_name" "$text_file" "$line" "$(from_page sentence "$name" "$section")"
+        say_where "$(place_of "$line")" "$text_file" "$line" "$(from_page sentence "$name" "$section")"
+        say_cause "${BASH_REMATCH[2]}${BASH_REMATCH[3]}" "$line"
         say "'$self explain $name' says what to change"
     else
         say "the text breaks a rule, which standard output names with its line; '$self explain NAME' says what to change"
@@ -77,7 +98,7 @@ hint_image() {
     if [[ $(first_line) =~ $form ]]; then
         line=${BASH_REMATCH[1]}
         name=${BASH_REMATCH[2]}
-        say_where "$(shown "$image")" "$image" "$line" "$(from_page sentence "$name" "An image")"
+        say_where "$(shown "$image"):$line" "$image" "$line" "$(from_page sentence "$name" "An image")"
         say "'$self explain $name' says what to change"
     else
         say "the image breaks a rule, which standard output names with its line; '$self explain NAME' says what to change"
@@ -85,10 +106,12 @@ hint_image() {
 }
 
 hint_fault() {
-    local form='^# FAULT ([A-Za-z]+)$'
+    local form='^# FAULT ([A-Za-z]+)$' name
     if [[ $(first_line) =~ $form ]]; then
-        say "the run ended with a fault: $(from_page sentence "${BASH_REMATCH[1]}")"
-        say "'$self explain ${BASH_REMATCH[1]}' says what to change"
+        name=${BASH_REMATCH[1]}
+        say "the run ended with a fault: $(from_page sentence "$name")"
+        say_step
+        say "'$self explain $name' says what to change"
     else
         say "the run ended with the fault that the report's first line names; '$self explain NAME' says what to change"
     fi
@@ -130,6 +153,9 @@ hint_too_long() {
     local image=${arguments[3]-}
     if is_longer "$image" 67108864 && ! is_longer "$text_file" 4194304; then
         say "the image $(shown "$image") has more than 67,108,864 bytes"
+    elif [[ $joins == yes ]]; then
+        say "the joined text has $(stat -Lc %s -- "$text_file") bytes, and 4,194,304 can be read: leave out blocks that the others do not name"
+        say_sizes
     elif [[ -z $image ]] || is_longer "$text_file" 4194304; then
         say "${text_name:-the source} has more than 4,194,304 bytes: divide it"
     else
@@ -137,9 +163,35 @@ hint_too_long() {
     fi
 }
 
+# Whether a file reads like a source.
+is_source() {
+    [[ -f $1 ]] && LC_ALL=C grep -aqiE '^[[:blank:]]*(ORGANIZATION_BLOCK|DATA_BLOCK|FUNCTION|SYMBOL_TABLE|PROGRAM|VAR_GLOBAL)' -- "$1"
+}
+
+# Where the image is left out, the source has its place, and the text is whatever standard input is.
+say_forgotten_image() {
+    local image=${arguments[3]-}
+    ! is_source "$image" || say "$(shown "$image") stands in the place of the image, and is a source: is the image forgotten? The order is ${takes[${arguments[0]}]} FILE, and an empty file is an image of zeros"
+}
+
+# A CR alone ends no line for the program, and most editors show it as an end.
+warn_of_returns() {
+    local number
+    number=$(LC_ALL=C grep -anm 1 $'//[^\r]*\r[^\r]' -- "$text_file" | cut -d : -f 1)
+    [[ -z $number ]] || printf '%s: %s\n' "$(place_of "$number")" \
+        "a CR without LF stands in a comment, and ends no line: what follows it up to the LF is comment too. Save the file with the line ends of Windows or of Unix" >&2
+}
+
+# Says what is to be said after a run.
+say_after_run() {
+    find_text "$1"
+    [[ -z $text_file ]] || warn_of_returns
+    [[ $status == 0 ]] || hint
+}
+
 # Says what a status that is not 0 means for this source.
 hint() {
-    find_text "$1"
+    [[ $status != [13] ]] || say_forgotten_image
     case $status in
         1) hint_refused ;;
         2) hint_usage ;;

@@ -1,7 +1,6 @@
 # shellcheck shell=bash
 # What is answered from the arguments alone, before any build.
 make_checkout
-usage=$(grep -rhoE 'usage: stl2st [^"\]*' "$top/crates/command_answers/src" | sort -u)
 
 for word in help --help -h; do
     front "$word"
@@ -24,6 +23,11 @@ gives "an unknown name is refused" 2 ""
 says "an unknown name gets the names" "TooManyBrackets"
 front explain
 equal "explain alone lists the names" "$status: $(grep -c DivideByZero "$room/out")" "0: 1"
+
+# Each switch and each form stands in the help and in the page.
+for word in "-o FILE" "-o FOLDER" --join --keep --blocks --report "./stl2st try COMMAND" "check [FILE ..]" "translate FILE .."; do
+    equal "$word stands in the help and in its page" "$(grep -qF -- "$word" "$top/front/help.txt" && grep -cqF -- "$word" "$top/docs/reference/commands.md"; echo "$?")" 0
+done
 
 # Each name of the code has its words, once or in both texts.
 names=(Unsupported
@@ -73,8 +77,25 @@ echo BLOCK > "$room/a.awl"
 front translate a.awl -o nowhere/a.st
 gives "an output in a folder that is not there" 8 ""
 says "that output is named" "nowhere/a.st can't be written: there is no such folder"
-front translate a.awl -o folder
-gives "a folder as the output" 8 ""
+front run-stl 1 OB1 a.awl a.awl -o folder
+gives "a folder as the output of a run" 8 ""
+front translate -o folder
+gives "a folder for standard input" 8 ""
+front translate a.awl nowhere.awl -o a.awl
+gives "a file as the folder" 8 ""
+says "that file is named" "a.awl is no folder, which several texts need"
+front translate a.awl nowhere.awl -o nowhere/folder
+gives "a folder in a folder that is not there" 8 ""
+front translate a.awl folder/a.awl -o folder
+gives "two sources of one name" 2 "$usage"
+says "both are named" "a.awl and folder/a.awl would both be folder/a.st"
+front translate a.awl - -o folder
+says "standard input among sources has no name" "standard input has no name for a text in a folder"
+echo BLOCK > "$room/a.st"
+front translate a.st nowhere.awl -o .
+says "a source is not written over" "./a.st would be written over, and is the source itself"
+front translate a.awl b.awl
+says "several sources need a folder" "several sources need -o FOLDER, or --join"
 front translate a.awl -o /dev/full
 gives "a device as the output" 8 ""
 front translate a.awl -o ./a.awl

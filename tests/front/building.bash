@@ -165,5 +165,24 @@ if has_terminal; then
     echo 2 > "$bin/slow"
     PATH=$path TERM=xterm timeout 20 script -qec "'$repo/stl2st' check a.awl" /dev/null < /dev/null > "$room/err" 2>&1
     says "a terminal shows the crate that is proved" "proving s7_base, 0 min"
+    equal "a later build does not name a first look" "$(grep -c 'try COMMAND' "$room/err")" 0
+    mv "$repo/out/stl2st" "$room/kept"
     rm "$bin/slow"
+    PATH=$path TERM=xterm timeout 20 script -qec "'$repo/stl2st' check a.awl" /dev/null < /dev/null > "$room/err" 2>&1
+    says "a first build on a terminal names a first look" "stl2st try COMMAND ..' runs it unproved in a minute or two"
 fi
+
+# Without a terminal a line tells now and then how far the build is.
+sed -i 's/^progress_every=300/progress_every=1/' "$repo/front/build.bash"
+mkdir -p "$repo/crates/s7_base/out/rlib/s7_base.rlib"
+echo "// progress" >> "$repo/crates/stl2st/src/lib.rt"
+echo 3 > "$bin/slow"
+front check a.awl
+gives "a build that takes its time" 0 accepted
+says "it tells how far it is" "still building after 0 min: proving s7_base, and 2 of 3 crates are left"
+echo "// newer" >> "$repo/crates/s7_base/src/lib.rt"
+touch -d '+1 minute' "$repo/crates/s7_base/src/lib.rt"
+echo 2 > "$bin/slow"
+front check a.awl
+says "a source that is newer counts as left" "and 3 of 3 crates are left"
+rm "$bin/slow"

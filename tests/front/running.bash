@@ -5,7 +5,6 @@ front build
 
 # Without a word of the front's own.
 printf 'ECHO\na\0b\xff\r\nlast' > "$room/bytes"
-odd=$'two\nlines'
 front run-stl -o " $odd" --help < "$room/bytes"
 printf '%s\0' run-stl -o " $odd" --help > "$room/wanted"
 sed 1d "$room/bytes" >> "$room/wanted"
