@@ -134,21 +134,22 @@ module _ (tree : StProgram) (ws : List Frame) where
   return_done vs s is h = left_by stmt.Return Returns vs s (λ c u. meaning_return tree.globals c u s) (weight_stmt S.Return stmt.rolls-Return) is h
 
   -- statements that were chosen
-  chosen_by : (x : Stmt) (vs : List Frame) (b : Bor (List Stmt)) (s : State)
+  chosen_by : (n : ℕ) (x : Stmt) (vs : List Frame) (b : Bor (List Stmt)) (s : State)
       → ((c : Calls) (u : ℕ) → meaning tree.globals c x u s ≡ body_meaning tree.globals c b.now u s)
-      → ((k : Costs) → k.rest + body_most k b.now ≤ most k x) → 2 + body_weight b.now ≤ weight x → vs ≡ ws ++ frame.Rest b ∷ [] → Done tree x ws vs at.Work s s
-  chosen_by x vs b s m r w e =
+      → ((k : Costs) → k.rest + body_most k b.now ≤ most k x) → 2 + body_weight b.now ≤ weight x
+      → vs ≡ ws ++ frame.Rest b n ∷ [] → Done tree x ws vs at.Work s s
+  chosen_by n x vs b s m r w e =
       record {
-        meaning = λ c u. on_top tree.globals c ws vs (frame.Rest b) (Normal u s) e ∙ ap (ending tree.globals c ws) (sym (m c u));
-        reach = λ k. omega (arith, top_tall k ws vs (frame.Rest b) e, sizes_tall k vs, r k);
-        units = omega (arith, top_sizes unit_costs ws vs (frame.Rest b) e);
-        weight = omega (arith, w, top_weight ws vs (frame.Rest b) e);
+        meaning = λ c u. on_top tree.globals c ws vs (frame.Rest b n) (Normal u s) e ∙ ap (ending tree.globals c ws) (sym (m c u));
+        reach = λ k. omega (arith, top_tall k ws vs (frame.Rest b n) e, sizes_tall k vs, r k);
+        units = omega (arith, top_sizes unit_costs ws vs (frame.Rest b n) e);
+        weight = omega (arith, w, top_weight ws vs (frame.Rest b n) e);
       }
 
-  pub if_done : (arms : List Arm) (other : List Stmt) (vs : List Frame) (b : Bor (List Stmt)) (s : State)
-      → if_body tree.globals arms other s ≡ Ok b.now → vs ≡ ws ++ frame.Rest b ∷ [] → Done tree (stmt.If arms other) ws vs at.Work s s
-  if_done arms other vs b s p e =
-      chosen_by (stmt.If arms other) vs b s (λ c u. if_means tree.globals c u s arms other ∙ ap (chosen_out tree.globals c u s) p)
+  pub if_done : (n : ℕ) (arms : List Arm) (other : List Stmt) (vs : List Frame) (b : Bor (List Stmt)) (s : State)
+      → if_body tree.globals arms other s ≡ Ok b.now → vs ≡ ws ++ frame.Rest b n ∷ [] → Done tree (stmt.If arms other) ws vs at.Work s s
+  if_done n arms other vs b s p e =
+      chosen_by n (stmt.If arms other) vs b s (λ c u. if_means tree.globals c u s arms other ∙ ap (chosen_out tree.globals c u s) p)
       (λ k. picked_most k tree.globals arms other s b.now p) (picked_weight tree.globals arms other s b.now p) e
 
   pub if_fault : (arms : List Arm) (other : List Stmt) (s : State) (f : Fault)
@@ -158,11 +159,11 @@ module _ (tree : StProgram) (ws : List Frame) where
       sym (ap end_seen (unwound_faults tree.globals c ws f s))
       ∙ ap (ending tree.globals c ws) (sym (if_means tree.globals c u s arms other ∙ ap (chosen_out tree.globals c u s) p)))
 
-  pub case_done : (x : Expr) (arms : List CaseArm) (other : List Stmt) (vs : List Frame) (b : Bor (List Stmt)) (v : Value) (s : State)
-      → value tree.globals x s ≡ Ok v → b.now ≡ case_body v.n arms other → vs ≡ ws ++ frame.Rest b ∷ []
+  pub case_done : (n : ℕ) (x : Expr) (arms : List CaseArm) (other : List Stmt) (vs : List Frame) (b : Bor (List Stmt)) (v : Value) (s : State)
+      → value tree.globals x s ≡ Ok v → b.now ≡ case_body v.n arms other → vs ≡ ws ++ frame.Rest b n ∷ []
       → Done tree (stmt.Case x arms other) ws vs at.Work s s
-  case_done x arms other vs b v s p l e =
-      chosen_by (stmt.Case x arms other) vs b s
+  case_done n x arms other vs b v s p l e =
+      chosen_by n (stmt.Case x arms other) vs b s
       (λ c u. case_means tree.globals c u s x arms other ∙ ap (λ r. chosen_out tree.globals c u s (and_then r (λ (w : Value). Ok (case_body w.n arms other)))) p
       ∙ ap (λ (xs : List Stmt). body_meaning tree.globals c xs u s) (sym l))
       (λ k. subst (λ (xs : List Stmt). k.rest + body_most k xs ≤ most k (stmt.Case x arms other)) (sym l) (labelled_most k x v.n arms other))

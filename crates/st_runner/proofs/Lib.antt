@@ -9,5 +9,7 @@ pub mod ProperRuns
 pub mod Shifts
 pub mod Spending
 pub mod Stack
+pub mod Plans
 pub mod Stepping
+pub mod Tables
 pub mod Wraps

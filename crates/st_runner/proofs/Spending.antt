@@ -16,9 +16,9 @@ use Rattle.st_runner.proofs.Stepping.{stack_length}
 
 module _ (g : List Located) (c d : Calls) (k : ℕ) (calls : CallsFollow k c d) where
   framed_follows : (f : Frame) (j u : ℕ) (o p : Out) → u ≤ k → Follows j u o p → Follows j u (resume_frame g c f o) (resume_frame g d f p)
-  framed_follows (frame.Rest b) j u o p h e =
+  framed_follows (frame.Rest b place) j u o p h e =
       then_follows k j u o p (body_meaning g c b.now) (body_meaning g d b.now) h (statements_follow k g c d calls b.now) e
-  framed_follows (frame.Again t b) j u o p h e =
+  framed_follows (frame.Again t b place) j u o p h e =
       body_follows k j u o p (loop (value g t.now) (body_meaning g c b.now)) (loop (value g t.now) (body_meaning g d b.now))
       (λ v s w. turns_follow k v (v + j) (value g t.now) (body_meaning g c b.now) (body_meaning g d b.now)
       (statements_follow k g c d calls b.now) v j s (omega arith) (omega arith) (omega arith)) e
@@ -137,26 +137,27 @@ module _ (tree : StProgram) (capacity : ℕ) (ws : List Frame) (s : RunnerState)
   fewer_over : (next : At) (f : Option Fault) → IsReady tree capacity ws next s → IsReady tree capacity ws (at.Over f) s
   fewer_over next f r = let w = fewer next r in record { sound = w.sound; count = w.count; frames = w.frames; depth = w.depth; actuals = w.actuals }
 
-  module _ (t : Bor Expr) (b : Bor (List Stmt)) (r : IsReady tree capacity ws (at.Test t b) s) where
+  module _ (t : Bor Expr) (b : Bor (List Stmt)) (place : ℕ) (r : IsReady tree capacity ws (at.Test t b place) s) where
     pub test_room : length ws + 2 ≤ capacity
     test_room = omega (arith, r.frames, stack_length tree ws)
 
-    pub test_fault : (f : Fault) → value tree.globals t.now (state_of s) ≡ Err f → Spent tree capacity ws ws (at.Test t b) (at.Over (Some f)) s s
-    test_fault f e = record { meaning = λ u. test_faults tree u ws (state_of s) t.now b.now f e; ready = fewer_over (at.Test t b) (Some f) r }
+    pub test_fault : (f : Fault) → value tree.globals t.now (state_of s) ≡ Err f → Spent tree capacity ws ws (at.Test t b place) (at.Over (Some f)) s s
+    test_fault f e = record { meaning = λ u. test_faults tree u ws (state_of s) t.now b.now f e; ready = fewer_over (at.Test t b place) (Some f) r }
 
-    pub test_false : and_then (value tree.globals t.now (state_of s)) (λ v. Ok (is_set v)) ≡ Ok false → Spent tree capacity ws ws (at.Test t b) at.Work s s
-    test_false e = record { meaning = λ u. test_ends tree u ws (state_of s) t.now b.now e; ready = fewer (at.Test t b) r }
+    pub test_false : and_then (value tree.globals t.now (state_of s)) (λ v. Ok (is_set v)) ≡ Ok false
+        → Spent tree capacity ws ws (at.Test t b place) at.Work s s
+    test_false e = record { meaning = λ u. test_ends tree u ws (state_of s) t.now b.now e; ready = fewer (at.Test t b place) r }
 
-    pub test_true : (vs us : List Frame) → vs ≡ ws ++ frame.Again t b ∷ [] → us ≡ vs ++ frame.Rest b ∷ []
-        → and_then (value tree.globals t.now (state_of s)) (λ v. Ok (is_set v)) ≡ Ok true → Spent tree capacity ws us (at.Test t b) at.Work s s
+    pub test_true : (vs us : List Frame) → vs ≡ ws ++ frame.Again t b place ∷ [] → us ≡ vs ++ frame.Rest b place ∷ []
+        → and_then (value tree.globals t.now (state_of s)) (λ v. Ok (is_set v)) ≡ Ok true → Spent tree capacity ws us (at.Test t b place) at.Work s s
     test_true vs us e d x =
-        let h : (k : Costs) → reach k us at.Work ≤ reach k ws (at.Test t b) =
-        λ k. omega (arith, sizes_tall k us, two_tall k ws vs us (frame.Again t b) (frame.Rest b) e d) in
-        let n = two_sizes unit_costs ws vs us (frame.Again t b) (frame.Rest b) e d in
+        let h : (k : Costs) → reach k us at.Work ≤ reach k ws (at.Test t b place) =
+        λ k. omega (arith, sizes_tall k us, two_tall k ws vs us (frame.Again t b place) (frame.Rest b place) e d) in
+        let n = two_sizes unit_costs ws vs us (frame.Again t b place) (frame.Rest b place) e d in
         record {
           meaning = λ u.
-              on_top tree.globals (calls_to u tree) vs us (frame.Rest b) (Normal u (state_of s)) d
-              ∙ on_top tree.globals (calls_to u tree) ws vs (frame.Again t b) (body_meaning tree.globals (calls_to u tree) b.now u (state_of s)) e
+              on_top tree.globals (calls_to u tree) vs us (frame.Rest b place) (Normal u (state_of s)) d
+              ∙ on_top tree.globals (calls_to u tree) ws vs (frame.Again t b place) (body_meaning tree.globals (calls_to u tree) b.now u (state_of s)) e
               ∙ test_goes_on tree u ws (state_of s) t.now b.now x;
           ready =
               record {
@@ -172,8 +173,8 @@ module _ (tree : StProgram) (capacity : ℕ) (ws : List Frame) (s : RunnerState)
 
 depth_units : (tree : StProgram) (ws : List Frame) → sizes (depth_costs tree) ws ≡ units ws
 depth_units tree [] = refl
-depth_units tree (frame.Rest b ∷ ws) = let h : sizes (depth_costs tree) ws ≡ units ws = depth_units tree ws in omega arith
-depth_units tree (frame.Again t b ∷ ws) = let h : sizes (depth_costs tree) ws ≡ units ws = depth_units tree ws in omega arith
+depth_units tree (frame.Rest b place ∷ ws) = let h : sizes (depth_costs tree) ws ≡ units ws = depth_units tree ws in omega arith
+depth_units tree (frame.Again t b place ∷ ws) = let h : sizes (depth_costs tree) ws ≡ units ws = depth_units tree ws in omega arith
 depth_units tree (frame.Unit ∷ ws) = let h : sizes (depth_costs tree) ws ≡ units ws = depth_units tree ws in omega arith
 
 pub locals_at : (xs : List Pou) (n : ℕ) (x : Pou) → slice_get xs n ≡ Some x → length x.locals ≤ most_locals xs
@@ -261,21 +262,21 @@ module _ (tree : StProgram) (runnable : IsRunnable tree) (capacity : ℕ) (ws : 
         };
       }
 
-  pub call_done : (unit : Pou) (t : RunnerState) (body : Bor (List Stmt)) (vs us : List Frame)
-      → slice_get tree.pous n ≡ Some unit → body.now ≡ unit.body → vs ≡ ws ++ frame.Unit ∷ [] → us ≡ vs ++ frame.Rest body ∷ []
+  pub call_done : (place : ℕ) (unit : Pou) (t : RunnerState) (body : Bor (List Stmt)) (vs us : List Frame)
+      → slice_get tree.pous n ≡ Some unit → body.now ≡ unit.body → vs ≡ ws ++ frame.Unit ∷ [] → us ≡ vs ++ frame.Rest body place ∷ []
       → and_then (located_actuals tree.globals b.now (state_of s)) (λ formals. Ok (state_on_entry unit formals (state_of s))) ≡ Ok (state_of t)
       → ((l g : ℕ) → IsSound l g s → IsSound l g t) → length t.activations.items ≡ length s.activations.items + 1
       → Spent tree capacity ws us (at.Call n b) at.Work s t
-  call_done unit t body vs us there is e d change sound deeper =
+  call_done place unit t body vs us there is e d change sound deeper =
       let done = done_at (located_actuals tree.globals b.now (state_of s)) (λ formals. state_on_entry unit formals (state_of s)) (state_of t) change in
       let unit_runs = runnable.units n unit there in
       let tall_is : (k : Costs) → reach k us at.Work ≤ max (tall k ws) (sizes k ws + (k.unit + (k.rest + body_most k unit.body))) = λ k.
-      omega (arith, sizes_tall k us, ap (body_most k) is, two_tall k ws vs us frame.Unit (frame.Rest body) e d) in
-      let two = two_sizes unit_costs ws vs us frame.Unit (frame.Rest body) e d in
+      omega (arith, sizes_tall k us, ap (body_most k) is, two_tall k ws vs us frame.Unit (frame.Rest body place) e d) in
+      let two = two_sizes unit_costs ws vs us frame.Unit (frame.Rest body place) e d in
       record {
         meaning = λ u.
             ap (λ (x : State). ending tree.globals (calls_to u tree) us (Normal u x)) (sym done.2)
-            ∙ on_top tree.globals (calls_to u tree) vs us (frame.Rest body) (Normal u (state_on_entry unit done.0 (state_of s))) d
+            ∙ on_top tree.globals (calls_to u tree) vs us (frame.Rest body place) (Normal u (state_on_entry unit done.0 (state_of s))) d
             ∙ on_top tree.globals (calls_to u tree) ws vs frame.Unit
             (body_meaning tree.globals (calls_to u tree) body.now u (state_on_entry unit done.0 (state_of s))) e
             ∙ ap (λ (xs : List Stmt). ending tree.globals (calls_to u tree) ws

@@ -3,6 +3,8 @@
 use Rattle.st_tree.proofs.Common.{◌≡◌, ◌+◌, ◌≤◌, max, List, [], ◌∷◌, ◌++◌, refl, ap, ◌∙◌, arith, ℕ, sym, subst, Fault, Out, Faults, NoUnits, Calls, Normal, State, end_seen}
 use Rattle.st_runner.proofs.Common.{frame_tall, frame_weight, size, sizes, tall, work_weight, unit_costs, units, Costs, resume_frame, unwound, ending, Frame, Located, Leaves}
 use Rattle.st_runner.specs.declared.frame.Frame.TheVariants as frame
+use Rattle.st_runner.specs.inner.Plan.{ArePlanned}
+use Rattle.st_runner.proofs.Plans.{planned_below}
 
 module _ (g : List Located) (c : Calls) where
   pub unwound_push : (fs : List Frame) (f : Frame) (o : Out) → unwound g c (fs ++ f ∷ []) o ≡ unwound g c fs (resume_frame g c f o)
@@ -31,8 +33,8 @@ module _ (k : Costs) where
   sizes_push (x ∷ fs) f = let h : sizes k (fs ++ f ∷ []) ≡ sizes k fs + size k f = sizes_push fs f in omega arith
 
   size_frame : (f : Frame) → size k f ≤ frame_tall k f
-  size_frame (frame.Rest body) = omega arith
-  size_frame (frame.Again test body) = omega arith
+  size_frame (frame.Rest body place) = omega arith
+  size_frame (frame.Again test body place) = omega arith
   size_frame frame.Unit = omega arith
 
   pub sizes_tall : (fs : List Frame) → sizes k fs ≤ tall k fs
@@ -71,6 +73,7 @@ passed o p ws fs gs f none ends e h =
       tall = λ k. omega (arith, top_tall k gs fs f e, h.tall k);
       units = omega (arith, none, top_sizes unit_costs gs fs f e, h.units);
       weight = omega (arith, top_weight gs fs f e, h.weight);
+      planned = λ plan w. planned_below plan gs f (subst (λ (x : List Frame). ArePlanned plan x) e (h.planned plan w));
     }
 
 -- a frame that an end stops at
@@ -85,4 +88,5 @@ stopped o ws fs gs hs f same e d h =
       tall = λ k. subst (λ (x : List Frame). tall k x ≤ tall k ws) (sym back) (h.tall k);
       units = ap units back ∙ h.units;
       weight = subst (λ (x : List Frame). work_weight x ≤ work_weight ws) (sym back) h.weight;
+      planned = λ plan w. subst (λ (x : List Frame). ArePlanned plan x) (sym back) (h.planned plan w);
     }

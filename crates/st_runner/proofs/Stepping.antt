@@ -28,8 +28,8 @@ record Behind (tree : StProgram) (fs gs : List Frame) (rest : List Stmt) : Type 
   units : units gs ≡ units fs
   weight : work_weight gs ≤ work_weight fs + (1 + body_weight rest)
 
-behind : (tree : StProgram) (fs gs : List Frame) (r : Bor (List Stmt)) → gs ≡ with_rest fs r → Behind tree fs gs r.now
-behind tree fs gs r g = by_rest (λ (hs : List Frame). gs ≡ hs → Behind tree fs gs r.now) r.now fs (fs ++ frame.Rest r ∷ []) last more g
+behind : (n : ℕ) (tree : StProgram) (fs gs : List Frame) (r : Bor (List Stmt)) → gs ≡ with_rest fs r n → Behind tree fs gs r.now
+behind n tree fs gs r g = by_rest (λ (hs : List Frame). gs ≡ hs → Behind tree fs gs r.now) r.now fs (fs ++ frame.Rest r n ∷ []) last more g
   where
     last : r.now ≡ [] → gs ≡ fs → Behind tree fs gs r.now
     last none h =
@@ -43,37 +43,39 @@ behind tree fs gs r g = by_rest (λ (hs : List Frame). gs ≡ hs → Behind tree
           weight = omega (arith, ap work_weight h);
         }
 
-    more : gs ≡ fs ++ frame.Rest r ∷ [] → Behind tree fs gs r.now
+    more : gs ≡ fs ++ frame.Rest r n ∷ [] → Behind tree fs gs r.now
     more h =
         record {
-          meaning = λ c o. on_top tree.globals c fs gs (frame.Rest r) o h;
-          tall = λ k. omega (arith, top_tall k fs gs (frame.Rest r) h);
-          sizes = λ k. omega (arith, top_sizes k fs gs (frame.Rest r) h);
-          units = omega (arith, top_sizes unit_costs fs gs (frame.Rest r) h);
-          weight = omega (arith, top_weight fs gs (frame.Rest r) h);
+          meaning = λ c o. on_top tree.globals c fs gs (frame.Rest r n) o h;
+          tall = λ k. omega (arith, top_tall k fs gs (frame.Rest r n) h);
+          sizes = λ k. omega (arith, top_sizes k fs gs (frame.Rest r n) h);
+          units = omega (arith, top_sizes unit_costs fs gs (frame.Rest r n) h);
+          weight = omega (arith, top_weight fs gs (frame.Rest r n) h);
         }
 
 module _ (tree : StProgram) (ws : List Frame) (s : RunnerState) where
-  pub body_ended : (fs : List Frame) (b : Bor (List Stmt)) → ws ≡ fs ++ frame.Rest b ∷ [] → b.now ≡ [] → Stepped tree ws fs at.Work s s
-  body_ended fs b e none =
+  pub body_ended : (n : ℕ) (fs : List Frame) (b : Bor (List Stmt)) → ws ≡ fs ++ frame.Rest b n ∷ [] → b.now ≡ [] → Stepped tree ws fs at.Work s s
+  body_ended n fs b e none =
       record {
         meaning =
-            λ c u. sym (on_top tree.globals c fs ws (frame.Rest b) (Normal u (state_of s)) e
+            λ c u. sym (on_top tree.globals c fs ws (frame.Rest b n) (Normal u (state_of s)) e
             ∙ ap (λ (xs : List Stmt). ending tree.globals c fs (body_meaning tree.globals c xs u (state_of s))) none);
-        reach = λ k. omega (arith, top_tall k fs ws (frame.Rest b) e, sizes_tall k fs);
-        weight = let w : work_weight ws ≡ work_weight fs + frame_weight (frame.Rest b) = top_weight fs ws (frame.Rest b) e in omega arith;
+        reach = λ k. omega (arith, top_tall k fs ws (frame.Rest b n) e, sizes_tall k fs);
+        weight = let w : work_weight ws ≡ work_weight fs + frame_weight (frame.Rest b n) = top_weight fs ws (frame.Rest b n) e in omega arith;
         sound = λ l f h. h;
-        count = λ h. let w : units ws ≡ units fs + 0 = top_sizes unit_costs fs ws (frame.Rest b) e in omega arith;
+        count = λ h. let w : units ws ≡ units fs + 0 = top_sizes unit_costs fs ws (frame.Rest b n) e in omega arith;
       }
 
-  pub loop_again : (fs : List Frame) (t : Bor Expr) (b : Bor (List Stmt)) → ws ≡ fs ++ frame.Again t b ∷ [] → Stepped tree ws fs (at.Test t b) s s
-  loop_again fs t b e =
+  pub loop_again : (n : ℕ) (fs : List Frame) (t : Bor Expr) (b : Bor (List Stmt)) → ws ≡ fs ++ frame.Again t b n ∷ [] → Stepped tree ws fs (at.Test t b n) s s
+  loop_again n fs t b e =
       record {
-        meaning = λ c u. sym (on_top tree.globals c fs ws (frame.Again t b) (Normal u (state_of s)) e);
-        reach = λ k. let t : tall k ws ≡ max (tall k fs) (sizes k fs + frame_tall k (frame.Again t b)) = top_tall k fs ws (frame.Again t b) e in omega arith;
+        meaning = λ c u. sym (on_top tree.globals c fs ws (frame.Again t b n) (Normal u (state_of s)) e);
+        reach =
+            λ k. let t : tall k ws ≡ max (tall k fs) (sizes k fs + frame_tall k (frame.Again t b n)) = top_tall k fs ws (frame.Again t b n) e in
+            omega arith;
         weight = tt;
         sound = λ l f h. h;
-        count = λ h. let w : units ws ≡ units fs + 0 = top_sizes unit_costs fs ws (frame.Again t b) e in omega arith;
+        count = λ h. let w : units ws ≡ units fs + 0 = top_sizes unit_costs fs ws (frame.Again t b n) e in omega arith;
       }
 
   pub unit_ended : (fs : List Frame) (t : RunnerState) → ws ≡ fs ++ frame.Unit ∷ [] → state_of t ≡ left (state_of s)
@@ -92,44 +94,44 @@ module _ (tree : StProgram) (ws : List Frame) (s : RunnerState) where
       }
 
   -- the first statement of a list, with the rest behind it where there is one
-  pub first_statement : (fs gs vs : List Frame) (b r : Bor (List Stmt)) (x : Stmt) (next : At) (t : RunnerState)
-      → ws ≡ fs ++ frame.Rest b ∷ [] → b.now ≡ x ∷ r.now → gs ≡ with_rest fs r
+  pub first_statement : (n m : ℕ) (fs gs vs : List Frame) (b r : Bor (List Stmt)) (x : Stmt) (next : At) (t : RunnerState)
+      → ws ≡ fs ++ frame.Rest b n ∷ [] → b.now ≡ x ∷ r.now → gs ≡ with_rest fs r m
       → Done tree x gs vs next (state_of s) (state_of t) → ((l f : ℕ) → IsSound l f s → IsSound l f t) → SameShape s t → Stepped tree ws vs next s t
-  first_statement fs gs vs b r x next t e split g done sound same =
-      let rest : Behind tree fs gs r.now = behind tree fs gs r g in
+  first_statement n m fs gs vs b r x next t e split g done sound same =
+      let rest : Behind tree fs gs r.now = behind m tree fs gs r g in
       record {
         meaning = λ c u.
             done.meaning c u
             ∙ rest.meaning c (meaning tree.globals c x u (state_of s))
-            ∙ sym (on_top tree.globals c fs ws (frame.Rest b) (Normal u (state_of s)) e
+            ∙ sym (on_top tree.globals c fs ws (frame.Rest b n) (Normal u (state_of s)) e
             ∙ ap (λ (xs : List Stmt). ending tree.globals c fs (body_meaning tree.globals c xs u (state_of s))) split);
-        reach = λ k. omega (arith, top_tall k fs ws (frame.Rest b) e, ap (body_most k) split, rest.tall k, rest.sizes k, done.reach k);
+        reach = λ k. omega (arith, top_tall k fs ws (frame.Rest b n) e, ap (body_most k) split, rest.tall k, rest.sizes k, done.reach k);
         weight = weighs next done.weight;
         sound = sound;
         count =
             λ h. let same_length : length t.activations.items ≡ length s.activations.items = same in
-            omega (arith, top_sizes unit_costs fs ws (frame.Rest b) e, rest.units, done.units);
+            omega (arith, top_sizes unit_costs fs ws (frame.Rest b n) e, rest.units, done.units);
       }
     where
-      weighs : (n : At) → IfWork n (work_weight vs + 1 ≤ work_weight gs + weight x) → IfWork n (work_weight vs + 1 ≤ work_weight ws)
-      weighs at.Work h = omega (arith, top_weight fs ws (frame.Rest b) e, ap body_weight split, (behind tree fs gs r g).weight)
-      weighs n h = tt
+      weighs : (a : At) → IfWork a (work_weight vs + 1 ≤ work_weight gs + weight x) → IfWork a (work_weight vs + 1 ≤ work_weight ws)
+      weighs at.Work h = omega (arith, top_weight fs ws (frame.Rest b n) e, ap body_weight split, (behind m tree fs gs r g).weight)
+      weighs a h = tt
 
 -- each frame of a stack is one
 pub stack_length : (tree : StProgram) (fs : List Frame) → sizes (stack_costs tree) fs ≡ length fs
 stack_length tree [] = refl
-stack_length tree (frame.Rest b ∷ fs) = let h : sizes (stack_costs tree) fs ≡ length fs = stack_length tree fs in omega arith
-stack_length tree (frame.Again t b ∷ fs) = let h : sizes (stack_costs tree) fs ≡ length fs = stack_length tree fs in omega arith
+stack_length tree (frame.Rest b n ∷ fs) = let h : sizes (stack_costs tree) fs ≡ length fs = stack_length tree fs in omega arith
+stack_length tree (frame.Again t b n ∷ fs) = let h : sizes (stack_costs tree) fs ≡ length fs = stack_length tree fs in omega arith
 stack_length tree (frame.Unit ∷ fs) = let h : sizes (stack_costs tree) fs ≡ length fs = stack_length tree fs in omega arith
 
 -- a statement finds room for what it pushes
-pub first_room : (tree : StProgram) (capacity : ℕ) (ws fs gs : List Frame) (b r : Bor (List Stmt)) (x : Stmt) (s : RunnerState)
-    → IsReady tree capacity ws at.Work s → ws ≡ fs ++ frame.Rest b ∷ [] → b.now ≡ x ∷ r.now → gs ≡ with_rest fs r
+pub first_room : (n m : ℕ) (tree : StProgram) (capacity : ℕ) (ws fs gs : List Frame) (b r : Bor (List Stmt)) (x : Stmt) (s : RunnerState)
+    → IsReady tree capacity ws at.Work s → ws ≡ fs ++ frame.Rest b n ∷ [] → b.now ≡ x ∷ r.now → gs ≡ with_rest fs r m
     → length gs + most (stack_costs tree) x ≤ capacity
-first_room tree capacity ws fs gs b r x s ready e split g =
+first_room n m tree capacity ws fs gs b r x s ready e split g =
     let k : Costs = stack_costs tree in
-    let rest : Behind tree fs gs r.now = behind tree fs gs r g in
-    omega (arith, top_tall k fs ws (frame.Rest b) e, ap (body_most k) split, rest.sizes k, stack_length tree gs, ready.frames)
+    let rest : Behind tree fs gs r.now = behind m tree fs gs r g in
+    omega (arith, top_tall k fs ws (frame.Rest b n) e, ap (body_most k) split, rest.sizes k, stack_length tree gs, ready.frames)
 
 pub may_leave : (tree : StProgram) (capacity : ℕ) (ws fs : List Frame) (s : RunnerState)
     → IsReady tree capacity ws at.Work s → ws ≡ fs ++ frame.Unit ∷ [] → MayLeave s

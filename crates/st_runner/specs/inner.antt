@@ -4,6 +4,7 @@ pub mod Fitting
 pub mod Leaving
 pub mod Measures
 pub mod Plain
+pub mod Plan
 pub mod Ready
 pub mod Runnable
 pub mod View

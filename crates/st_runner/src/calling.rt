@@ -1,5 +1,5 @@
 //! Calls from outside: the unit that one means, whether it fits, and what it gives the unit.
-ghost use Rattle.std.specs.Prelude.{◌≡◌, ◌++◌, [], codes, decimal, length, vec_capacity, ◌≤◌, IfOk, MatchOption, None, OnOk, Some, List, ℕ};
+ghost use Rattle.std.specs.Prelude.{◌≡◌, ◌++◌, [], codes, decimal, length, vec_capacity, ◌≤◌, ◌<◌, IfOk, MatchOption, None, OnOk, List, slice_get, ℕ};
 ghost use Rattle.std.specs.Str.{str_eq_ignore_ascii_case};
 ghost use Rattle.memory_areas.specs.Access.{aim_of_place, fault_of};
 ghost use Rattle.memory_areas.specs.Areas.{IsMemoryOf, block_of};
@@ -51,18 +51,20 @@ fn is_meant(block: BlockName, name: &[u8], unit: &Pou) -> bool
         && matches!(block, BlockName::Ob(_)) == unit.program
 }
 
-/// The unit that a call means.
-pub fn unit_called<'t>(block: BlockName, name: &[u8], units: &'t [Pou]) -> Option<&'t Pou>
+/// The position of the unit that a call means.
+pub fn unit_called(block: BlockName, name: &[u8], units: &[Pou]) -> Option<usize>
     requires { name.now ≡ called_name block }
     ensures { MatchOption result (unit_called block units.now ≡ None)
-        (λ unit. unit_called block units.now ≡ Some unit.now) }
+        (λ n. (n < length units.now) × (unit_called block units.now ≡ slice_get units.now n)) }
 {
     let mut rest = units;
+    let mut at = 0;
     while let Some((unit, behind)) = rest.split_first() {
         if is_meant(block, name, unit) {
-            return Some(unit);
+            return Some(at);
         }
         rest = behind;
+        at += 1;
     }
     None
 }

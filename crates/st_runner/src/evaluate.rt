@@ -1,7 +1,8 @@
 //! Expressions, assignments and choices.
-ghost use Rattle.std.specs.Prelude.{◌≡◌, Ok, Err, IfSome, MatchResult, ℕ};
+ghost use Rattle.std.specs.Prelude.{◌≡◌, ◌∷◌, ◌++◌, Ok, Err, IfSome, MatchResult, ℕ};
 ghost use Rattle.memory_areas.specs.Access.{and_then};
-ghost use Rattle.st_runner.specs.inner.Choice.{has_label, case_body, if_body};
+ghost use Rattle.st_runner.specs.inner.Choice.{case_body, if_body};
+ghost use Rattle.st_runner.specs.inner.Plan.{Stands, arms_parts, body_parts, case_part, inside_case};
 ghost use Rattle.st_runner.specs.inner.View.{Changes, IsRunning, IsSound, SameShape, state_of};
 ghost use Rattle.st_runner.specs.inner.Runnable.{AreGlobals};
 ghost use Rattle.st_tree.specs.Meaning.{area_assignment, assignment};
@@ -9,6 +10,7 @@ ghost use Rattle.st_tree.specs.Value.{value};
 ghost use Rattle.st_tree.specs.Values.{is_set};
 
 use crate::operators::{binary, converted_value, is_set, selected_value, shift, unary};
+use crate::plan::{Part, behind_part, further};
 use crate::state::{State, local_at};
 use s7_base::{Fault, Width};
 use st_tree::{Arm, CaseArm, Expr, Located, Stmt, Value, Var};
@@ -185,48 +187,57 @@ impl State {
         self.area_write(width, p, v)
     }
 
-    /// The statements that an IF chooses.
+    /// The statements that an IF chooses, and the place of their parts. Those of the arms start at `at`.
     pub fn if_body<'t>(
         &self,
         globals: &[Located],
+        plan: &[Part<'t>],
+        at: usize,
         arms: &'t [Arm],
         other: &'t [Stmt],
-    ) -> Result<&'t [Stmt], Fault>
+    ) -> Result<(&'t [Stmt], usize), Fault>
         requires running { IsRunning self.now }
         requires globals { AreGlobals globals.now }
+        requires planned { Stands plan.now at (arms_parts arms.now ++ body_parts other.now) }
         ensures { MatchResult result
-            (λ body. if_body globals.now arms.now other.now (state_of self.now) ≡ Ok body.now)
+            (λ found. (if_body globals.now arms.now other.now (state_of self.now) ≡ Ok found.0.now)
+            × Stands plan.now found.1 (body_parts found.0.now))
             (λ fault. if_body globals.now arms.now other.now (state_of self.now) ≡ Err fault) }
     {
         let mut rest = arms;
+        let mut place = at;
         while let Some((arm, behind)) = rest.split_first() {
             if self.is_true(globals, &arm.test)? {
-                return Ok(arm.body.as_slice());
+                return Ok((arm.body.as_slice(), further(plan, place, 1)));
             }
             rest = behind;
+            place = behind_part(plan, place);
         }
-        Ok(other)
+        Ok((other, place))
     }
 }
 
-/// Whether an arm of a CASE has a value.
-#[tactic(auto, unfolding(crate::specs::inner::Choice::has_label))]
-fn has_label(labels: &[i64], v: Value) -> bool
-    ensures { result ≡ has_label labels.now v.n }
+/// The statements that a CASE chooses, and the place of their parts. Its own part stands at `at`.
+pub fn case_body<'t>(
+    plan: &[Part<'t>],
+    at: usize,
+    v: Value,
+    arms: &'t [CaseArm],
+    other: &'t [Stmt],
+) -> (&'t [Stmt], usize)
+    requires { Stands plan.now at (case_part arms.now other.now ∷ inside_case arms.now other.now) }
+    ensures body { result.0.now ≡ case_body v.n arms.now other.now }
+    ensures planned { Stands plan.now result.1 (body_parts result.0.now) }
 {
-    labels.iter().any(|label| *label == v.n)
-}
-
-/// The statements that a CASE chooses.
-pub fn case_body<'t>(v: Value, arms: &'t [CaseArm], other: &'t [Stmt]) -> &'t [Stmt]
-    ensures { result.now ≡ case_body v.n arms.now other.now }
-{
-    let mut rest = arms;
-    while let Some((arm, behind)) = rest.split_first() {
-        if has_label(arm.labels.as_slice(), v) {
-            return arm.body.as_slice();
-        }
-        rest = behind;
+    let Part::Choice(_, table, starts) = &plan[at] else {
+        unreachable!()
+    };
+    let inside = further(plan, at, 1);
+    match table.find(v.n) {
+        Some(n) => (
+            arms[n].body.as_slice(),
+            further(plan, inside, starts.as_slice()[n]),
+        ),
+        None => (other, inside),
     }
-    other
 }

@@ -12,8 +12,8 @@ pub fn exit_loop<'t>(work: &mut Vec<Frame<'t>>)
 {
     while let Some(frame) = work.pop() {
         match frame {
-            Frame::Rest(_) => {}
-            Frame::Again(_, _) => return,
+            Frame::Rest(_, _) => {}
+            Frame::Again(_, _, _) => return,
             Frame::Unit => {
                 work.push_reserved(Frame::Unit);
                 return;
@@ -29,9 +29,9 @@ pub fn continue_loop<'t>(work: &mut Vec<Frame<'t>>)
 {
     while let Some(frame) = work.pop() {
         match frame {
-            Frame::Rest(_) => {}
-            Frame::Again(test, body) => {
-                work.push_reserved(Frame::Again(test, body));
+            Frame::Rest(_, _) => {}
+            Frame::Again(test, body, at) => {
+                work.push_reserved(Frame::Again(test, body, at));
                 return;
             }
             Frame::Unit => {
@@ -49,8 +49,8 @@ pub fn return_unit<'t>(work: &mut Vec<Frame<'t>>)
 {
     while let Some(frame) = work.pop() {
         match frame {
-            Frame::Rest(_) => {}
-            Frame::Again(_, _) => {}
+            Frame::Rest(_, _) => {}
+            Frame::Again(_, _, _) => {}
             Frame::Unit => {
                 work.push_reserved(Frame::Unit);
                 return;

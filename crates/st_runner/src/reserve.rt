@@ -149,12 +149,12 @@ pub fn start(
     })
 }
 
-/// The statements of the first unit, with room for all frames that may wait.
-pub fn frames<'t>(alloc: Global, body: &'t [Stmt]) -> Result<Vec<Frame<'t>>, NoMemory>
-    ensures items { IfOk result (λ work. work.items ≡ Rest body.entry ∷ []) }
+/// The statements of the first unit, whose parts start at a place, with room for all frames that may wait.
+pub fn frames<'t>(alloc: Global, body: &'t [Stmt], at: usize) -> Result<Vec<Frame<'t>>, NoMemory>
+    ensures items { IfOk result (λ work. work.items ≡ Rest body.entry at ∷ []) }
     ensures room { IfOk result (λ work. vec_capacity work ≡ ACTIVATIONS * UNIT_FRAMES) }
 {
     let mut work = Vec::with_capacity(alloc, ACTIVATIONS * UNIT_FRAMES)?;
-    work.push_reserved(Frame::Rest(body));
+    work.push_reserved(Frame::Rest(body, at));
     Ok(work)
 }

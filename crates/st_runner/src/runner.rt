@@ -7,6 +7,7 @@ ghost use Rattle.st_runner.specs.inner.Waiting.{outcome_of};
 
 use crate::calling::{called_name, fits_unit, unit_called};
 use crate::frame::{At, Frame};
+use crate::plan::{Plan, plan_of};
 use crate::reserve::{frames, start};
 use crate::runs::go;
 use crate::state::State;
@@ -30,6 +31,7 @@ pub enum RunnerRefusal {
 #[derive(Drop)]
 pub struct Runner<'t> {
     tree: &'t StProgram,
+    plan: Plan<'t>,
     work: Vec<Frame<'t>>,
     at: At<'t>,
     state: State,
@@ -39,6 +41,7 @@ impl<'t> Model for Runner<'t> {
     ghost use Rattle.std.specs.Coded.{codes};
     ghost use Rattle.std.specs.Prelude.{map, vec_capacity};
     ghost use Rattle.st_runner.specs.inner.Plain.{coming, pending};
+    ghost use Rattle.st_runner.specs.inner.Plan.{AreStarts, IsPlanned};
     ghost use Rattle.st_runner.specs.inner.Ready.{IsReady};
     ghost use Rattle.st_runner.specs.inner.Runnable.{IsRunnable};
     ghost use Rattle.st_runner.specs.Standing.{Standing};
@@ -60,7 +63,9 @@ impl<'t> Model for Runner<'t> {
     } };
 
     ghost invariant = { λ r. IsRunnable r.tree.now
-        × IsReady r.tree.now (vec_capacity r.work) r.work.items r.at r.state };
+        × IsReady r.tree.now (vec_capacity r.work) r.work.items r.at r.state
+        × IsPlanned r.plan.parts.items r.work.items r.at
+        × AreStarts r.plan.parts.items r.plan.starts.items r.tree.now.pous };
 }
 
 /// The outcome of a run that does this next.
@@ -69,7 +74,7 @@ fn outcome_of<'t>(at: At<'t>) -> Outcome
 {
     match at {
         At::Work => Outcome::Going,
-        At::Test(_, _) => Outcome::Going,
+        At::Test(_, _, _) => Outcome::Going,
         At::Call(_, _) => Outcome::Going,
         At::Over(fault) => Outcome::Ended(fault),
     }
@@ -100,16 +105,19 @@ impl<'t> Runner<'t> {
     {
         let name = called_name(alloc, call.block)?;
         let units = tree.pous.as_slice();
-        let Some(unit) = unit_called(call.block, name.as_slice(), units) else {
+        let Some(n) = unit_called(call.block, name.as_slice(), units) else {
             return Err(RunnerRefusal::BadCall);
         };
+        let unit = &units[n];
         if !fits_unit(&memory, unit, call) {
             return Err(RunnerRefusal::BadCall);
         }
-        let work = frames(alloc, unit.body.as_slice())?;
+        let plan = plan_of(alloc, units)?;
+        let work = frames(alloc, unit.body.as_slice(), plan.starts[n])?;
         let state = start(alloc, units, unit, memory, call)?;
         Ok(Runner {
             tree,
+            plan,
             work,
             at: At::Work,
             state,
@@ -122,7 +130,14 @@ impl<'t> Runner<'t> {
         ensures outcome { Shows result (end_within self.old k) self.new.memory.areas }
         ensures over { StaysOver result self.new }
     {
-        go(self.tree, &mut self.at, &mut self.work, &mut self.state, k);
+        go(
+            self.tree,
+            &self.plan,
+            &mut self.at,
+            &mut self.work,
+            &mut self.state,
+            k,
+        );
         outcome_of(self.at)
     }
 

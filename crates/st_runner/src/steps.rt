@@ -1,7 +1,8 @@
 //! Steps: what needs no unit, and what takes one.
-ghost use Rattle.std.specs.Prelude.{◌≡◌, ◌+◌, ◌<◌, ◌≤◌, max, length, vec_capacity, ℕ, Some, None};
+ghost use Rattle.std.specs.Prelude.{◌≡◌, ◌+◌, ◌<◌, ◌≤◌, ◌∷◌, max, length, vec_capacity, ℕ, Some, None};
 ghost use Rattle.st_runner.specs.inner.Measures.{next_tall, reach, sizes, tall, units, weight, work_weight, stack_costs};
 ghost use Rattle.st_runner.specs.inner.Costs.{Costs, body_most, most};
+ghost use Rattle.st_runner.specs.inner.Plan.{ArePlanned, AreStarts, IsPlanned, Stands, case_part, if_parts, inside_case, parts_of};
 ghost use Rattle.st_runner.specs.inner.Ready.{Done, IsReady, IsSettled, Spent, Stepped, next_of};
 ghost use Rattle.st_runner.specs.inner.Runnable.{IsRunnable, AreGlobals};
 ghost use Rattle.st_runner.specs.inner.Waiting.{end_at, ending, with_rest};
@@ -13,6 +14,7 @@ ghost use Rattle.st_tree.specs.declared.program.Stmt.TheVariants.{Case, If};
 use crate::evaluate::case_body;
 use crate::frame::{At, Frame};
 use crate::leaving::{continue_loop, exit_loop, return_unit};
+use crate::plan::{Part, Plan, behind, further};
 use crate::state::State;
 use s7_base::Fault;
 use st_tree::{Arm, CaseArm, Expr, StProgram, Stmt, Var};
@@ -37,6 +39,8 @@ fn next<'t>(done: Result<(), Fault>) -> At<'t>
 /// Lets the statements wait that an IF chooses.
 fn choose<'t>(
     tree: &StProgram,
+    plan: &[Part<'t>],
+    at: usize,
     arms: &'t [Arm],
     other: &'t [Stmt],
     work: &mut Vec<Frame<'t>>,
@@ -45,13 +49,22 @@ fn choose<'t>(
     requires running { IsRunning state.now }
     requires globals { AreGlobals tree.now.globals }
     requires room { length work.old.items < vec_capacity work.old }
+    requires frames { ArePlanned plan.now work.old.items }
+    requires planned { Stands plan.now at (if_parts arms.now other.now) }
     ensures done { Done tree.now (If arms.now other.now) work.old.items work.new.items result
         (state_of state.now) (state_of state.now) }
+    ensures planned { IsPlanned plan.now work.new.items result }
     ensures capacity { vec_capacity work.new ≡ vec_capacity work.old }
 {
-    match state.if_body(tree.globals.as_slice(), arms, other) {
-        Ok(body) => {
-            work.push_reserved(Frame::Rest(body));
+    match state.if_body(
+        tree.globals.as_slice(),
+        plan,
+        further(plan, at, 1),
+        arms,
+        other,
+    ) {
+        Ok((body, place)) => {
+            work.push_reserved(Frame::Rest(body, place));
             At::Work
         }
         Err(fault) => At::Over(Some(fault)),
@@ -61,6 +74,8 @@ fn choose<'t>(
 /// Lets the statements wait that a CASE chooses.
 fn choose_labelled<'t>(
     tree: &StProgram,
+    plan: &[Part<'t>],
+    at: usize,
     e: &Expr,
     arms: &'t [CaseArm],
     other: &'t [Stmt],
@@ -70,13 +85,17 @@ fn choose_labelled<'t>(
     requires running { IsRunning state.now }
     requires globals { AreGlobals tree.now.globals }
     requires room { length work.old.items < vec_capacity work.old }
+    requires frames { ArePlanned plan.now work.old.items }
+    requires planned { Stands plan.now at (case_part arms.now other.now ∷ inside_case arms.now other.now) }
     ensures done { Done tree.now (Case e.now arms.now other.now) work.old.items work.new.items result
         (state_of state.now) (state_of state.now) }
+    ensures planned { IsPlanned plan.now work.new.items result }
     ensures capacity { vec_capacity work.new ≡ vec_capacity work.old }
 {
     match state.value(tree.globals.as_slice(), e) {
         Ok(v) => {
-            work.push_reserved(Frame::Rest(case_body(v, arms, other)));
+            let (body, place) = case_body(plan, at, v, arms, other);
+            work.push_reserved(Frame::Rest(body, place));
             At::Work
         }
         Err(fault) => At::Over(Some(fault)),
@@ -88,6 +107,8 @@ fn choose_labelled<'t>(
 #[inline(always)]
 pub fn statement<'t>(
     tree: &'t StProgram,
+    plan: &[Part<'t>],
+    at: usize,
     stmt: &'t Stmt,
     work: &mut Vec<Frame<'t>>,
     state: &mut State,
@@ -95,8 +116,11 @@ pub fn statement<'t>(
     requires running { IsRunning state.old }
     requires globals { AreGlobals tree.now.globals }
     requires room { length work.old.items + most (stack_costs tree.now) stmt.now ≤ vec_capacity work.old }
+    requires frames { ArePlanned plan.now work.old.items }
+    requires planned { Stands plan.now at (parts_of stmt.now) }
     ensures done { Done tree.now stmt.now work.old.items work.new.items result
         (state_of state.old) (state_of state.new) }
+    ensures planned { IsPlanned plan.now work.new.items result }
     ensures sound { (l f : ℕ) → IsSound l f state.old → IsSound l f state.new }
     ensures same { SameShape state.old state.new }
     ensures capacity { vec_capacity work.new ≡ vec_capacity work.old }
@@ -108,11 +132,28 @@ pub fn statement<'t>(
             next(state.area_assign(globals, *width, pointer.get(), e.get()))
         }
         Stmt::Invoke(n, actuals) => At::Call(*n, actuals.as_slice()),
-        Stmt::If(arms, other) => choose(tree, arms.as_slice(), other.as_slice(), work, state),
-        Stmt::Case(e, arms, other) => {
-            choose_labelled(tree, e, arms.as_slice(), other.as_slice(), work, state)
+        Stmt::If(arms, other) => {
+            choose(
+                tree,
+                plan,
+                at,
+                arms.as_slice(),
+                other.as_slice(),
+                work,
+                state,
+            )
         }
-        Stmt::While(test, body) => At::Test(test, body.as_slice()),
+        Stmt::Case(e, arms, other) => choose_labelled(
+            tree,
+            plan,
+            at,
+            e,
+            arms.as_slice(),
+            other.as_slice(),
+            work,
+            state,
+        ),
+        Stmt::While(test, body) => { At::Test(test, body.as_slice(), further(plan, at, 1)) }
         Stmt::Exit => {
             exit_loop(work);
             At::Work
@@ -129,34 +170,41 @@ pub fn statement<'t>(
 }
 
 /// Lets the rest of a list wait. Nothing waits after the last statement, so that its end takes no step.
-fn push_rest<'t>(rest: &'t [Stmt], work: &mut Vec<Frame<'t>>)
+fn push_rest<'t>(rest: &'t [Stmt], at: usize, work: &mut Vec<Frame<'t>>)
     requires { length work.old.items < vec_capacity work.old }
-    ensures items { work.new.items ≡ with_rest work.old.items rest.entry }
+    ensures items { work.new.items ≡ with_rest work.old.items rest.entry at }
     ensures capacity { vec_capacity work.new ≡ vec_capacity work.old }
 {
     if !rest.is_empty() {
-        work.push_reserved(Frame::Rest(rest));
+        work.push_reserved(Frame::Rest(rest, at));
     }
 }
 
 /// Does the next statement that waits, or ends the frame on top.
 #[inline(always)]
-fn step<'t>(tree: &'t StProgram, work: &mut Vec<Frame<'t>>, state: &mut State) -> At<'t>
+fn step<'t>(
+    tree: &'t StProgram,
+    plan: &[Part<'t>],
+    work: &mut Vec<Frame<'t>>,
+    state: &mut State,
+) -> At<'t>
     requires globals { AreGlobals tree.now.globals }
     requires ready { IsReady tree.now (vec_capacity work.old) work.old.items Work state.old }
+    requires planned { ArePlanned plan.now work.old.items }
     ensures stepped { Stepped tree.now work.old.items work.new.items result state.old state.new }
+    ensures planned { IsPlanned plan.now work.new.items result }
     ensures capacity { vec_capacity work.new ≡ vec_capacity work.old }
 {
     match work.pop() {
         None => At::Over(None),
-        Some(Frame::Rest(body)) => {
+        Some(Frame::Rest(body, at)) => {
             let Some((stmt, rest)) = body.split_first() else {
                 return At::Work;
             };
-            push_rest(rest, work);
-            statement(tree, stmt, work, state)
+            push_rest(rest, behind(plan, at, stmt), work);
+            statement(tree, plan, at, stmt, work, state)
         }
-        Some(Frame::Again(test, body)) => At::Test(test, body),
+        Some(Frame::Again(test, body, at)) => At::Test(test, body, at),
         Some(Frame::Unit) => {
             state.leave();
             At::Work
@@ -166,18 +214,25 @@ fn step<'t>(tree: &'t StProgram, work: &mut Vec<Frame<'t>>, state: &mut State) -
 
 /// Does what needs no unit, up to where a unit is needed or the run has ended.
 #[inline(always)]
-pub fn advance<'t>(tree: &'t StProgram, work: &mut Vec<Frame<'t>>, state: &mut State) -> At<'t>
+pub fn advance<'t>(
+    tree: &'t StProgram,
+    plan: &Plan<'t>,
+    work: &mut Vec<Frame<'t>>,
+    state: &mut State,
+) -> At<'t>
     requires globals { AreGlobals tree.now.globals }
     requires ready { IsReady tree.now (vec_capacity work.old) work.old.items Work state.old }
+    requires planned { ArePlanned plan.now.parts.items work.old.items }
     ensures meaning { (c : Calls) (u : ℕ) → end_at tree.now.globals c work.new.items result u (state_of state.new)
         ≡ end_at tree.now.globals c work.old.items Work u (state_of state.old) }
     ensures settle { IsSettled result }
     ensures ready { IsReady tree.now (vec_capacity work.new) work.new.items result state.new }
+    ensures planned { IsPlanned plan.now.parts.items work.new.items result }
     ensures capacity { vec_capacity work.new ≡ vec_capacity work.old }
 {
     let mut at = At::Work;
     while let At::Work = at {
-        at = step(tree, work, state);
+        at = step(tree, plan.parts.as_slice(), work, state);
     }
     at
 }
@@ -186,21 +241,25 @@ pub fn advance<'t>(tree: &'t StProgram, work: &mut Vec<Frame<'t>>, state: &mut S
 #[inline(always)]
 pub fn spend_test<'t>(
     tree: &'t StProgram,
+    plan: &Plan<'t>,
     test: &'t Expr,
     body: &'t [Stmt],
+    at: usize,
     work: &mut Vec<Frame<'t>>,
     state: &mut State,
 ) -> At<'t>
     requires globals { AreGlobals tree.now.globals }
-    requires ready { IsReady tree.now (vec_capacity work.old) work.old.items (Test test body) state.old }
+    requires ready { IsReady tree.now (vec_capacity work.old) work.old.items (Test test body at) state.old }
+    requires planned { IsPlanned plan.now.parts.items work.old.items (Test test body at) }
     ensures spend_unit { Spent tree.now (vec_capacity work.old) work.old.items work.new.items
-        (Test test.entry body.entry) result state.old state.new }
+        (Test test.entry body.entry at) result state.old state.new }
+    ensures planned { IsPlanned plan.now.parts.items work.new.items result }
     ensures capacity { vec_capacity work.new ≡ vec_capacity work.old }
 {
     match state.is_true(tree.globals.as_slice(), test) {
         Ok(true) => {
-            work.push_reserved(Frame::Again(test, body));
-            work.push_reserved(Frame::Rest(body));
+            work.push_reserved(Frame::Again(test, body, at));
+            work.push_reserved(Frame::Rest(body, at));
             At::Work
         }
         Ok(false) => At::Work,
@@ -211,6 +270,7 @@ pub fn spend_test<'t>(
 /// Spends a unit on a call.
 pub fn spend_call<'t>(
     tree: &'t StProgram,
+    plan: &Plan<'t>,
     n: u32,
     actuals: &'t [Var],
     work: &mut Vec<Frame<'t>>,
@@ -218,15 +278,18 @@ pub fn spend_call<'t>(
 ) -> At<'t>
     requires runnable { IsRunnable tree.now }
     requires ready { IsReady tree.now (vec_capacity work.old) work.old.items (Call n actuals) state.old }
+    requires planned { ArePlanned plan.now.parts.items work.old.items }
+    requires starts { AreStarts plan.now.parts.items plan.now.starts.items tree.now.pous }
     ensures spend_unit { Spent tree.now (vec_capacity work.old) work.old.items work.new.items
         (Call n actuals.entry) result state.old state.new }
+    ensures planned { IsPlanned plan.now.parts.items work.new.items result }
     ensures capacity { vec_capacity work.new ≡ vec_capacity work.old }
 {
     let unit = &tree.pous.as_slice()[n as usize];
     match state.enter(tree.globals.as_slice(), unit, actuals) {
         Ok(()) => {
             work.push_reserved(Frame::Unit);
-            work.push_reserved(Frame::Rest(unit.body.as_slice()));
+            work.push_reserved(Frame::Rest(unit.body.as_slice(), plan.starts[n as usize]));
             At::Work
         }
         Err(fault) => At::Over(Some(fault)),

@@ -1,5 +1,5 @@
 -- Which statements an IF and a CASE choose.
-use Rattle.std.specs.Prelude.{Bool, if◌then◌else◌, ℤ, List, [], ◌∷◌, Result, Ok}
+use Rattle.std.specs.Prelude.{ℕ, suc, Bool, if◌then◌else◌, ℤ, List, [], ◌∷◌, map, Option, None, Some, Result, Ok}
 use Rattle.std.specs.List.{list_any}
 use Rattle.std.specs.Ordering.{int_eq}
 use Rattle.memory_areas.specs.Access.{and_then}
@@ -26,3 +26,12 @@ has_label labels n = list_any (λ label. int_eq label n) labels
 abbrev pub case_body : ℤ → List CaseArm → List Stmt → List Stmt
 case_body n [] other = other
 case_body n (arm ∷ rest) other = if has_label arm.labels n then arm.body else case_body n rest other
+
+-- the labels of each arm
+abbrev pub labels_of : List CaseArm → List (List ℤ)
+labels_of arms = map (λ (arm : CaseArm). arm.labels) arms
+
+-- the position of the first arm that has a value, by the labels of each arm, behind so many arms
+abbrev pub place_from : ℕ → ℤ → List (List ℤ) → Option ℕ
+place_from at n [] = None
+place_from at n (labels ∷ rest) = if has_label labels n then Some at else place_from (suc at) n rest

@@ -19,14 +19,14 @@ use Rattle.st_tree.specs.declared.program.Stmt.TheOpen as S
 
 -- what a frame costs by itself
 abbrev pub size : Costs → Frame → ℕ
-size k (frame.Rest body) = k.rest
-size k (frame.Again test body) = k.again
+size k (frame.Rest body place) = k.rest
+size k (frame.Again test body place) = k.again
 size k frame.Unit = k.unit
 
 -- the most that a frame costs while its statements run
 abbrev pub frame_tall : Costs → Frame → ℕ
-frame_tall k (frame.Rest body) = k.rest + body_most k body.now
-frame_tall k (frame.Again test body) = k.again + (k.rest + body_most k body.now)
+frame_tall k (frame.Rest body place) = k.rest + body_most k body.now
+frame_tall k (frame.Again test body place) = k.again + (k.rest + body_most k body.now)
 frame_tall k frame.Unit = k.unit
 
 -- what all frames cost together
@@ -42,7 +42,7 @@ tall k (f ∷ rest) = max (frame_tall k f) (size k f + tall k rest)
 -- the most that what comes next costs above the frames
 abbrev pub next_tall : Costs → At → ℕ
 next_tall k at.Work = 0
-next_tall k (at.Test test body) = k.again + (k.rest + body_most k body.now)
+next_tall k (at.Test test body place) = k.again + (k.rest + body_most k body.now)
 next_tall k (at.Call n actuals) = k.call n actuals.now
 next_tall k (at.Over f) = 0
 
@@ -100,8 +100,8 @@ body_weight body = sum (map weight body)
 
 -- how many steps a frame takes at most: its statements and its own end
 abbrev pub frame_weight : Frame → ℕ
-frame_weight (frame.Rest body) = 1 + body_weight body.now
-frame_weight (frame.Again test body) = 1
+frame_weight (frame.Rest body place) = 1 + body_weight body.now
+frame_weight (frame.Again test body place) = 1
 frame_weight frame.Unit = 1
 
 -- how many steps all frames take at most, before a unit is needed; each step lowers it, so a run cannot

@@ -7,13 +7,13 @@ use Rattle.st_runner.specs.declared.frame.Frame.TheVariants as frame
 
 -- what waits
 abbrev pub pending : Frame → Pending
-pending (frame.Rest body) = rest body.now
-pending (frame.Again t body) = again t.now body.now
+pending (frame.Rest body place) = rest body.now
+pending (frame.Again t body place) = again t.now body.now
 pending frame.Unit = unit
 
 -- what comes next
 abbrev pub coming : At → Coming
 coming at.Work = work
-coming (at.Test t body) = test t.now body.now
+coming (at.Test t body place) = test t.now body.now
 coming (at.Call n actuals) = call n actuals.now
 coming (at.Over f) = over f

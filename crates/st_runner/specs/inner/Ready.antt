@@ -41,14 +41,14 @@ pub record IsReady (tree : StProgram) (capacity : ℕ) (work : List Frame)
 -- a fact that is needed where the statements that wait come next
 abbrev pub IfWork : At → Type 0 → Type 0
 IfWork at.Work P = P
-IfWork (at.Test test body) P = Unit {0}
+IfWork (at.Test test body place) P = Unit {0}
 IfWork (at.Call n actuals) P = Unit {0}
 IfWork (at.Over f) P = Unit {0}
 
 -- something waits for a unit, or the run has ended
 abbrev pub IsSettled : At → Type 0
 IsSettled at.Work = ⊥
-IsSettled (at.Test test body) = Unit {0}
+IsSettled (at.Test test body place) = Unit {0}
 IsSettled (at.Call n actuals) = Unit {0}
 IsSettled (at.Over f) = Unit {0}
 
@@ -87,13 +87,13 @@ pub record Spent (tree : StProgram) (capacity : ℕ) (before after : List Frame)
 -- what comes next needs a unit: it is the test of a WHILE or a call
 abbrev pub NeedsUnit : At → Type 0
 NeedsUnit at.Work = ⊥
-NeedsUnit (at.Test test body) = Unit {0}
+NeedsUnit (at.Test test body place) = Unit {0}
 NeedsUnit (at.Call n actuals) = Unit {0}
 NeedsUnit (at.Over f) = ⊥
 
 -- whether what comes next needs a unit: the test of a WHILE or a call
 abbrev pub needs_unit : At → Bool
 needs_unit at.Work = false
-needs_unit (at.Test test body) = true
+needs_unit (at.Test test body place) = true
 needs_unit (at.Call n actuals) = true
 needs_unit (at.Over f) = false

@@ -18,8 +18,8 @@ use Rattle.st_tree.specs.declared.program.Stmt.{Stmt}
 
 -- the end of a frame, after the statements above it ended
 abbrev pub resume_frame : List Located → Calls → Frame → Out → Out
-resume_frame globals calls (frame.Rest body) o = then_do o (body_meaning globals calls body.now)
-resume_frame globals calls (frame.Again test body) o =
+resume_frame globals calls (frame.Rest body place) o = then_do o (body_meaning globals calls body.now)
+resume_frame globals calls (frame.Again test body place) o =
     after_body o (loop (value globals test.now) (body_meaning globals calls body.now))
 resume_frame globals calls frame.Unit o = after_unit o
 
@@ -35,7 +35,7 @@ ending globals calls work o = end_seen (unwound globals calls work o)
 -- the end of a run with some units where frames wait, this comes next, in this state
 abbrev pub end_at : List Located → Calls → List Frame → At → ℕ → State → End
 end_at globals calls work at.Work units s = ending globals calls work (Normal units s)
-end_at globals calls work (at.Test test body) units s =
+end_at globals calls work (at.Test test body place) units s =
     ending globals calls work (loop (value globals test.now) (body_meaning globals calls body.now) units s)
 end_at globals calls work (at.Call n actuals) units s =
     ending globals calls work (calls n actuals.now units s)
@@ -46,12 +46,12 @@ abbrev pub or_none : List Stmt → List Frame → List Frame → List Frame
 or_none [] below above = below
 or_none (first ∷ behind) below above = above
 
-abbrev pub with_rest : List Frame → Bor (List Stmt) → List Frame
-with_rest below rest = or_none rest.now below (below ++ frame.Rest rest ∷ [])
+abbrev pub with_rest : List Frame → Bor (List Stmt) → ℕ → List Frame
+with_rest below rest place = or_none rest.now below (below ++ frame.Rest rest place ∷ [])
 
 -- the outcome of a run that does this next
 abbrev pub outcome_of : At → Outcome
 outcome_of at.Work = outcome.Going
-outcome_of (at.Test test body) = outcome.Going
+outcome_of (at.Test test body place) = outcome.Going
 outcome_of (at.Call n actuals) = outcome.Going
 outcome_of (at.Over f) = outcome.Ended f

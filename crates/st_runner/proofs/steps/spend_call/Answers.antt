@@ -1,7 +1,9 @@
-use Rattle.st_tree.proofs.Common.{◌≡◌, List, Ok, Err, subst, arith, and_then, state_on_entry, located_actuals}
+use Rattle.st_tree.proofs.Common.{◌≡◌, List, Ok, Err, sym, ap, subst, arith, and_then, state_on_entry, located_actuals}
 use Rattle.st_runner.specs.inner.View.{Changes, IsDeeper, state_of}
 use Rattle.st_runner.proofs.Spending.{call_done, call_fault, call_may, call_room, call_unit}
 use Rattle.st_tree.specs.declared.program.Located.{Located}
+use Rattle.st_runner.proofs.Plans.{at_stands, goes_on, pushed, same_stands, start_at}
+use Rattle.st_runner.specs.inner.Plan.{body_parts}
 use Rattle.st_runner.proofs.steps.spend_call.Goals as goal
 
 pub enter-requires-clause-may : goal.enter-requires-clause-may
@@ -38,7 +40,7 @@ returns-in-Ok-clause-spend_unit c =
     c.in-Ok.is c.enter.ensures.change in
     let deeper = subst (λ r. IsDeeper r c.args.state.now c.enter.new.self) c.in-Ok.is c.enter.ensures.deeper in
     call_done tree c.requires.runnable _ c.args.work.now.items c.args.state.now c.args.n c.args.actuals c.requires.ready
-    unit c.enter.new.self c.as_slice-in-Ok.result c.push_reserved.new.self.items c.push_reserved-in-Ok.new.self.items
+    _ unit c.enter.new.self c.as_slice-in-Ok.result c.push_reserved.new.self.items c.push_reserved-in-Ok.new.self.items
     there c.as_slice-in-Ok.ensures c.push_reserved.ensures.items c.push_reserved-in-Ok.ensures.items
     (subst (λ (g : List Located). and_then (located_actuals g xs s) (λ formals. Ok (state_on_entry unit formals s)) ≡ Ok t)
     c.as_slice-2.ensures change) c.enter.ensures.sound deeper
@@ -61,3 +63,28 @@ returns-in-Err-clause-spend_unit c =
     there
     (subst (λ (g : List Located). Changes (and_then (located_actuals g xs s) (λ formals. Ok (state_on_entry unit formals s))) (Err c.in-Err.fault) s t)
     c.as_slice-2.ensures change) c.enter.ensures.sound deeper
+
+pub index-requires : goal.index-requires
+index-requires c =
+    let tree = c.args.tree.now in
+    let unit = c.index-as_slice-n.result in
+    let there =
+    call_unit tree c.requires.runnable _ c.args.work.now.items c.args.state.now c.args.n
+    c.args.actuals c.requires.ready _ unit c.as_slice.ensures c.index-as_slice-n.is in
+    let start = start_at c.args.plan.now.parts.items c.args.plan.now.starts.items tree.pous c.args.n 0 unit c.requires.starts there in
+    omega (arith, start.0, c.args.plan.now.starts.ok.0)
+
+pub returns-in-Ok-clause-planned : goal.returns-in-Ok-clause-planned
+returns-in-Ok-clause-planned c =
+    let tree = c.args.tree.now in
+    let plan = c.args.plan.now.parts.items in
+    let unit = c.index-as_slice-n.result in
+    let there =
+    call_unit tree c.requires.runnable _ c.args.work.now.items c.args.state.now c.args.n
+    c.args.actuals c.requires.ready _ unit c.as_slice.ensures c.index-as_slice-n.is in
+    let start = start_at plan c.args.plan.now.starts.items tree.pous c.args.n c.index.result.now unit c.requires.starts there in
+    goes_on plan c.push_reserved-in-Ok.new.self.items
+    (pushed plan c.push_reserved.new.self.items c.push_reserved-in-Ok.new.self.items _ c.push_reserved-in-Ok.ensures.items
+    (pushed plan c.args.work.now.items c.push_reserved.new.self.items _ c.push_reserved.ensures.items c.requires.planned tt)
+    (at_stands plan _ c.index.result.now (body_parts c.as_slice-in-Ok.result.now) (sym c.index.ensures)
+    (same_stands plan _ (body_parts unit.body) (body_parts c.as_slice-in-Ok.result.now) (ap body_parts (sym c.as_slice-in-Ok.ensures)) start.1)))

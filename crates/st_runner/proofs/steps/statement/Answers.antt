@@ -1,7 +1,10 @@
-use Rattle.st_tree.proofs.Common.{List, sym, subst, area_assignment, assignment}
+use Rattle.st_tree.proofs.Common.{List, length, sym, ap, ◌∙◌, subst, area_assignment, assignment}
 use Rattle.st_runner.proofs.Common.{Done, Changes, state_of, Expr, Arm, CaseArm, Located, Stmt}
 use Rattle.st_runner.proofs.Dones.{area_done, assign_done, continue_done, exit_done, return_done}
 use Rattle.st_tree.specs.declared.program.Stmt.TheVariants as stmt
+use Rattle.st_runner.proofs.Plans.{at_stands, case_planned, goes_on, one_further, same_stands, while_is, while_planned}
+use Rattle.st_runner.specs.inner.Plan.{body_parts, with_head, parts_of}
+use Rattle.st_runner.specs.declared.plan.Part.TheVariants as part
 use Rattle.st_runner.proofs.steps.statement.Goals as goal
 
 pub returns-in-Assign-clause-done : goal.returns-in-Assign-clause-done
@@ -56,3 +59,34 @@ returns-in-Continue-clause-done c = continue_done c.args.tree.now _ _ _ c.in-Con
 
 pub returns-in-Return-clause-done : goal.returns-in-Return-clause-done
 returns-in-Return-clause-done c = return_done c.args.tree.now _ _ _ c.in-Return.is c.return_unit.ensures.leaves
+
+pub choose_labelled-requires-clause-planned : goal.choose_labelled-requires-clause-planned
+choose_labelled-requires-clause-planned c =
+    case_planned c.args.plan.now c.args.at c.args.stmt.now c.in-Case.e c.as_slice-in-Case.result.now c.as_slice-in-Case-2.result.now
+    c.in-Case.arms c.in-Case.other c.in-Case.is c.as_slice-in-Case.ensures c.as_slice-in-Case-2.ensures c.requires.planned
+
+pub further-requires : goal.further-requires
+further-requires c =
+    let inside = body_parts c.in-While.body in
+    one_further c.args.plan.now c.args.at (part.Inside (length inside)) inside
+    (same_stands c.args.plan.now c.args.at (parts_of c.args.stmt.now) (with_head inside)
+    (ap parts_of c.in-While.is ∙ while_is c.in-While.test c.in-While.body) c.requires.planned)
+
+pub returns-in-While-clause-planned : goal.returns-in-While-clause-planned
+returns-in-While-clause-planned c =
+    record {
+      frames = c.requires.frames;
+      coming =
+          at_stands c.args.plan.now _ c.further.result (body_parts c.as_slice-in-While.result.now) (sym c.further.ensures)
+          (while_planned c.args.plan.now c.args.at c.args.stmt.now c.in-While.test c.as_slice-in-While.result.now c.in-While.body
+          c.in-While.is c.as_slice-in-While.ensures c.requires.planned);
+    }
+
+pub returns-in-Exit-clause-planned : goal.returns-in-Exit-clause-planned
+returns-in-Exit-clause-planned c = goes_on c.args.plan.now _ (c.exit_loop.ensures.leaves.planned c.args.plan.now c.requires.frames)
+
+pub returns-in-Continue-clause-planned : goal.returns-in-Continue-clause-planned
+returns-in-Continue-clause-planned c = goes_on c.args.plan.now _ (c.continue_loop.ensures.leaves.planned c.args.plan.now c.requires.frames)
+
+pub returns-in-Return-clause-planned : goal.returns-in-Return-clause-planned
+returns-in-Return-clause-planned c = goes_on c.args.plan.now _ (c.return_unit.ensures.leaves.planned c.args.plan.now c.requires.frames)
