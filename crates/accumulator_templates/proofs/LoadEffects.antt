@@ -17,7 +17,7 @@ use Rattle.stl_tree.specs.declared.program.LoadArg.TheVariants as arg
 use Rattle.stl_tree.specs.declared.program.Operand.{Operand}
 use Rattle.st_tree.specs.Meaning.{Calls, body_meaning}
 use Rattle.st_tree.specs.Operators.{converted_value}
-use Rattle.st_tree.specs.State.{State, read_place, with_register}
+use Rattle.st_tree.specs.State.{State, own_of, read_place, with_register}
 use Rattle.st_tree.specs.Value.{value}
 use Rattle.st_tree.specs.Values.{flag, type_of_width, typed}
 use Rattle.st_tree.specs.declared.expr.Expr.{Expr}
@@ -36,7 +36,7 @@ use Rattle.template_parts.specs.Fetching.{fetched_value_of, types_fetched}
 use Rattle.template_parts.specs.Related.{AreAlike, Frames, Related}
 use Rattle.instruction_laws.specs.Ranges.{AreInRange}
 use Rattle.template_parts.proofs.Alike.{keep_registers, same_areas}
-use Rattle.template_parts.specs.DoesInstruction.{DoesInstruction, Leads, Stops, own_of}
+use Rattle.template_parts.specs.DoesInstruction.{DoesInstruction, Leads, Stops}
 use Rattle.template_parts.proofs.Fetching.{fetch_effect, number_shown, number_value}
 use Rattle.template_parts.proofs.MemoryEffects.{by_value}
 

@@ -15,7 +15,7 @@ use Rattle.stl_tree.specs.Registers.{RegisterValues}
 use Rattle.stl_tree.specs.declared.program.OpenArg.TheVariants as arg
 use Rattle.stl_tree.specs.declared.program.Operand.{Operand}
 use Rattle.st_tree.specs.Meaning.{Calls, body_meaning}
-use Rattle.st_tree.specs.State.{State, read_place}
+use Rattle.st_tree.specs.State.{State, own_of, read_place}
 use Rattle.st_tree.specs.Value.{value}
 use Rattle.st_tree.specs.Values.{typed}
 use Rattle.st_tree.specs.declared.expr.Expr.{Expr}
@@ -31,7 +31,7 @@ use Rattle.template_parts.specs.Fetching.{fetched_value_of, types_fetched}
 use Rattle.template_parts.specs.Related.{Frames, Related}
 use Rattle.template_parts.proofs.Alike.{same_areas}
 use Rattle.instruction_laws.specs.Ranges.{AreInRange}
-use Rattle.template_parts.specs.DoesInstruction.{DoesInstruction, Stops, own_of}
+use Rattle.template_parts.specs.DoesInstruction.{DoesInstruction, Stops}
 use Rattle.template_parts.proofs.Fetching.{fetch_effect, number_shown, number_value}
 use Rattle.template_parts.proofs.MemoryEffects.{by_value}
 use Rattle.template_parts.proofs.RegisterEffects.{HasRegisterEffect, does_effect}

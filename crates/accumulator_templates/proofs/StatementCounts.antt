@@ -25,7 +25,7 @@ use Rattle.accumulator_templates.specs.Logic.{computed_of, fixed_of, logic_of, t
 use Rattle.accumulator_templates.specs.Moves.{exchange_of, load_of, pop_of, push_of, status_load_of, status_store_of, taken_of, transfer_of, types_of_exchange, types_of_load}
 use Rattle.accumulator_templates.specs.AccumulatorParts.{zero_extension_of}
 use Rattle.accumulator_templates.specs.Sums.{add_dword_of, add_word_of, dec_of, inc_of, unless_zero}
-use Rattle.template_parts.specs.Writes.{AreWrites}
+use Rattle.graph_rules.specs.Writes.{AreWrites}
 use Rattle.template_parts.specs.Builders.{set_of}
 use Rattle.template_parts.specs.Fetching.{fetch_of, fetched_value_of, reach_of, types_fetched, types_reached, writing_of}
 use Rattle.template_parts.specs.Nodes.{nodes, nodes_in}
@@ -39,7 +39,7 @@ use Rattle.template_parts.proofs.Sizes.{counts, of_append, of_assign, of_nothing
 
 -- statements behind those that fetch an operand, which set no more locals
 behind_few : (first : ℕ) (o : Operand) (w : Width) (body : List Stmt) (statements nodes : ℕ) → AreWrites body → length body ≡ statements → nodes_in body ≡ nodes
-    → statements ≤ 8 → nodes ≤ 78 → disorder (first + length (types_fetched o w)) body ≡ 0 → locals_set body ≡ 0
+    → statements ≤ 8 → nodes ≤ 78 → disorder first (first + length (types_fetched o w)) body ≡ 0 → locals_set body ≡ 0
     → HasSizes first (types_fetched o w) (fetch_of first o w ++ body)
 behind_few first o w body statements nodes b e f h k order none =
     let before : List Stmt = fetch_of first o w in
@@ -48,22 +48,22 @@ behind_few first o w body statements nodes b e f h k order none =
       writes = writes_in_parts before body (fetch_writes first o w) b;
       few = omega (arith, length-append before body, fetch_length first o w);
       small = omega (arith, of_append before body, fetch_nodes first o w);
-      order = disorder_in_parts first before body (fetch_disorder first o w) (ap (λ (n : ℕ). disorder (first + n) body) sets ∙ order);
+      order = disorder_in_parts first first before body (fetch_disorder first o w) (ap (λ (n : ℕ). disorder first (first + n) body) sets ∙ order);
       sets = omega (arith, sets_in_parts before body);
     }
 
-taken_disorder : (n : ℕ) (w : Width) (e : Expr) → misses n e ≡ 0 → disorder n (taken_of (zero_extension_of w e)) ≡ 0
-taken_disorder n width.Bit e low = simp (order_equations, low)
-taken_disorder n width.Byte e low = simp (order_equations, low)
-taken_disorder n width.Word e low = simp (order_equations, low)
-taken_disorder n width.Dword e low = simp (order_equations, low)
+taken_disorder : (first n : ℕ) (w : Width) (e : Expr) → misses first n e ≡ 0 → disorder first n (taken_of (zero_extension_of w e)) ≡ 0
+taken_disorder first n width.Bit e low = simp (order_equations, low)
+taken_disorder first n width.Byte e low = simp (order_equations, low)
+taken_disorder first n width.Word e low = simp (order_equations, low)
+taken_disorder first n width.Dword e low = simp (order_equations, low)
 
 -- L of an operand, by the expression as which it is read
-fetched_few : (first : ℕ) (o : Operand) (w : Width) (e : Expr) → nodes e ≡ 1 → misses (first + length (types_fetched o w)) e ≡ 0
+fetched_few : (first : ℕ) (o : Operand) (w : Width) (e : Expr) → nodes e ≡ 1 → misses first (first + length (types_fetched o w)) e ≡ 0
     → HasSizes first (types_fetched o w) (fetch_of first o w ++ taken_of (zero_extension_of w e))
-fetched_few first o w e one low = by w (taken_disorder (first + length (types_fetched o w)) w e low)
+fetched_few first o w e one low = by w (taken_disorder first (first + length (types_fetched o w)) w e low)
   where
-    by : (u : Width) → disorder (first + length (types_fetched o w)) (taken_of (zero_extension_of u e)) ≡ 0
+    by : (u : Width) → disorder first (first + length (types_fetched o w)) (taken_of (zero_extension_of u e)) ≡ 0
         → HasSizes first (types_fetched o w) (fetch_of first o w ++ taken_of (zero_extension_of u e))
     by width.Bit order = behind_few first o w _ 2 5 tt refl (simp (counts, one)) (omega arith) (omega arith) order refl
     by width.Byte order = behind_few first o w _ 2 3 tt refl (simp (counts, one)) (omega arith) (omega arith) order refl
@@ -75,7 +75,7 @@ load_few first (arg.At o w) = fetched_few first o w (fetched_value_of first o w)
 load_few first (arg.Constant c) = with_sizes _ 2 2 tt refl (simp counts) (omega arith) (omega arith) (simp order_equations) refl
 
 -- T of an operand, by the expression that it writes
-reached_few : (first : ℕ) (o : Operand) (w : Width) (e : Expr) (n : ℕ) → nodes e ≡ n → n ≤ 5 → ((many : ℕ) → misses many e ≡ 0)
+reached_few : (first : ℕ) (o : Operand) (w : Width) (e : Expr) (n : ℕ) → nodes e ≡ n → n ≤ 5 → ((many : ℕ) → misses first many e ≡ 0)
     → HasSizes first (types_reached o) (reach_of first o ++ (writing_of first o w e ∷ []))
 reached_few first o w e n same few none =
     let before : List Stmt = reach_of first o in
@@ -85,8 +85,8 @@ reached_few first o w e n same few none =
       writes = writes_in_parts before own (reach_writes first o) (writing_writes first o w e [] tt);
       few = omega (arith, length-append before own, reach_length first o);
       small = omega (arith, of_append before own, reach_nodes first o, writing_nodes first o w e [], of_nothing);
-      order = disorder_in_parts first before own (reach_disorder first o)
-          (ap (λ (n : ℕ). disorder (first + n) own) (reach_sets first o) ∙ writing_disorder many first o w e [] (omega arith) (none many) refl);
+      order = disorder_in_parts first first before own (reach_disorder first o)
+          (ap (λ (n : ℕ). disorder first (first + n) own) (reach_sets first o) ∙ writing_disorder many first o w e [] (omega arith) (none many) refl);
       sets = omega (arith, sets_in_parts before own, reach_sets first o, writing_sets first o w e []);
     }
 

@@ -14,7 +14,7 @@ use Rattle.stl_tree.specs.Instructions.{transfer_accu1}
 use Rattle.stl_tree.specs.Now.{Now}
 use Rattle.stl_tree.specs.declared.program.Operand.{Operand}
 use Rattle.st_tree.specs.Meaning.{Calls, body_meaning}
-use Rattle.st_tree.specs.State.{State, write_place}
+use Rattle.st_tree.specs.State.{State, own_of, write_place}
 use Rattle.st_tree.specs.Value.{value}
 use Rattle.st_tree.specs.Values.{flag, is_set, type_of_width}
 use Rattle.st_tree.specs.declared.state.Value.{Value}
@@ -27,7 +27,7 @@ use Rattle.accumulator_templates.proofs.Worths.{byte, dword, word}
 use Rattle.template_parts.specs.Builders.{read_of}
 use Rattle.template_parts.specs.Fetching.{types_reached}
 use Rattle.template_parts.specs.Related.{Frames, Related}
-use Rattle.template_parts.specs.DoesInstruction.{DoesInstruction, own_of}
+use Rattle.template_parts.specs.DoesInstruction.{DoesInstruction}
 use Rattle.template_parts.proofs.Fetching.{reach_effect}
 
 -- the lowest bits of an accumulator as a value of a width

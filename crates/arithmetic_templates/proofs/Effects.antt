@@ -13,12 +13,12 @@ use Rattle.stl_tree.specs.declared.accumulator.Arith.{Arith}
 use Rattle.stl_tree.specs.declared.accumulator.Arith.TheVariants as row
 use Rattle.stl_tree.specs.declared.program.Op.TheVariants as op
 use Rattle.st_tree.specs.Meaning.{Calls, body_meaning}
-use Rattle.st_tree.specs.State.{State}
+use Rattle.st_tree.specs.State.{State, own_of}
 use Rattle.st_tree.specs.declared.program.Located.{Located}
 use Rattle.st_tree.specs.declared.program.Stmt.{Stmt}
 use Rattle.template_parts.specs.Related.{Frames, Related}
 use Rattle.instruction_laws.specs.Ranges.{AreInRange}
-use Rattle.template_parts.specs.DoesInstruction.{DoesInstruction, own_of}
+use Rattle.template_parts.specs.DoesInstruction.{DoesInstruction}
 use Rattle.template_parts.proofs.RegisterEffects.{HasRegisterEffect, locals_set, does_effect}
 use Rattle.arithmetic_templates.specs.Calculations.{calculated_of, divisor_kept_of, negated_of, quotient_in_dword_of, quotient_in_words_of, remainder_in_dword_of, types_of_calculated, types_of_negated}
 use Rattle.arithmetic_templates.specs.Comparisons.{compared_of, types_of_compared}

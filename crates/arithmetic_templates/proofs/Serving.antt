@@ -12,7 +12,7 @@ use Rattle.stl_tree.specs.declared.program.Op.TheVariants as op
 use Rattle.graph_rules.proofs.Runs.{disorder, order_equations}
 use Rattle.template_parts.specs.Nodes.{nodes_in}
 use Rattle.template_parts.specs.Templates.{IsTemplate}
-use Rattle.template_parts.specs.Writes.{AreWrites}
+use Rattle.graph_rules.specs.Writes.{AreWrites}
 use Rattle.template_parts.proofs.Obligations.{is_template}
 use Rattle.template_parts.proofs.Sizes.{counts}
 use Rattle.template_parts.proofs.Typing.{no_statement}
@@ -27,7 +27,7 @@ use Rattle.arithmetic_templates.proofs.Effects.{calculated_does, calculated_loca
 module _ (first : ℕ) where
   -- by what is counted of them
   calculated_counts : (a : Arith) → AreWrites (calculated_of first a) → length (calculated_of first a) ≤ 11 → nodes_in (calculated_of first a) ≤ 91
-      → disorder first (calculated_of first a) ≡ 0 → IsTemplate (reads_of (op.Arith a)) first (types_of_calculated a) (calculated_of first a)
+      → disorder first first (calculated_of first a) ≡ 0 → IsTemplate (reads_of (op.Arith a)) first (types_of_calculated a) (calculated_of first a)
   calculated_counts a writes few small order =
       is_template (reads_of (op.Arith a)) first (types_of_calculated a) (calculated_of first a) writes few small
       (λ P h. calculated_reads P first [] tt a h) order (calculated_locals a first)
@@ -39,7 +39,7 @@ module _ (first : ℕ) where
   calculated_template other = calculated_counts other tt (omega arith) (simp counts (omega arith)) (simp order_equations (simp local_order))
 
   -- NEGI, and NEGD, which reads the same registers
-  negated_counts : (w : Width) → nodes_in (negated_of first w) ≤ 91 → disorder first (negated_of first w) ≡ 0
+  negated_counts : (w : Width) → nodes_in (negated_of first w) ≤ 91 → disorder first first (negated_of first w) ≡ 0
       → IsTemplate (reads_of (op.Unary unary.Negi)) first (types_of_negated w) (negated_of first w)
   negated_counts w small order =
       is_template (reads_of (op.Unary unary.Negi)) first (types_of_negated w) (negated_of first w) tt (omega arith) small
@@ -49,7 +49,7 @@ module _ (first : ℕ) where
   negated_template width.Dword = negated_counts width.Dword (simp counts (omega arith)) (simp order_equations (simp local_order))
   negated_template other = negated_counts other (simp counts (omega arith)) (simp order_equations (simp local_order))
 
-  compared_counts : (t : Test) (w : Width) → nodes_in (compared_of first t w) ≤ 91 → disorder first (compared_of first t w) ≡ 0
+  compared_counts : (t : Test) (w : Width) → nodes_in (compared_of first t w) ≤ 91 → disorder first first (compared_of first t w) ≡ 0
       → IsTemplate (reads_of (op.Compare t w)) first (types_of_compared w) (compared_of first t w)
   compared_counts t w small order =
       is_template (reads_of (op.Compare t w)) first (types_of_compared w) (compared_of first t w) tt (omega arith) small

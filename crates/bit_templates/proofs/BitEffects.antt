@@ -20,7 +20,7 @@ use Rattle.stl_tree.specs.declared.program.BitArg.TheVariants as arg
 use Rattle.stl_tree.specs.declared.program.Op.TheVariants as op
 use Rattle.stl_tree.specs.declared.program.Operand.{Operand}
 use Rattle.st_tree.specs.Meaning.{Calls, Normal, body_meaning}
-use Rattle.st_tree.specs.State.{State, with_register, write_place}
+use Rattle.st_tree.specs.State.{State, own_of, with_register, write_place}
 use Rattle.st_tree.specs.Value.{value}
 use Rattle.st_tree.specs.Values.{flag, is_set, number_of}
 use Rattle.st_tree.specs.declared.expr.BinaryOp.TheVariants as binary
@@ -36,7 +36,7 @@ use Rattle.template_parts.specs.Fetching.{fetched_value_of, types_fetched, types
 use Rattle.template_parts.specs.Related.{AreAlike, Frames, IsInMemory, Related, without_cells}
 use Rattle.template_parts.proofs.Cells.{write_alike, write_keeps_cells}
 use Rattle.template_parts.proofs.Alike.{keep_bits, keep_memory, same_areas}
-use Rattle.template_parts.specs.DoesInstruction.{DoesInstruction, Leads, own_of}
+use Rattle.template_parts.specs.DoesInstruction.{DoesInstruction, Leads}
 use Rattle.template_parts.proofs.Fetching.{bit_shown, fetch_effect, reach_effect}
 use Rattle.template_parts.proofs.MemoryEffects.{Writes, keeps_itself, write_goes_on, write_stops_at_place, write_stops_at_value}
 use Rattle.template_parts.proofs.Operands.{bit_holds, cleared_registers, clears, rlo_worth, sets}

@@ -12,7 +12,7 @@ use Rattle.stl_tree.specs.Instructions.{effect_of}
 use Rattle.stl_tree.specs.Now.{Now, next, with_status}
 use Rattle.stl_tree.specs.declared.program.Op.TheVariants as op
 use Rattle.st_tree.specs.Meaning.{Calls, Normal, body_meaning}
-use Rattle.st_tree.specs.State.{State, type_of_register, with_register}
+use Rattle.st_tree.specs.State.{State, own_of, type_of_register, with_register}
 use Rattle.st_tree.specs.Value.{value}
 use Rattle.st_tree.specs.declared.state.Value.{Value}
 use Rattle.st_tree.specs.Values.{flag, number_of}
@@ -30,10 +30,10 @@ use Rattle.bit_templates.specs.Brackets.{KeepsBracket, behind_close, bracket_at,
 use Rattle.template_parts.specs.Builders.{clear_or, literal_of, read_of, set_of}
 use Rattle.template_parts.specs.Related.{AreAlike, Frames, Related}
 use Rattle.template_parts.proofs.Alike.{keep_bits, keep_brackets, keep_local}
-use Rattle.template_parts.specs.DoesInstruction.{DoesInstruction, Leads, own_of}
+use Rattle.template_parts.specs.DoesInstruction.{DoesInstruction, Leads}
 use Rattle.bit_templates.specs.BitLaw.{Opens}
 use Rattle.template_parts.proofs.Operands.{cleared_registers, clears, rlo_worth, sets}
-use Rattle.template_parts.proofs.Locals.{local_read, local_wrote, own_set, set_length, set_other, set_same, with_own}
+use Rattle.st_tree.proofs.Locals.{local_read, local_wrote, own_set, set_length, set_other, set_same, with_own}
 use Rattle.bit_templates.proofs.Chains.{IsChain, checked_worth}
 use Rattle.template_parts.proofs.Truths.{literal_worth, register_worth}
 

@@ -23,13 +23,13 @@ use Rattle.bit_templates.specs.declared.chain.Chain.{Chain}
 use Rattle.bit_templates.specs.declared.chain.OpenBracket.{OpenBracket}
 use Rattle.s7_base.specs.declared.word.Width.TheVariants as width
 use Rattle.template_parts.specs.Builders.{and_of, clear_or, literal_of, local_of, not_of, read_of, set_of}
-use Rattle.template_parts.specs.Writes.{AreWrites}
+use Rattle.graph_rules.specs.Writes.{AreWrites}
 use Rattle.bit_templates.specs.Bits.{and_joined, answer_of, assigned_of, before_check, behind_check, check_of, checked_bit_of, check_value_of, edge_at, edge_of, falling, inverted_of, keep_of, next_rlo, or_alone_of, reset_value, rising, rlo_before_and, rlo_before_or, rlo_set, running_chain, saved_of, set_value, store_of, stored_of}
 use Rattle.bit_templates.specs.Brackets.{behind_close, close_of, open_of}
 
 -- Expressions
 
-of_answer : (t : Test) → nodes (answer_of t) ≤ 5
+pub of_answer : (t : Test) → nodes (answer_of t) ≤ 5
 of_answer test.Eq = omega (arith, of_joined binary.And (not_of (read_of reg.Cc1)) (not_of (read_of reg.Cc0)), of_not_register reg.Cc1, of_not_register reg.Cc0)
 of_answer test.Ne = omega (arith, of_joined binary.Xor (read_of reg.Cc1) (read_of reg.Cc0), of_register reg.Cc1, of_register reg.Cc0)
 of_answer test.Gt = omega (arith, of_joined binary.And (read_of reg.Cc1) (not_of (read_of reg.Cc0)), of_register reg.Cc1, of_not_register reg.Cc0)

@@ -16,7 +16,7 @@ use Rattle.stl_tree.specs.Now.{Now, next, with_memory, with_status, with_value}
 use Rattle.stl_tree.specs.declared.program.Op.TheVariants as op
 use Rattle.stl_tree.specs.declared.program.Operand.{Operand}
 use Rattle.st_tree.specs.Meaning.{Calls, body_meaning}
-use Rattle.st_tree.specs.State.{State, with_register, write_place}
+use Rattle.st_tree.specs.State.{State, own_of, with_register, write_place}
 use Rattle.st_tree.specs.Value.{value}
 use Rattle.st_tree.specs.Values.{flag, number_of}
 use Rattle.st_tree.specs.declared.expr.BinaryOp.TheVariants as binary
@@ -33,9 +33,9 @@ use Rattle.template_parts.specs.Builders.{clear_or, not_of, read_of, set_of}
 use Rattle.template_parts.specs.Fetching.{fetched_value_of, types_fetched, writing_of}
 use Rattle.template_parts.specs.Related.{AreAlike, Frames, IsInMemory, Related, without_cells}
 use Rattle.template_parts.proofs.Alike.{keep_bits, keep_local, same_areas}
-use Rattle.template_parts.specs.DoesInstruction.{DoesInstruction, Stops, own_of}
+use Rattle.template_parts.specs.DoesInstruction.{DoesInstruction, Stops}
 use Rattle.template_parts.proofs.Fetching.{bit_shown, fetch_effect, local_kept}
-use Rattle.template_parts.proofs.Locals.{local_read, local_wrote, own_length, own_other, own_same, with_own}
+use Rattle.st_tree.proofs.Locals.{local_read, local_wrote, own_length, own_other, own_same, with_own}
 use Rattle.template_parts.proofs.MemoryEffects.{KeepsWay, Writes, write_goes_on, write_stops_at_place}
 use Rattle.template_parts.proofs.Operands.{cleared_registers, clears, rlo_worth, sets}
 use Rattle.template_parts.proofs.Truths.{and_worth, not_stops, not_worth, right_stops}

@@ -1,10 +1,10 @@
 mod BitEffects
 mod BracketEffects
 mod Chains
-mod CountBits
+pub mod CountBits
 mod EdgeEffects
-mod OrderBits
-mod PlainBits
-mod ReadBits
+pub mod OrderBits
+pub mod PlainBits
+pub mod ReadBits
 pub mod Serving
-mod StatusEffects
+pub mod StatusEffects

@@ -43,7 +43,7 @@ module _ (sight : UnitScope) where
   cc0 : IsBool sight 1 (read_of reg.Cc0)
   cc0 = register_is sight reg.Cc0
 
-  answer_bool : (t : Test) → IsBool sight 4 (answer_of t)
+  pub answer_bool : (t : Test) → IsBool sight 4 (answer_of t)
   answer_bool test.Eq = more sight (omega arith) (and_is sight (not_is sight cc1) (not_is sight cc0))
   answer_bool test.Ne = more sight (omega arith) (xor_is sight cc1 cc0)
   answer_bool test.Gt = more sight (omega arith) (and_is sight cc1 (not_is sight cc0))

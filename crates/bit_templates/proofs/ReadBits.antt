@@ -28,7 +28,7 @@ use Rattle.stl_tree.specs.declared.program.BitArg.{BitArg}
 use Rattle.stl_tree.specs.declared.program.Op.TheVariants as op
 
 module _ (P : Reg → Type 0) where
-  answer_reads : (t : Test) → Has P (asked_by t) → Reads P (answer_of t)
+  pub answer_reads : (t : Test) → Has P (asked_by t) → Reads P (answer_of t)
   answer_reads test.Eq h =
       joined_reads P binary.And (not_of (read_of reg.Cc1)) (not_of (read_of reg.Cc0))
       (not_reads P (read_of reg.Cc1) (register_reads P reg.Cc1 (h reg.Cc1 (inl refl))))

@@ -1,4 +1,5 @@
 -- The statements of each instruction of bit logic serve it.
+use Rattle.st_tree.specs.State.{own_of}
 use Rattle.std.proofs.Common.{ℕ, ◌+◌, ◌≤◌, true, false, [], ◌∷◌, length, refl, arith}
 use Rattle.std.proofs.lemmas.List.{length-append}
 use Rattle.s7_base.specs.declared.check.Check.{Check}
@@ -11,7 +12,6 @@ use Rattle.stl_tree.specs.declared.program.BitArg.TheVariants as arg
 use Rattle.stl_tree.specs.declared.program.Op.TheVariants as op
 use Rattle.stl_tree.specs.declared.program.Operand.{Operand}
 use Rattle.st_tree.specs.declared.expr.StType.TheVariants as type
-use Rattle.template_parts.specs.DoesInstruction.{own_of}
 use Rattle.template_parts.specs.Fetching.{types_fetched, types_reached}
 use Rattle.template_parts.specs.Reading.{IsAmong}
 use Rattle.template_parts.specs.Templates.{IsPlainBody, Serves}
@@ -187,7 +187,7 @@ closing_serves kept c used room =
       few = close_length (bracket_at kept c);
       small = close_nodes (bracket_at kept c);
       reads = alone (AllRead P) body (close_reads P used [] tt (bracket_at kept c) (λ r among. among) (bracket_reads P used [] tt kept));
-      locals = ordered used 0 body (close_disorder used kept c room) (close_sets kept c);
+      locals = ordered kept used 0 body (close_disorder used kept c room) (close_sets kept c);
       plain = λ sight own. alone (IsPlainBody sight) body (bracket_plain sight (bracket_at kept c) [] (bracket_bool sight kept own) (no_statement sight));
     }
 

@@ -17,16 +17,16 @@ use Rattle.stl_tree.specs.declared.program.Op.TheVariants as op
 use Rattle.stl_tree.specs.declared.program.Operand.{Operand}
 use Rattle.st_tree.specs.Meaning.{Calls, Out, body_meaning}
 use Rattle.st_tree.specs.BodyParts.{reads_in}
-use Rattle.st_tree.specs.State.{State}
+use Rattle.st_tree.specs.State.{State, own_of}
 use Rattle.st_tree.specs.WellTyped.{UnitScope}
 use Rattle.st_tree.specs.declared.program.Located.{Located}
-use Rattle.template_parts.specs.DoesInstruction.{DoesInstruction, Leads, own_of}
+use Rattle.template_parts.specs.DoesInstruction.{DoesInstruction, Leads}
 use Rattle.template_parts.specs.Fetching.{types_fetched, types_reached}
 use Rattle.template_parts.specs.Nodes.{nodes_in}
 use Rattle.template_parts.specs.Reading.{EachRegister, IsAmong}
 use Rattle.template_parts.specs.Related.{Frames, Related}
 use Rattle.template_parts.specs.Templates.{AreInOrder, AreTyped, IsPlainBody, IsTemplate, Serves}
-use Rattle.template_parts.specs.Writes.{AreWrites}
+use Rattle.graph_rules.specs.Writes.{AreWrites}
 
 -- Brackets
 
@@ -57,7 +57,7 @@ pub record ServesClosing (kept : ℕ) (c : Check) (used : ℕ) : Type 0 where
   pub few : length (close_of (bracket_at kept c)) ≤ 11
   pub small : nodes_in (close_of (bracket_at kept c)) ≤ 91
   pub reads : EachRegister (λ (r : Reg). IsAmong r (reads_of op.Close)) (reads_in (close_of (bracket_at kept c)))
-  pub locals : AreInOrder used 0 (close_of (bracket_at kept c))
+  pub locals : AreInOrder kept used 0 (close_of (bracket_at kept c))
   pub plain : (sight : UnitScope) → AreTyped sight kept types_of_bracket
       → IsPlainBody sight (close_of (bracket_at kept c))
 

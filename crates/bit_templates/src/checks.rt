@@ -75,7 +75,7 @@ fn check_value(alloc: Global, first: u32, arg: &BitArg) -> Result<Expr, NoMemory
 }
 
 /// The answer of the status word to a test.
-fn answer(alloc: Global, test: Test) -> Result<Expr, NoMemory>
+pub fn answer(alloc: Global, test: Test) -> Result<Expr, NoMemory>
     ensures { IfOk result (λ value. value ≡ answer_of test) }
 {
     match test {

@@ -13,7 +13,7 @@ pub use bits::{
 };
 pub use brackets::{push_closed, push_opened, types_of_bracket};
 pub use chain::{Chain, OpenBracket};
-pub use checks::{push_checked, push_or_alone, types_checked};
+pub use checks::{answer, push_checked, push_or_alone, types_checked};
 
 mod bits;
 mod brackets;

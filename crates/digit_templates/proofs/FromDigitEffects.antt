@@ -18,7 +18,7 @@ use Rattle.stl_tree.specs.declared.program.Op.TheVariants as op
 use Rattle.st_tree.proofs.Equations.{assign_stops_at_value, value_convert, value_read, value_unary}
 use Rattle.st_tree.specs.Meaning.{Calls, body_meaning}
 use Rattle.st_tree.specs.Operators.{from_digits, unary_value}
-use Rattle.st_tree.specs.State.{State}
+use Rattle.st_tree.specs.State.{State, own_of}
 use Rattle.st_tree.specs.Value.{value}
 use Rattle.st_tree.specs.Values.{typed}
 use Rattle.st_tree.specs.declared.expr.StType.TheVariants as type
@@ -30,7 +30,7 @@ use Rattle.template_parts.specs.Builders.{convert_of, local_of, read_of, set_of,
 use Rattle.instruction_laws.specs.Ranges.{AreInRange}
 use Rattle.template_parts.specs.Related.{AreAlike, Frames, Related}
 use Rattle.template_parts.proofs.Alike.{same_areas}
-use Rattle.template_parts.specs.DoesInstruction.{DoesInstruction, own_of}
+use Rattle.template_parts.specs.DoesInstruction.{DoesInstruction}
 use Rattle.template_parts.proofs.Numbers.{pattern_below, put_low, same_pattern}
 use Rattle.template_parts.proofs.RegisterEffects.{HasRegisterEffect, registers_after, does_effect}
 use Rattle.template_parts.proofs.Stages.{known, parts, stage}

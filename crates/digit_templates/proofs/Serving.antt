@@ -15,17 +15,17 @@ use Rattle.digit_templates.proofs.PlainDigits.{btd_plain, btd_reads, bti_plain, 
 use Rattle.digit_templates.proofs.ToDigitEffects.{dtb_does, itb_does}
 
 module _ (first : ℕ) where
-  itb_order : disorder first (itb_of first) ≡ 0
+  itb_order : disorder first first (itb_of first) ≡ 0
   itb_order =
-      disorder_in_parts first
+      disorder_in_parts first first
       (measured_of type.Dint first (convert_of type.Int type.Dint (convert_of type.Dword type.Int (read_of reg.Accu1))) (pos 999))
       (written_of first (under_sign_of type.Dint (local_of first) (digits_of type.Dint (local_of (first + 1)) 2) (pos 0xF000))
       (with_low_of (convert_of type.Dint type.Word (local_of (first + 3)))))
       (simp order_equations (omega arith)) (simp order_equations (omega arith))
 
-  dtb_order : disorder first (dtb_of first) ≡ 0
+  dtb_order : disorder first first (dtb_of first) ≡ 0
   dtb_order =
-      disorder_in_parts first
+      disorder_in_parts first first
       (measured_of type.Lint first (convert_of type.Dint type.Lint (convert_of type.Dword type.Dint (read_of reg.Accu1))) (pos 9999999))
       (written_of first (under_sign_of type.Lint (local_of first) (digits_of type.Lint (local_of (first + 1)) 6) (pos 0xF0000000))
       (convert_of type.Lint type.Dword (local_of (first + 3))))

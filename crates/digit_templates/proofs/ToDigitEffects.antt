@@ -17,7 +17,7 @@ use Rattle.stl_tree.specs.Registers.{RegisterValues}
 use Rattle.stl_tree.specs.declared.accumulator.UnaryRow.TheVariants as row
 use Rattle.stl_tree.specs.declared.program.Op.TheVariants as op
 use Rattle.st_tree.specs.Meaning.{Calls, body_meaning}
-use Rattle.st_tree.specs.State.{State, with_register}
+use Rattle.st_tree.specs.State.{State, own_of, with_register}
 use Rattle.st_tree.specs.Value.{value}
 use Rattle.st_tree.specs.Values.{fit, flag, is_set, number_of}
 use Rattle.st_tree.specs.declared.expr.Expr.{Expr}
@@ -29,7 +29,7 @@ use Rattle.st_tree.specs.declared.state.Value.{Value}
 use Rattle.template_parts.specs.Builders.{constant_of, convert_of, local_of}
 use Rattle.template_parts.specs.Related.{AreAlike, Frames, Related}
 use Rattle.instruction_laws.specs.Ranges.{AreInRange}
-use Rattle.template_parts.specs.DoesInstruction.{DoesInstruction, own_of}
+use Rattle.template_parts.specs.DoesInstruction.{DoesInstruction}
 use Rattle.template_parts.proofs.Numbers.{or_numbers, put_low, wide_low}
 use Rattle.template_parts.proofs.RegisterEffects.{HasRegisterEffect, registers_after, does_effect}
 use Rattle.template_parts.proofs.Stages.{known, parts, stage}

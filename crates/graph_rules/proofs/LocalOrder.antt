@@ -6,14 +6,14 @@ use Rattle.st_tree.specs.declared.expr.Var.{Var}
 use Rattle.st_tree.specs.declared.expr.Var.TheVariants as var
 use Rattle.graph_rules.proofs.Runs.{missed}
 
-pub missed_none : (w : ℕ) → missed w [] ≡ 0
-missed_none w = refl
+pub missed_none : (low w : ℕ) → missed low w [] ≡ 0
+missed_none low w = refl
 
-pub missed_local : (w i : ℕ) (vs : List Var) → missed w (var.Local i ∷ vs) ≡ (suc i - w) + missed w vs
-missed_local w i vs = refl
+pub missed_local : (low w i : ℕ) (vs : List Var) → missed low w (var.Local i ∷ vs) ≡ (suc i - w) + (low - i) + missed low w vs
+missed_local low w i vs = refl
 
-pub missed_register : (w : ℕ) (r : Reg) (vs : List Var) → missed w (var.Register r ∷ vs) ≡ missed w vs
-missed_register w r vs = refl
+pub missed_register : (low w : ℕ) (r : Reg) (vs : List Var) → missed low w (var.Register r ∷ vs) ≡ missed low w vs
+missed_register low w r vs = refl
 
 pub itself : (n : ℕ) → n - n ≡ 0
 itself n = omega arith

@@ -1,3 +1,4 @@
 pub mod Divisors
 pub mod Plain
 pub mod Runs
+pub mod Writes

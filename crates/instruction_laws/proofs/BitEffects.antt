@@ -25,7 +25,7 @@ use Rattle.instruction_laws.proofs.Beside.{Alike, DoesAlike, beside, first_same,
 abbrev pub with_bits : (StatusBits → StatusBits) → RegisterValues → RegisterValues
 with_bits row r = record r { status = row r.status }
 
-abbrev BitsAlike : (StatusBits → StatusBits) → RegisterValues → RegisterValues → Type 0
+abbrev pub BitsAlike : (StatusBits → StatusBits) → RegisterValues → RegisterValues → Type 0
 BitsAlike row r s = Alike r s (with_bits row r) (with_bits row s)
 
 -- Checks
@@ -50,7 +50,7 @@ checks c b r s h reg.Sta = is_same refl
 checks c b r s h reg.Nfc = is_same refl
 checks c b r s h q = is_kept refl refl
 
-same_answer : (t : Test) (r s : RegisterValues) → AreSame (asked_by t) r s → answer_to t r.status ≡ answer_to t s.status
+pub same_answer : (t : Test) (r s : RegisterValues) → AreSame (asked_by t) r s → answer_to t r.status ≡ answer_to t s.status
 same_answer test.Eq r s h = λ i. not (h.0 i) && not (h.1.0 i)
 same_answer test.Ne r s h = λ i. (not (h.0 i) && h.1.0 i) || (h.0 i && not (h.1.0 i))
 same_answer test.Gt r s h = λ i. h.0 i && not (h.1.0 i)
@@ -122,7 +122,7 @@ end_alike r s q = is_kept refl refl
 
 -- Brackets
 
-opens : (r s : RegisterValues) → BitsAlike after_open r s
+pub opens : (r s : RegisterValues) → BitsAlike after_open r s
 opens r s reg.Orb = is_same refl
 opens r s reg.Sta = is_same refl
 opens r s reg.Nfc = is_same refl

@@ -39,3 +39,11 @@ too_wide h = by (h.registers reg.Accu1)
     by : IsLike reg.Accu1 (holding 1 0).registers (holding (2 ^ 32 + 1) 0).registers (holding 0 0).registers (holding (2 ^ 32) 0).registers → ⊥
     by (is_same e) = absurd (omega (arith, e))
     by (is_kept e f) = absurd (omega (arith, e))
+
+-- a state at a position of its body
+abbrev placed_at : ℕ → Now
+placed_at at = record (holding 0 0) { activations = record { block = 0; at = at; instance = 0; db = 0; di = 0; formals = [] } ∷ [] }
+
+-- where JL goes on depends on its position too, so states are alike after it only where their activations are the same
+elsewhere : AlikeFor (op.JumpList 1 9) (placed_at 0) (placed_at 4) → ⊥
+elsewhere h = absurd (omega (arith, h.0))

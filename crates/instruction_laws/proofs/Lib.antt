@@ -1,6 +1,8 @@
 mod Beside
 mod BitEffects
 mod InstructionEffects
+mod JumpCases
+mod JumpEffects
 mod LawCases
 mod Located
 mod LocatedCases

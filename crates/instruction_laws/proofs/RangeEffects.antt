@@ -1,5 +1,5 @@
 -- Each instruction keeps registers and memory in their ranges.
-use Rattle.std.proofs.Common.{◌≡◌, ℕ, zero, suc, ◌+◌, ◌-◌, ◌%◌, ◌^◌, ◌<◌, ◌≤◌, ◌==◌, pos, Bool, true, false, nat_lt, if◌then◌else◌, List, [], ◌∷◌, Option, Some, None, Result, Ok, Err, refl, subst, arith}
+use Rattle.std.proofs.Common.{◌≡◌, ℕ, zero, suc, ◌+◌, ◌-◌, ◌%◌, ◌^◌, ◌<◌, ◌≤◌, ◌==◌, pos, negsuc, Bool, true, false, not, nat_lt, if◌then◌else◌, List, [], ◌∷◌, Option, Some, None, Result, Ok, Err, refl, subst, arith}
 use Rattle.std.specs.Prelude.{ℤ, neg_ℤ, ◌+ℤ◌, ◌-ℤ◌, ◌*ℤ◌, int_div, int_rem, unsigned_abs, All}
 use Rattle.std.specs.Int.{from_bool}
 use Rattle.std.specs.Ordering.{int_eq}
@@ -16,15 +16,16 @@ use Rattle.s7_base.specs.declared.word.Width.{Width}
 use Rattle.s7_base.specs.declared.word.Width.TheVariants as width
 use Rattle.status_word.specs.Flags.{word_of}
 use Rattle.status_word.specs.Results.{after_shifted, after_zero_divisor}
-use Rattle.status_word.specs.StatusBits.{StatusBits, after_check, after_close, after_edge, after_store}
+use Rattle.status_word.specs.StatusBits.{StatusBits, after_check, after_close, after_edge, after_end, after_jump, after_store}
 use Rattle.stl_tree.specs.Accepted.{IsLoadable, IsOpenArg, IsOperand, IsPointerLoad, IsPointerStore}
-use Rattle.stl_tree.specs.Accumulators.{after_load, part, read_number, signed_part, with_part, write_number}
+use Rattle.stl_tree.specs.Accumulators.{after_addition, after_load, part, read_number, signed_part, with_number, with_part, write_number}
 use Rattle.stl_tree.specs.AddressRegisters.{amount_to_add, other_of, pointer_in, with_pointer}
 use Rattle.stl_tree.specs.Arithmetic.{both_in_words, after_arithmetic, quotient_in_dword, remainder_in_dword, arithmetic_of_numbers, width_of as arith_width}
 use Rattle.stl_tree.specs.Brackets.{closed_with}
 use Rattle.stl_tree.specs.Conversions.{with_digits, with_value_of_digits}
 use Rattle.stl_tree.specs.DataBlocks.{db_opened, di_opened}
 use Rattle.stl_tree.specs.Instructions.{at_edge, block_opened, effect_of, loaded_from, on_accu1, on_registers, on_status, pointed_from, pointer_stored, write_operand, store_where_rlo, taken}
+use Rattle.stl_tree.specs.Jumps.{after_test, ended_where, going_where, is_made, looped}
 use Rattle.stl_tree.specs.Now.{Now, Effect, next, with_memory, with_registers, with_status, with_value}
 use Rattle.stl_tree.specs.Operands.{OperandPlace, aimed_by, aimed_in, found_at, place_in, with_place}
 use Rattle.stl_tree.specs.Registers.{RegisterValues}
@@ -365,6 +366,21 @@ opens row keeps (open_arg.Number n) now is h =
     let most : n ≤ 65535 = is.1 in goes_on (row n now.registers) now h (keeps n now.registers h.registers (omega arith))
 opens row keeps (open_arg.At o) now is h = takes width.Word row o now is.1 h (λ v r few small. keeps v r small few)
 
+goes_where : (made : Bool) (to : ℕ) (now : Now) → IsInRange now → LeavesInRange (going_where made to now)
+goes_where true to now h = h
+goes_where false to now h = h
+
+loops : (to : ℕ) (now : Now) → IsInRange now → LeavesInRange (looped to now)
+loops to now h =
+    let a : ℕ = with_number width.Word now.registers.accu1 (signed_part width.Word now.registers.accu1 +ℤ negsuc 0) in
+    let small : a < 2 ^ 32 = with_number_below width.Word now.registers.accu1 (signed_part width.Word now.registers.accu1 +ℤ negsuc 0) h.registers.accu1 in
+    goes_where (not (part width.Word a == 0)) to (with_registers (after_addition width.Word (negsuc 0)) now)
+    (goes_on _ now h (accu1_kept a now.registers.status now.registers h.registers small))
+
+ends_where : (ended : Bool) (now : Now) → IsInRange now → LeavesInRange (ended_where ended now)
+ends_where true now h = flags_kept (after_end now.registers.status) now h
+ends_where false now h = flags_kept (after_jump now.registers.status) now h
+
 pub ranges_kept : RangesAreKept
 ranges_kept (op.Check c (arg.At o)) now is h =
     at_place o width.Bit now (λ p n. with_value (read_bit p n.memory) (λ b. on_status (after_check c b) n)) is h
@@ -430,4 +446,8 @@ ranges_kept (op.OpenDb d) now is h = opens db_opened db_kept d now is h
 ranges_kept (op.OpenDi d) now is h = opens di_opened di_kept d now is h
 ranges_kept op.ExchangeDb now is h = goes_on _ now h (blocks_kept now.registers.di now.registers.db now.registers h.registers h.registers.di h.registers.db)
 ranges_kept op.Nop now is h = h
+ranges_kept (op.Jump t to) now is h = goes_where (is_made t now.registers.status) to _ (flags_kept (after_test t now.registers.status) now h)
+ranges_kept (op.Loop to) now is h = loops to now h
+ranges_kept (op.JumpList count label) now is h = h
 ranges_kept op.BlockEnd now is h = flags_kept _ now h
+ranges_kept op.BlockEndIf now is h = ends_where now.registers.status.rlo now h

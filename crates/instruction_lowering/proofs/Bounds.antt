@@ -39,6 +39,21 @@ pub last_step : (side : Side) (size n units most at debt : ℕ) → at + 1 ≤ s
 last_step forth size n units most at debt within h = h.0
 last_step back size n units most at debt within h = omega arith
 
+-- the same steps from further on in the block
+pub far_step : (side : Side) (size n units most at to debt : ℕ) → at ≤ to → Within side size n units most at debt → Within side size n units most to debt
+far_step forth size n units most at to debt further within = within
+far_step back size n units most at to debt further within = omega arith
+
+-- a way to a node that is counted takes a unit of work; one that is not leads on
+pub counted_way : (side : Side) (size n units most at to debt : ℕ) → at ≤ size → Within side size n (suc units) most at debt
+    → Begun side size n units most to debt
+counted_way forth size n units most at to debt small within = let a = within.0 in let b = within.1 in (omega arith, omega arith)
+counted_way back size n units most at to debt small within = omega (arith, suc-mul units size)
+
+pub free_way : (side : Side) (size n units most at to debt : ℕ) → at ≤ to → Within side size n units most at debt → Begun side size n units most to debt
+free_way forth size n units most at to debt further within = let a = within.0 in let b = within.1 in (omega arith, omega arith)
+free_way back size n units most at to debt further within = omega arith
+
 -- the two sides
 abbrev pub IsForth : Side → Type 0
 IsForth forth = Unit {0}
@@ -56,6 +71,15 @@ no_step back size units most at debt small within = absurd (omega arith)
 pub no_first_step : (side : Side) (size units most at debt : ℕ) → at + 1 ≤ size → Begun side size 0 units most at debt → IsForth side
 no_first_step forth size units most at debt small begun = tt
 no_first_step back size units most at debt small begun = absurd (omega arith)
+
+-- where no unit is left for a way that is counted, the program has no step left, or the graph has not ended
+abbrev pub HasNoStep : Side → ℕ → Type 0
+HasNoStep forth n = n ≤ 0
+HasNoStep back n = Unit {0}
+
+pub no_unit : (side : Side) (size n most at debt : ℕ) → Within side size n 0 most at debt → HasNoStep side n
+no_unit forth size n most at debt within = within.0
+no_unit back size n most at debt within = tt
 
 -- where no node may follow the graph has not ended
 pub no_node : (side : Side) (size n units at debt : ℕ) → Begun side size (suc n) units 0 at debt → IsBack side

@@ -3,22 +3,15 @@ use Rattle.std.proofs.Common.{◌≡◌, ℕ, ◌≤◌, List, sym, subst, ◌�
 use Rattle.memory_areas.specs.Areas.{Contents}
 use Rattle.s7_base.specs.declared.check.Entry.{Entry}
 use Rattle.stl_tree.specs.Now.{Effect, enter, fault, go, leave, next}
-use Rattle.stl_tree.specs.declared.program.Op.{Op}
-use Rattle.stl_tree.specs.declared.program.Op.TheVariants as op
 use Rattle.st_tree.specs.Meaning.{Out, Faults, Normal}
-use Rattle.st_tree.specs.State.{State}
+use Rattle.st_tree.specs.State.{State, own_of}
 use Rattle.bit_templates.specs.Brackets.{KeepBrackets}
 use Rattle.bit_templates.specs.declared.chain.OpenBracket.{OpenBracket}
-use Rattle.template_parts.specs.DoesInstruction.{DoesInstruction, own_of}
+use Rattle.template_parts.specs.DoesInstruction.{DoesInstruction}
 use Rattle.template_parts.specs.Related.{Frames, Related}
 use Rattle.instruction_lowering.specs.declared.statements.LoweringContext.{LoweringContext}
 use Rattle.instruction_lowering.proofs.LeftBrackets.{LeavesBrackets}
 use Rattle.instruction_lowering.proofs.Temporaries.{Keeps, kept_below}
-
--- an instruction that stands inside a node: it doesn't end its block, nor will one that jumps
-abbrev pub IsInside : Op → Type 0
-IsInside op.BlockEnd = ⊥
-IsInside other = Unit {0}
 
 -- how its statements ended that began with these units and this memory: in a state that is related to the one
 -- after the instruction and keeps the brackets that are open at the spot behind it, with no unit taken; or by the

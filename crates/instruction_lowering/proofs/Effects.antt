@@ -12,19 +12,20 @@ use Rattle.stl_tree.specs.Now.{Now}
 use Rattle.stl_tree.specs.declared.program.Op.{Op}
 use Rattle.stl_tree.specs.declared.program.Op.TheVariants as op
 use Rattle.st_tree.specs.Meaning.{Calls, body_meaning}
-use Rattle.st_tree.specs.State.{State}
+use Rattle.st_tree.specs.State.{State, own_of}
 use Rattle.st_tree.specs.declared.program.Located.{Located}
 use Rattle.bit_templates.proofs.Serving.{bit_logic}
 use Rattle.bit_templates.specs.Brackets.{KeepBrackets, KeepsBracket, bracket_at, close_of}
 use Rattle.bit_templates.specs.declared.chain.Chain.{Chain}
 use Rattle.bit_templates.specs.declared.chain.OpenBracket.{OpenBracket}
-use Rattle.template_parts.specs.DoesInstruction.{Leads, own_of}
+use Rattle.template_parts.specs.DoesInstruction.{Leads}
 use Rattle.template_parts.specs.Related.{Frames, Related}
 use Rattle.instruction_lowering.specs.inner.Temporaries.{types_of}
 use Rattle.instruction_lowering.specs.declared.statements.LoweringContext.{LoweringContext}
 use Rattle.instruction_lowering.specs.inner.Templates.{context_after, close_innermost, more, outer_of, statements_of}
 use Rattle.instruction_lowering.proofs.LeftBrackets.{IsStraight, brackets_left}
-use Rattle.instruction_lowering.proofs.Does.{Does, IsInside, does_instruction}
+use Rattle.flow_laws.specs.Ways.{IsInside}
+use Rattle.instruction_lowering.proofs.Does.{Does, does_instruction}
 use Rattle.instruction_lowering.proofs.Serving.{serves}
 use Rattle.instruction_lowering.proofs.Temporaries.{Keeps, as_many, kept_below}
 
@@ -44,7 +45,11 @@ some_open (o ∷ outer) h e = cc
 pub straight_behind : (o : Op) → IsStraight o → (p : LoweringContext) → context_after o p ≡ more (types_of o) p
 straight_behind (op.Bracket c) h p = elim h [ ]
 straight_behind op.Close h p = elim h [ ]
+straight_behind (op.Jump t to) h p = elim h [ ]
+straight_behind (op.Loop to) h p = elim h [ ]
+straight_behind (op.JumpList count label) h p = elim h [ ]
 straight_behind op.BlockEnd h p = elim h [ ]
+straight_behind op.BlockEndIf h p = elim h [ ]
 straight_behind o h p = refl
 
 module _ (g : List Located) (calls : Calls) (units : ℕ) (frames : Frames) (now : Now) (s : State)
@@ -128,5 +133,9 @@ module _ (g : List Located) (calls : Calls) (units : ℕ) (frames : Frames) (now
   does (op.Bracket c) inside operand stands room = open_does c (free (nat_lt (length p.brackets) most_open) (length p.brackets) stands) room
   does op.Close inside operand stands room =
       by_open p.brackets now.brackets refl refl (some_open p.brackets stands) keeps.1
+  does (op.Jump t to) inside operand stands room = elim inside [ ]
+  does (op.Loop to) inside operand stands room = elim inside [ ]
+  does (op.JumpList count label) inside operand stands room = elim inside [ ]
   does op.BlockEnd inside operand stands room = elim inside [ ]
+  does op.BlockEndIf inside operand stands room = elim inside [ ]
   does o inside operand stands room = straight_does o tt operand room

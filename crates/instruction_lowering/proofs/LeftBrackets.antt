@@ -76,11 +76,15 @@ left_at_place entries (operand.Crossing r offset) now effect e h =
 
 -- Instructions
 
--- an instruction opens and closes no bracket, and doesn't end its block
+-- an instruction opens and closes no bracket, does not jump, and does not end its block
 abbrev pub IsStraight : Op → Type 0
 IsStraight (op.Bracket c) = ⊥
 IsStraight op.Close = ⊥
+IsStraight (op.Jump t to) = ⊥
+IsStraight (op.Loop to) = ⊥
+IsStraight (op.JumpList count label) = ⊥
 IsStraight op.BlockEnd = ⊥
+IsStraight op.BlockEndIf = ⊥
 IsStraight other = Unit {0}
 
 module _ (now : Now) where
@@ -146,7 +150,11 @@ module _ (now : Now) where
   brackets_left (op.Check c (arg.Flag t)) h = refl
   brackets_left (op.Bracket c) h = elim h [ ]
   brackets_left op.Close h = elim h [ ]
+  brackets_left (op.Jump t to) h = elim h [ ]
+  brackets_left (op.Loop to) h = elim h [ ]
+  brackets_left (op.JumpList count label) h = elim h [ ]
   brackets_left op.BlockEnd h = elim h [ ]
+  brackets_left op.BlockEndIf h = elim h [ ]
   brackets_left (op.Assign o) h =
       left_at_place now.brackets o now
       (λ q after. with_memory (write_bit q after.registers.status.rlo after.memory) after

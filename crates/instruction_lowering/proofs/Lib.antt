@@ -2,13 +2,20 @@ pub mod BlockBytes
 pub mod Bodies
 pub mod Bounds
 pub mod LeftBrackets
+pub mod LocalTests
 pub mod Does
 pub mod Names
+pub mod NodeBounds
+mod NodeCases
+pub mod NodeLoops
+pub mod Nodes
 pub mod PlainGraph
 pub mod ProperNames
 pub mod Effects
 pub mod Same
 pub mod Serving
 pub mod Simulation
+pub mod SpotLaws
+pub mod Spots
 pub mod Temporaries
 pub mod TemporaryNames

@@ -1,15 +1,20 @@
 -- A program and its graph program mean the same.
-use Rattle.std.proofs.Common.{◌≡◌, ℕ, zero, suc, ◌*◌, ◌≤◌, ◌==◌, false, List, [], ◌∷◌, map, length, Option, Some, None, refl, sym, ap, ◌∙◌, subst, arith, true}
-use Rattle.std.specs.Prelude.{All, IsSome, find, option_map}
-use Rattle.std.proofs.lemmas.Simd.{map-map}
+use Rattle.std.proofs.Common.{◌≡◌, ℕ, zero, suc, ◌-◌, ◌*◌, ◌<◌, ◌≤◌, Bool, not, cond, false, List, [], ◌∷◌, map, length, Option, Some, None, refl, sym, ap, ◌∙◌, subst, arith, true}
+use Rattle.std.specs.Prelude.{All, IsSome, find, flat_map, nat_lt, option_map, slice_get}
+use Rattle.std.proofs.lemmas.Bool.{ltb-true}
 use Rattle.memory_areas.specs.Areas.{Areas, with_areas, IsMemoryOf}
 use Rattle.memory_areas.specs.End.{Ended, Going}
+use Rattle.flow_graph.specs.Graphs.{IsGraphOf, extent_of}
+use Rattle.flow_graph.specs.declared.graph.Graph.{Graph}
+use Rattle.flow_graph.specs.declared.graph.Node.{Node}
+use Rattle.graph_rules.specs.Plain.{tests_of}
 use Rattle.s7_base.specs.declared.outcome.Fault.{Fault}
 use Rattle.s7_base.specs.declared.register.Reg.TheVariants as reg
-use Rattle.stl_tree.specs.Accepted.{IsAccepted, IsAcceptedBlock, IsEnded}
+use Rattle.stl_tree.specs.Accepted.{IsAccepted, IsAcceptedBlock}
+use Rattle.stl_tree.specs.Blocks.{instructions_of}
 use Rattle.stl_tree.specs.Now.{Activation, Now}
 use Rattle.stl_tree.specs.Registers.{start}
-use Rattle.stl_tree.specs.StlRun.{HasNoInstance, block_called, block_named, end_of, first_activation, running, size_of, steps_on, stl_run}
+use Rattle.stl_tree.specs.StlRun.{HasNoInstance, block_called, block_named, end_of, first_activation, is_same_name, running, size_of, steps_on, stl_run}
 use Rattle.stl_tree.specs.declared.program.Block.{Block}
 use Rattle.stl_tree.specs.declared.program.Formal.{Formal}
 use Rattle.memory_areas.specs.declared.call.BlockName.{BlockName}
@@ -21,35 +26,35 @@ use Rattle.st_tree.proofs.FittingStart.{memory_holds}
 use Rattle.st_tree.specs.GraphRun.{Counting, FitsGraph, counted_run, each_node, each_pass, graph_run, heads_of, longest, most_nodes, nodes_do, pass_run, run_of_graph}
 use Rattle.st_tree.specs.Meaning.{Continues, Exits, Faults, NoUnits, Normal, Out, Returns}
 use Rattle.st_tree.specs.StRun.{FitsIfThere, FitsUnit, all_zero, end_seen, formals_given, is_meant, is_program, registers_at_start, state_at_start, unit_called}
-use Rattle.st_tree.specs.State.{State}
+use Rattle.st_tree.specs.State.{State, own_of}
 use Rattle.st_tree.specs.declared.graph.GraphPou.{GraphPou}
 use Rattle.st_tree.specs.declared.graph.GraphProgram.{GraphProgram}
+use Rattle.st_tree.specs.declared.graph.StNode.{StNode}
 use Rattle.st_tree.specs.declared.program.Pou.{Pou}
 use Rattle.st_tree.specs.declared.program.StProgram.{StProgram}
-use Rattle.instruction_lowering.specs.Lowered.{AreUnitsOf, HasFormalsOf, IsExitBehind, IsExitOf, IsHeadOf, IsKindOf, IsNodeOf, IsRead, IsUnitOf, Lowered, SameGraphRuns, ends_block, is_end_alone}
+use Rattle.instruction_lowering.specs.Lowered.{AreNodesOf, AreUnitsOf, HasFormalsOf, IsHeadOf, IsKindOf, IsNodeOf, IsRead, IsUnitOf, Lowered, SameGraphRuns}
 use Rattle.instruction_lowering.specs.inner.Temporaries.{types_in}
-use Rattle.instruction_lowering.specs.inner.Lowering.{head_for, graph_program_of, node_of, steps_of, temporaries, unit_of, used_behind}
-use Rattle.instruction_lowering.specs.inner.Templates.{first_context}
+use Rattle.instruction_lowering.specs.inner.Lowering.{AreMadeOf, IsMadeOf, head_for, graph_program_with, nodes_of, temporaries, unit_of, used_behind}
+use Rattle.instruction_lowering.specs.inner.Templates.{context_from}
 use Rattle.instruction_laws.specs.Ranges.{AreInRange}
 use Rattle.template_parts.specs.Related.{AreAlike, AreFormals, Related}
 use Rattle.template_parts.proofs.Alike.{same_areas}
-use Rattle.instruction_lowering.proofs.PlainGraph.{are_named, unit_bounds}
+use Rattle.template_parts.proofs.ReadRegisters.{both_read}
+use Rattle.instruction_lowering.proofs.Bodies.{tests_in}
+use Rattle.instruction_lowering.proofs.NodeBounds.{exit_is, few_tests, many, many_tests, nodes_of_tests, reads_none}
+use Rattle.instruction_lowering.proofs.Nodes.{has_nodes}
+use Rattle.instruction_lowering.proofs.PlainGraph.{are_named, as_many, both_some, bounds, node_here, node_made, shape}
 use Rattle.instruction_lowering.proofs.Bounds.{Begun, Side, back, begun_back, begun_forth, forth}
 use Rattle.instruction_lowering.proofs.Names.{IsAt, IsNumbered, block_at, block_of, found_each, found_numbered, found_of, found_size, meant, none_of, not_meant, position_of}
+use Rattle.instruction_lowering.proofs.Spots.{HasBlock}
 use Rattle.instruction_lowering.proofs.TemporaryNames.{so_many}
-use Rattle.instruction_lowering.proofs.Temporaries.{Keeps}
 use Rattle.st_tree.specs.Calls.{activation_of, zero_of}
 use Rattle.st_tree.specs.declared.state.Reference.{Reference}
-use Rattle.std.proofs.lemmas.Bool.Decides.{nat_tests}
-use Rattle.std.proofs.lemmas.List.{append-nil, length-map}
-use Rattle.st_tree.specs.BodyParts.{reads_in}
-use Rattle.st_tree.specs.declared.graph.StExit.TheVariants as exit_of
-use Rattle.st_tree.specs.declared.program.Stmt.{Stmt}
+use Rattle.std.proofs.lemmas.List.{length-map}
+use Rattle.st_tree.specs.BodyParts.{reads_in, reads_of as variables_of}
 use Rattle.stl_tree.specs.declared.program.Instr.{Instr}
-use Rattle.stl_tree.specs.declared.program.Op.{Op}
-use Rattle.template_parts.specs.Reading.{EachRegister}
 use Rattle.std.proofs.lemmas.List.Elements.{All-head, All-tail}
-use Rattle.instruction_lowering.proofs.Simulation.{Follows, Sees, Stack, at_node, both_end, ran, running_on, through, used_behind_all}
+use Rattle.instruction_lowering.proofs.Simulation.{Follows, Sees, Stack, at_node, both_end, ran, running_on, through}
 
 -- Units
 
@@ -73,39 +78,53 @@ head_is b h =
       body = refl;
     }
 
--- a body that has its end word is left by it
-ends_by_end : (body : List Instr) → IsEnded body → IsExitOf body exit_of.End
-ends_by_end [] h = elim h [ ]
-ends_by_end (i ∷ []) h = subst (λ (o : Op). IsExitBehind o exit_of.End) (sym h) refl
-ends_by_end (i ∷ j ∷ rest) h = ends_by_end (j ∷ rest) h
+-- A node and its block
 
-two_more : (n : ℕ) → (suc (suc n) == 1) ≡ false
-two_more n = grind (arith, nat_tests)
+module _ (b : Block) (h : IsAcceptedBlock b) (graph : Graph) (is_graph : IsGraphOf b.body graph) where
+  node_is : (i : ℕ) (x : Node) (there : slice_get graph.nodes i ≡ Some x) → IsNodeOf b.body x (node_here b h graph is_graph [] i x there)
+  node_is i x there =
+      let bound = bounds b h graph is_graph [] i x there in
+      let is : List Instr = instructions_of b.body (extent_of x) in
+      let node : StNode = node_here b h graph is_graph [] i x there in
+      let last : ℕ = used_behind (context_from (node_made b h graph is_graph [] i x there).from) is - 1 in
+      let few : many x.exit ≤ tests_in is = few_tests graph.nodes i is x.first x.exit (shape b h graph is_graph [] i x there).goes in
+      record {
+        exit = exit_is last x.exit;
+        only_end = refl;
+        steps = bound.writes;
+        reads = both_read (IsRead is) (reads_in node.steps) (flat_map variables_of (tests_of node.exit)) bound.reads (reads_none (IsRead is) last x.exit);
+        few = omega (arith, bound.few, many_tests last x.exit);
+        small = omega (arith, bound.small, nodes_of_tests last x.exit);
+      }
 
-end_alone : (body : List Instr) → IsEnded body → (length body == 1) ≡ is_end_alone body
-end_alone [] h = elim h [ ]
-end_alone (i ∷ []) h = sym (ap ends_block h)
-end_alone (i ∷ j ∷ rest) h = two_more (length rest)
+  -- there is one for each block
+  each_is : (blocks : List Node) (nodes : List StNode) → length nodes ≡ length blocks
+      → ((i : ℕ) (x : Node) (node : StNode) → slice_get blocks i ≡ Some x → slice_get nodes i ≡ Some node → IsNodeOf b.body x node)
+      → AreNodesOf b.body blocks nodes
+  each_is [] [] long each = tt
+  each_is [] (n ∷ nodes) long each = cc
+  each_is (x ∷ blocks) [] long each = cc
+  each_is (x ∷ blocks) (n ∷ nodes) long each = (each 0 x n refl refl, each_is blocks nodes (omega (arith, long)) (λ i y m e f. each (suc i) y m e f))
 
-node_is : (b : Block) → IsAcceptedBlock b → IsNodeOf b.body (node_of b.body)
-node_is b h =
-    let bounds = unit_bounds b h in
-    let steps : List Stmt = steps_of first_context b.body in
-    record {
-      exit = ends_by_end b.body h.ends;
-      only_end = end_alone b.body h.ends;
-      steps = bounds.writes;
-      reads = subst (EachRegister (IsRead b.body)) (sym (append-nil (reads_in steps))) bounds.reads;
-      few = omega (arith, bounds.few);
-      small = omega (arith, bounds.small);
-    }
+  nodes_are : AreNodesOf b.body graph.nodes (nodes_of b.body graph.nodes)
+  nodes_are =
+      each_is graph.nodes (nodes_of b.body graph.nodes) (as_many b h graph is_graph)
+      (λ i x node there e.
+      let made_node = (node_made b h graph is_graph [] i x there).node in
+      let same : node_here b h graph is_graph [] i x there ≡ node = both_some (node_here b h graph is_graph [] i x there) node (sym made_node ∙ e) in
+      subst (IsNodeOf b.body x) same (node_is i x there))
 
-unit_is : (b : Block) → IsAcceptedBlock b → IsUnitOf b (unit_of b)
-unit_is b h = record { head = head_is b h; nodes = (node_is b h, tt) }
+unit_is : (b : Block) → IsAcceptedBlock b → (unit : GraphPou) → IsMadeOf b unit → IsUnitOf b unit
+unit_is b h unit made =
+    subst (IsUnitOf b) (sym made.unit)
+    (record { head = head_is b h; graph = made.graph; is_graph = made.is_graph; nodes = nodes_are b h made.graph made.is_graph })
 
-units_of : (blocks : List Block) → All IsAcceptedBlock blocks → AreUnitsOf blocks (map unit_of blocks)
-units_of [] h = tt
-units_of (b ∷ bs) h = (unit_is b (All-head IsAcceptedBlock b bs h), units_of bs (All-tail IsAcceptedBlock b bs h))
+units_of : (blocks : List Block) (units : List GraphPou) → All IsAcceptedBlock blocks → AreMadeOf blocks units → AreUnitsOf blocks units
+units_of [] [] h made = tt
+units_of [] (u ∷ units) h made = elim made [ ]
+units_of (b ∷ bs) [] h made = elim made [ ]
+units_of (b ∷ bs) (u ∷ units) h made =
+    (unit_is b (All-head IsAcceptedBlock b bs h) u made.0, units_of bs units (All-tail IsAcceptedBlock b bs h) made.1)
 
 -- The block that is called
 
@@ -134,22 +153,64 @@ seen_through (Returns units s) = refl
 seen_through (Faults f s) = refl
 seen_through (NoUnits s) = refl
 
+-- the heads of units are those of their blocks
+heads_made : (blocks : List Block) (units : List GraphPou) → AreMadeOf blocks units
+    → map (λ (u : GraphPou). u.head) units ≡ map (λ (b : Block). head_for b) blocks
+heads_made [] [] made = refl
+heads_made [] (u ∷ units) made = elim made [ ]
+heads_made (b ∷ bs) [] made = elim made [ ]
+heads_made (b ∷ bs) (u ∷ units) made =
+    ap (λ (u : GraphPou). u.head ∷ map (λ (u : GraphPou). u.head) units) made.0.unit ∙ ap (λ (hs : List Pou). head_for b ∷ hs) (heads_made bs units made.1)
+
 -- heads are found as blocks are
-heads_found : (n : ℕ) → IsNumbered (name.Ob n) → (blocks : List Block) → All IsAcceptedBlock blocks →
-    unit_called (name.Ob n) (map (λ (u : GraphPou). u.head) (map unit_of blocks)) ≡ option_map (λ (b : Block). head_for b) (block_of (name.Ob n) blocks)
-heads_found n h blocks formed =
-    ap (unit_called (name.Ob n)) (map-map (λ (u : GraphPou). u.head) unit_of blocks)
+heads_found : (n : ℕ) → IsNumbered (name.Ob n) → (blocks : List Block) (units : List GraphPou) → AreMadeOf blocks units → All IsAcceptedBlock blocks →
+    unit_called (name.Ob n) (map (λ (u : GraphPou). u.head) units) ≡ option_map (λ (b : Block). head_for b) (block_of (name.Ob n) blocks)
+heads_found n h blocks units made formed =
+    ap (unit_called (name.Ob n)) (heads_made blocks units made)
     ∙ found_of Pou (λ (b : Block). head_for b) (is_meant (name.Ob n)) (name.Ob n) (meant n h) blocks formed
 
-no_head : (called : BlockName) → is_program called ≡ false → (blocks : List Block)
-    → unit_called called (map (λ (u : GraphPou). u.head) (map unit_of blocks)) ≡ None
-no_head called h blocks =
-    ap (unit_called called) (map-map (λ (u : GraphPou). u.head) unit_of blocks)
+no_head : (called : BlockName) → is_program called ≡ false → (blocks : List Block) (units : List GraphPou) → AreMadeOf blocks units
+    → unit_called called (map (λ (u : GraphPou). u.head) units) ≡ None
+no_head called h blocks units made =
+    ap (unit_called called) (heads_made blocks units made)
     ∙ none_of Pou (λ (b : Block). head_for b) (is_meant called) (not_meant called h) blocks
+
+-- a unit is found as its block is
+record IsFoundFor (n : ℕ) (units : List GraphPou) (b : Block) : Type 0 where
+  unit : GraphPou
+  found : find (λ (u : GraphPou). is_meant (name.Ob n) u.head) units ≡ Some unit
+  made : IsMadeOf b unit
+
+unit_found : (n : ℕ) → IsNumbered (name.Ob n) → (blocks : List Block) (units : List GraphPou) → AreMadeOf blocks units → All IsAcceptedBlock blocks
+    → (b : Block) → block_of (name.Ob n) blocks ≡ Some b → IsFoundFor n units b
+unit_found n h [] [] made formed b e = cc
+unit_found n h [] (u ∷ units) made formed b e = elim made [ ]
+unit_found n h (x ∷ blocks) [] made formed b e = elim made [ ]
+unit_found n h (x ∷ blocks) (u ∷ units) made formed b e =
+    by (is_same_name x.name (name.Ob n))
+    (ap (λ (u : GraphPou). is_meant (name.Ob n) u.head) made.0.unit ∙ meant n h x (All-head IsAcceptedBlock x blocks formed)) e
+    (λ f. unit_found n h blocks units made.1 (All-tail IsAcceptedBlock x blocks formed) b f)
+  where
+    by : (same : Bool) → is_meant (name.Ob n) u.head ≡ same → cond same (Some x) (block_of (name.Ob n) blocks) ≡ Some b
+        → (block_of (name.Ob n) blocks ≡ Some b → IsFoundFor n units b) → IsFoundFor n (u ∷ units) b
+    by true is e others =
+        let one : x ≡ b = cc in
+        record {
+          unit = u;
+          found = ap (λ (t : Bool). cond t (Some u) (find (λ (u : GraphPou). is_meant (name.Ob n) u.head) units)) is;
+          made = subst (λ (y : Block). IsMadeOf y u) one made.0;
+        }
+    by false is e others =
+        let found = others e in
+        record {
+          unit = found.unit;
+          found = ap (λ (t : Bool). cond t (Some u) (find (λ (u : GraphPou). is_meant (name.Ob n) u.head) units)) is ∙ found.found;
+          made = found.made;
+        }
 
 -- Runs
 
-module _ (program : Program) (formed : All IsAcceptedBlock program.blocks) (call : Call)
+module _ (program : Program) (formed : All IsAcceptedBlock program.blocks) (units : List GraphPou) (made : AreMadeOf program.blocks units) (call : Call)
     (i : ℕ) (called : block_called call.block program.blocks ≡ Some i) where
   at : IsAt call.block program.blocks i
   at = block_at call.block program.blocks i (named_of call.block program.blocks i called)
@@ -158,7 +219,7 @@ module _ (program : Program) (formed : All IsAcceptedBlock program.blocks) (call
   b = at.block
 
   abbrev graph : GraphProgram
-  graph = graph_program_of program
+  graph = graph_program_with program units
 
   number : (n : ℕ) × (call.block ≡ name.Ob n)
   number = number_of call.block program.blocks i called
@@ -169,12 +230,20 @@ module _ (program : Program) (formed : All IsAcceptedBlock program.blocks) (call
   found : block_of (name.Ob number.0) program.blocks ≡ Some b
   found = ap (λ (called : BlockName). block_of called program.blocks) (sym number.1) ∙ at.found
 
+  formed_block : IsAcceptedBlock b
+  formed_block = found_each IsAcceptedBlock call.block program.blocks b at.found formed
+
+  unit : IsFoundFor number.0 units b
+  unit = unit_found number.0 numbered program.blocks units made formed b found
+
+  abbrev cut : Graph
+  cut = unit.made.graph
+
   -- the call finds the unit of the block
-  unit_there : find (λ (u : GraphPou). is_meant call.block u.head) (map unit_of program.blocks) ≡ Some (unit_of b)
+  unit_there : find (λ (u : GraphPou). is_meant call.block u.head) units ≡ Some (unit_of b cut)
   unit_there =
-      ap (λ (called : BlockName). find (λ (u : GraphPou). is_meant called u.head) (map unit_of program.blocks)) number.1
-      ∙ found_of GraphPou unit_of (λ (u : GraphPou). is_meant (name.Ob number.0) u.head) (name.Ob number.0) (meant number.0 numbered) program.blocks formed
-      ∙ ap (option_map unit_of) found
+      ap (λ (called : BlockName). find (λ (u : GraphPou). is_meant called u.head) units) number.1
+      ∙ unit.found ∙ ap Some unit.made.unit
 
   abbrev first : Activation
   first = record { block = i; at = 0; instance = 0; db = 0; di = 0; formals = [] }
@@ -225,22 +294,33 @@ module _ (program : Program) (formed : All IsAcceptedBlock program.blocks) (call
   abbrev total : ℕ
   total = length (types_in b.body)
 
-  enough : used_behind first_context b.body ≤ total
-  enough = let h = used_behind_all b.body first_context in omega arith
+  start_long : (memory : Areas) → length (own_of (state memory).activations) ≡ total
+  start_long memory = length-map (temporaries 0 (types_in b.body)) zero_of ∙ so_many 0 (types_in b.body)
 
-  start_keeps : (memory : Areas) → Keeps total first_context [] (state memory).activations
-  start_keeps memory = (length-map (temporaries 0 (types_in b.body)) zero_of ∙ so_many 0 (types_in b.body), tt)
+  -- the block and its nodes
+  has_block : HasBlock program (size_of program) i
+  has_block =
+      record {
+        block = b;
+        there = at.there;
+        fits = found_size call.block program.blocks b at.found;
+        blocks = cut.nodes;
+        nodes = nodes_of b.body cut.nodes;
+        total = total;
+        unit =
+            has_nodes b.body cut formed_block.jumps unit.made.is_graph formed_block.operands formed_block.brackets formed_block.ends;
+      }
 
   -- behind the first block nothing follows
-  nothing_follows : (counts : Counting) (side : Side) (n : ℕ)
-      → Follows program graph counts side (size_of program) n first alone (λ units s. Ended s.memory.areas None) 0
-  nothing_follows counts side n j small units within to after s handed =
+  nothing_follows : (counts : Counting) (free : (i j : ℕ) → counts i j ≡ false → i < j) (side : Side) (n : ℕ)
+      → Follows program graph counts free side (size_of program) n first alone (λ units s. Ended s.memory.areas None) 0
+  nothing_follows counts free side n j small units within to after s handed =
       both_end side _ _
       (ap end_of (over_stays j after.memory None)
       ∙ sym (ap (λ (m : Areas). Ended m None) (same_areas (running_on alone (record first { at = to })) after s handed)))
 
   abbrev graph_from : Counting → Areas → ℕ → ℕ → Out
-  graph_from counts memory most units = nodes_do counts graph most (node_of b.body ∷ []) 0 units (state memory)
+  graph_from counts memory most units = nodes_do counts graph most (nodes_of b.body cut.nodes) 0 units (state memory)
 
   stl_is : (memory : Areas) (n : ℕ) → stl_run program call memory n ≡ ran n (running program (now memory))
   stl_is memory n =
@@ -255,15 +335,25 @@ module _ (program : Program) (formed : All IsAcceptedBlock program.blocks) (call
       ap (λ o. run_of_graph counts graph o call memory (suc units)) unit_there
       ∙ seen_through (graph_from counts memory (most_nodes graph (suc units)) units)
 
-  simulated : (counts : Counting) (side : Side) (memory : Areas) → IsMemoryOf program.dbs memory
+  simulated : (counts : Counting) (free : (i j : ℕ) → counts i j ≡ false → i < j) (side : Side) (memory : Areas) → IsMemoryOf program.dbs memory
       → (n units most : ℕ) → Begun side (size_of program) n units most 0 0
       → Sees side (ran n (running program (now memory))) (through (graph_from counts memory most units) (λ units s. Ended s.memory.areas None))
-  simulated counts side memory valid n units most begun =
-      let shape = found_each IsAcceptedBlock call.block program.blocks b at.found formed in
-      let within : length b.body ≤ size_of program = found_size call.block program.blocks b at.found in
-      at_node program graph counts side (size_of program) n first alone b at.there refl shape.ends shape.operands shape.brackets
-      (omega arith) (now memory) (state memory) (start_related memory valid) total enough (start_keeps memory) units most 0 begun
-      (λ units s. Ended s.memory.areas None) (nothing_follows counts side n)
+  unfolding has_block at
+  simulated counts free side memory valid n units most begun =
+      at_node program graph counts free side (size_of program) n first alone has_block 0 has_block.unit.begins
+      (now memory) (state memory) (start_related memory valid) refl (start_long memory) units most 0 begun
+      (λ units s. Ended s.memory.areas None) (nothing_follows counts free side n)
+
+  -- each node is counted, and each way that does not lead forward
+  free_node : (i j : ℕ) → each_node i j ≡ false → i < j
+  free_node i j e = cc
+
+  free_pass : (i j : ℕ) → each_pass i j ≡ false → i < j
+  free_pass i j e = by (nat_lt i j) refl e
+    where
+      by : (b : Bool) → nat_lt i j ≡ b → not b ≡ false → i < j
+      by true less e = ltb-true i j less
+      by false less e = cc
 
   nodes_end : (memory : Areas) → IsMemoryOf program.dbs memory → (n : ℕ) (after : Areas) (fault : Option Fault)
       → stl_run program call memory n ≡ Ended after fault → graph_run graph call memory n ≡ Ended after fault
@@ -273,7 +363,7 @@ module _ (program : Program) (formed : All IsAcceptedBlock program.blocks) (call
       going e = cc
   nodes_end memory valid (suc n) after fault ended =
       graph_is each_node memory n
-      ∙ simulated each_node forth memory valid (suc n) n (most_nodes graph (suc n))
+      ∙ simulated each_node free_node forth memory valid (suc n) n (most_nodes graph (suc n))
       (begun_forth (size_of program) n (longest graph)) after fault (sym (stl_is memory (suc n)) ∙ ended)
 
   passes_end : (memory : Areas) → IsMemoryOf program.dbs memory → (n : ℕ) (after : Areas) (fault : Option Fault)
@@ -284,7 +374,7 @@ module _ (program : Program) (formed : All IsAcceptedBlock program.blocks) (call
       going e = cc
   passes_end memory valid (suc n) after fault ended =
       stl_is memory (suc n * size_of program)
-      ∙ simulated each_pass back memory valid (suc n * size_of program) n (most_nodes graph (suc n))
+      ∙ simulated each_pass free_pass back memory valid (suc n * size_of program) n (most_nodes graph (suc n))
       (begun_back (size_of program) n (most_nodes graph (suc n))) after fault (sym (graph_is each_pass memory n) ∙ ended)
 
   same_runs : SameGraphRuns program.dbs (stl_run program call) (graph_run graph call) (pass_run graph call) (size_of program)
@@ -298,7 +388,7 @@ module _ (program : Program) (formed : All IsAcceptedBlock program.blocks) (call
   fits_graph =
       subst (λ (o : Option Pou). FitsIfThere (heads_of graph) call o)
       (sym (ap (λ (called : BlockName). unit_called called (heads_of graph).pous) number.1
-      ∙ heads_found number.0 numbered program.blocks formed ∙ ap (option_map (λ (b : Block). head_for b)) found))
+      ∙ heads_found number.0 numbered program.blocks units made formed ∙ ap (option_map (λ (b : Block). head_for b)) found))
       (subst (λ (called : BlockName). FitsUnit program.dbs (head_for b) called call.instance call.actuals) (sym number.1) tt)
 
 some_unit : (o : Option Block) (text : StProgram) (call : Call) → FitsIfThere text call (option_map (λ (b : Block). head_for b) o) → IsSome o
@@ -306,26 +396,31 @@ some_unit None text call h = absurd h
 some_unit (Some b) text call h = refl
 
 -- a call of a graph program is one of the block that its unit was lowered from
-fits_program : (program : Program) → All IsAcceptedBlock program.blocks → (call : Call) (called : BlockName) → HasNoInstance called
-    → FitsIfThere (heads_of (graph_program_of program)) call (unit_called called (heads_of (graph_program_of program)).pous)
+fits_program : (program : Program) → All IsAcceptedBlock program.blocks → (units : List GraphPou) → AreMadeOf program.blocks units
+    → (call : Call) (called : BlockName) → HasNoInstance called
+    → FitsIfThere (heads_of (graph_program_with program units)) call (unit_called called (heads_of (graph_program_with program units)).pous)
     → IsSome (block_called called program.blocks)
-fits_program program formed call (name.Ob n) small fits =
+fits_program program formed units made call (name.Ob n) small fits =
     position_of (name.Ob n) program.blocks
-    (some_unit (block_of (name.Ob n) program.blocks) (heads_of (graph_program_of program)) call
-    (subst (λ (o : Option Pou). FitsIfThere (heads_of (graph_program_of program)) call o) (heads_found n small program.blocks formed) fits))
-fits_program program formed call (name.Fc n) small fits =
-    absurd (subst (λ (o : Option Pou). FitsIfThere (heads_of (graph_program_of program)) call o) (no_head (name.Fc n) refl program.blocks) fits)
-fits_program program formed call (name.Fb n) none fits = absurd none
+    (some_unit (block_of (name.Ob n) program.blocks) (heads_of (graph_program_with program units)) call
+    (subst (λ (o : Option Pou). FitsIfThere (heads_of (graph_program_with program units)) call o) (heads_found n small program.blocks units made formed) fits))
+fits_program program formed units made call (name.Fc n) small fits =
+    absurd
+    (subst (λ (o : Option Pou). FitsIfThere (heads_of (graph_program_with program units)) call o) (no_head (name.Fc n) refl program.blocks units made) fits)
+fits_program program formed units made call (name.Fb n) none fits = absurd none
 
 -- an accepted program means what its graph program means
-pub lowered_same : (program : Program) → IsAccepted program → Lowered program (graph_program_of program)
-lowered_same program accepted =
+pub lowered_same : (program : Program) → IsAccepted program → (units : List GraphPou) → AreMadeOf program.blocks units
+    → Lowered program (graph_program_with program units)
+lowered_same program accepted units made =
     let formed = accepted.blocks in
     record {
       blocks = refl;
       globals = refl;
-      units = units_of program.blocks formed;
-      fits = λ call fits. let i = some_of (block_called call.block program.blocks) fits in fits_graph program formed call i.0 i.1;
-      fits_back = λ call numbered fits. fits_program program formed call call.block numbered fits;
-      runs = λ call fits. let i = some_of (block_called call.block program.blocks) fits in same_runs program formed call i.0 i.1;
+      units = units_of program.blocks units formed made;
+      fits = λ call fits.
+          let i = some_of (block_called call.block program.blocks) fits in fits_graph program formed units made call i.0 i.1;
+      fits_back = λ call numbered fits. fits_program program formed units made call call.block numbered fits;
+      runs = λ call fits.
+          let i = some_of (block_called call.block program.blocks) fits in same_runs program formed units made call i.0 i.1;
     }

@@ -1,50 +1,70 @@
 -- A program and its graph run alike: one induction over the steps for both directions, on one lemma an instruction.
-use Rattle.nesting_stack.specs.Entries.{most_open}
-use Rattle.std.proofs.Common.{◌≡◌, ℕ, zero, suc, pos, ◌+◌, ◌<◌, ◌≤◌, Bool, true, false, if◌then◌else◌, List, [], ◌∷◌, ◌++◌, length, Option, Some, None, refl, sym, ap, ◌∙◌, subst, ◌⊎◌, inl, inr, ⊎_elim, arith}
+use Rattle.std.proofs.Common.{◌≡◌, ℕ, zero, suc, pos, ◌+◌, ◌-◌, ◌<◌, ◌≤◌, ◌==◌, Bool, true, false, not, if◌then◌else◌, List, [], ◌∷◌, ◌++◌, length, Option, Some, None, Result, Ok, refl, sym, ap, ◌∙◌, subst, ⊎_elim, arith}
 use Rattle.std.specs.Prelude.{nat_lt, option_and_then, slice_get}
 use Rattle.std.proofs.Math.Nat.{eq-or-lt_of_le}
+use Rattle.std.proofs.lemmas.Bool.Decides.{nat_tests}
 use Rattle.std.proofs.lemmas.List.Elements.{All-head, All-tail}
-use Rattle.std.proofs.lemmas.List.{length-append}
+use Rattle.std.proofs.lemmas.List.{append-nil}
+use Rattle.std.proofs.lemmas.Option.{slice_get_within}
+use Rattle.flow_graph.specs.Graphs.{BeginsAt}
+use Rattle.flow_graph.specs.declared.graph.Exit.{Exit}
+use Rattle.flow_graph.specs.declared.graph.Exit.TheVariants as way
+use Rattle.flow_graph.specs.declared.graph.Node.{Node}
+use Rattle.flow_laws.specs.Ways.{Branches, Ends, EndsIf, Goes, GoesBy, HasFrom, IsClosed, IsInside, Jumps, Selects}
+use Rattle.jump_templates.proofs.Serving.{jumps}
+use Rattle.jump_templates.specs.JumpLaw.{HasTest, LeadsToTest, after_count}
+use Rattle.jump_templates.specs.Jumps.{end_if_of, jump_of, list_of, loop_of, types_of_jump}
+use Rattle.memory_areas.specs.Access.{and_then}
 use Rattle.memory_areas.specs.Areas.{Areas}
 use Rattle.memory_areas.specs.End.{End, Ended, Going}
-use Rattle.status_word.specs.StatusBits.{after_end}
+use Rattle.status_word.specs.StatusBits.{after_end, after_jump}
+use Rattle.s7_base.specs.declared.check.Entry.{Entry}
 use Rattle.s7_base.specs.declared.outcome.Fault.{Fault}
 use Rattle.s7_base.specs.declared.register.Reg.TheVariants as reg
-use Rattle.stl_tree.specs.Accepted.{HasOperand, HaveOperands, IsEnded}
-use Rattle.stl_tree.specs.Brackets.{AreNested, WithNumber, open_behind}
+use Rattle.s7_base.specs.declared.word.Width.TheVariants as width
+use Rattle.stl_tree.specs.Accepted.{HasOperand, HaveOperands}
+use Rattle.stl_tree.specs.Accumulators.{part}
+use Rattle.stl_tree.specs.Brackets.{WithNumber, open_behind}
 use Rattle.stl_tree.specs.Instructions.{effect_of}
+use Rattle.stl_tree.specs.Jumps.{after_test, ended_where, going_where, is_made, listed, position_of}
 use Rattle.stl_tree.specs.Now.{Activation, Effect, Now, enter, fault, go, leave, next, with_status}
-use Rattle.stl_tree.specs.StlRun.{Standing, after_effect, end_of, going_on, instruction, after_return, running, step_by, steps_on}
+use Rattle.stl_tree.specs.StlRun.{Standing, after_effect, end_of, going_on, going_on_at, instruction, after_return, running, step_by, steps_on}
 use Rattle.stl_tree.specs.declared.program.Block.{Block}
 use Rattle.stl_tree.specs.declared.program.Instr.{Instr}
+use Rattle.stl_tree.specs.declared.program.JumpTest.{JumpTest}
+use Rattle.stl_tree.specs.declared.program.JumpTest.TheVariants as jump
 use Rattle.stl_tree.specs.declared.program.Op.{Op}
 use Rattle.stl_tree.specs.declared.program.Op.TheVariants as op
 use Rattle.stl_tree.specs.declared.program.Program.{Program}
 use Rattle.stl_tree.proofs.Runs.{over_stays}
-use Rattle.st_tree.specs.GraphRun.{Counting, exit_meaning, graph_calls, nodes_do}
+use Rattle.st_tree.specs.GraphRun as run
+use Rattle.st_tree.specs.GraphRun.{Counting, chosen_node, counted_if, entry_or, exit_meaning, follow, graph_calls, node_meaning, nodes_do}
 use Rattle.st_tree.specs.Meaning.{Calls, Continues, Exits, Faults, NoUnits, Normal, Out, Returns, Sem, body_meaning, then_do}
-use Rattle.st_tree.specs.State.{Activation as Running, State, with_register}
+use Rattle.st_tree.specs.State.{Activation as Running, State, own_of, with_register}
+use Rattle.st_tree.specs.Value.{value}
+use Rattle.st_tree.specs.Values.{flag, is_set}
+use Rattle.st_tree.specs.declared.expr.StType.TheVariants as type
 use Rattle.st_tree.specs.declared.program.Located.{Located}
 use Rattle.st_tree.specs.declared.graph.GraphProgram.{GraphProgram}
-use Rattle.st_tree.specs.declared.graph.StExit.TheVariants as exit
 use Rattle.st_tree.specs.declared.graph.StNode.{StNode}
 use Rattle.st_tree.specs.declared.program.Stmt.{Stmt}
-use Rattle.instruction_lowering.specs.Lowered.{ends_block}
-use Rattle.instruction_lowering.specs.inner.Temporaries.{types_in, types_of}
-use Rattle.instruction_lowering.specs.inner.Lowering.{node_of, steps_of, used_behind}
-use Rattle.instruction_lowering.specs.inner.Templates.{context_after, end_word_of, first_context, outer_of, statements_of}
-use Rattle.template_parts.proofs.TwoParts.{goes_on_behind, in_parts, then_in_parts}
+use Rattle.st_tree.specs.declared.state.Value.{Value}
+use Rattle.instruction_lowering.specs.inner.Temporaries.{types_of}
+use Rattle.instruction_lowering.specs.inner.Lowering.{exit_behind, exit_with, steps_of, used_behind}
+use Rattle.instruction_lowering.specs.inner.Templates.{context_after, context_from, end_word_of, statements_of}
+use Rattle.st_tree.proofs.TwoParts.{goes_on_behind, in_parts, then_in_parts}
 use Rattle.template_parts.proofs.Operands.{cleared_registers, clears, sets}
 use Rattle.template_parts.proofs.Truths.{literal_worth}
-use Rattle.template_parts.specs.Builders.{clear_or, literal_of, set_of}
+use Rattle.template_parts.specs.Builders.{clear_or, literal_of, local_of, set_of}
 use Rattle.template_parts.specs.Related.{AreAlike, Frames, Related}
-use Rattle.template_parts.proofs.Alike.{keep_bits, keep_position}
-use Rattle.instruction_lowering.proofs.Bounds.{Begun, Behind, Side, Within, back, IsBack, IsForth, first_step, forth, last_step, next_step, no_first_step, no_node, no_step}
-use Rattle.bit_templates.specs.declared.chain.OpenBracket.{OpenBracket}
+use Rattle.template_parts.proofs.Alike.{keep_bits, keep_position, keep_position_at}
+use Rattle.instruction_lowering.proofs.Bounds.{Begun, Behind, HasNoStep, Side, Within, back, IsBack, IsForth, counted_way, far_step, first_step, forth, free_way, last_step, next_step, no_first_step, no_node, no_step, no_unit}
 use Rattle.instruction_lowering.specs.declared.statements.LoweringContext.{LoweringContext}
-use Rattle.instruction_lowering.proofs.Does.{Does, IsInside}
+use Rattle.instruction_lowering.proofs.Does.{Does}
 use Rattle.instruction_lowering.proofs.Effects.{does}
-use Rattle.instruction_lowering.proofs.Temporaries.{Keeps}
+use Rattle.instruction_lowering.proofs.Temporaries.{Keeps, as_many}
+use Rattle.instruction_lowering.proofs.SpotLaws.{HasItsOperand, Listed, as_many_listed, can_stand, goes_later, has_first, has_rest, listed_at, nested_behind, no_entries, no_locals_used, no_steps, none_there, not_listed, used_behind_one, used_grows}
+use Rattle.instruction_lowering.proofs.Spots.{HasBlock, IsLeft}
 
 -- Ends
 
@@ -74,108 +94,6 @@ through (Continues units s) k = k units s
 through (Returns units s) k = k units s
 through (Faults f s) k = Ended s.memory.areas (Some f)
 through (NoUnits s) k = Going
-
--- Bodies
-
--- these instructions are what a body has from a position on
-abbrev pub HasFrom : List Instr → ℕ → List Instr → Type 0
-HasFrom body at is = (j : ℕ) → slice_get body (at + j) ≡ slice_get is j
-
-has_first : (body : List Instr) (at : ℕ) (i : Instr) (is : List Instr) → HasFrom body at (i ∷ is) → slice_get body at ≡ Some i
-has_first body at i is has = let e : at ≡ at + 0 = omega arith in ap (slice_get body) e ∙ has 0
-
-has_rest : (body : List Instr) (at : ℕ) (i : Instr) (is : List Instr) → HasFrom body at (i ∷ is) → HasFrom body (at + 1) is
-has_rest body at i is has j = let e : at + 1 + j ≡ at + suc j = omega arith in ap (slice_get body) e ∙ has (suc j)
-
--- Spots
-
--- instructions that are left from a spot on: they have their operands, brackets are nested, and at most so many
--- temporaries are used behind them
-abbrev pub AreLeft : ℕ → LoweringContext → List Instr → Type 0
-AreLeft total q is = HaveOperands is × AreNested is (length q.brackets) × (used_behind q is ≤ total)
-
-abbrev HasItsOperand : Instr → Type 0
-HasItsOperand i = HasOperand i.op
-
--- an instruction takes as many temporaries as it has types of them
-pub used_behind_one : (o : Op) (q : LoweringContext) → (context_after o q).used ≡ q.used + length (types_of o)
-used_behind_one (op.Bracket c) q = refl
-used_behind_one op.Close q = omega arith
-used_behind_one o q = refl
-
-pub more_used : (o : Op) (q : LoweringContext) → q.used ≤ (context_after o q).used
-more_used o q = let e : (context_after o q).used ≡ q.used + length (types_of o) = used_behind_one o q in omega arith
-
--- and so do those of a body, up to its first end word
-pub used_behind_all : (is : List Instr) (q : LoweringContext) → used_behind q is ≤ q.used + length (types_in is)
-used_behind_all [] q = omega arith
-used_behind_all (i ∷ is) q = by (ends_block i.op) (used_behind_one i.op q) (used_behind_all is (context_after i.op q))
-  where
-    by : (b : Bool) → (context_after i.op q).used ≡ q.used + length (types_of i.op)
-        → used_behind (context_after i.op q) is ≤ (context_after i.op q).used + length (types_in is)
-        → (if b then (context_after i.op q).used else used_behind (context_after i.op q) is) ≤ q.used + length (types_of i.op ++ types_in is)
-    by true h k = omega (arith, length-append (types_of i.op) (types_in is))
-    by false h k = omega (arith, length-append (types_of i.op) (types_in is))
-
-pub used_grows : (is : List Instr) (q : LoweringContext) → q.used ≤ used_behind q is
-used_grows [] q = omega arith
-used_grows (i ∷ is) q = by (ends_block i.op) (more_used i.op q) (used_grows is (context_after i.op q))
-  where
-    by : (b : Bool) → q.used ≤ (context_after i.op q).used → (context_after i.op q).used ≤ used_behind (context_after i.op q) is
-        → q.used ≤ (if b then (context_after i.op q).used else used_behind (context_after i.op q) is)
-    by true h k = h
-    by false h k = omega arith
-
--- what holds of the brackets behind an instruction
-pub nested_behind : (P : ℕ → Type 0) (o : Op) (q : LoweringContext) → IsInside o
-    → WithNumber (open_behind o (length q.brackets)) P → P (length (context_after o q).brackets)
-nested_behind P op.BlockEnd q inside h = elim inside [ ]
-nested_behind P (op.Bracket c) q inside h = by (nat_lt (length q.brackets) most_open) h
-  where
-    by : (b : Bool) → WithNumber (if b then Some (suc (length q.brackets)) else None) P → P (suc (length q.brackets))
-    by true h = h
-    by false h = elim h [ ]
-nested_behind P op.Close q inside h = by q.brackets h
-  where
-    by : (brackets : List OpenBracket) → WithNumber (open_behind op.Close (length brackets)) P → P (length (outer_of brackets))
-    by [] h = elim h [ ]
-    by (o ∷ outer) h = h
-nested_behind P o q inside h = h
-
-can_stand : (P : ℕ → Type 0) (n : Option ℕ) → WithNumber n P → WithNumber n (λ n. Unit {0})
-can_stand P None h = h
-can_stand P (Some n) h = tt
-
--- an instruction of a body stands inside it and others follow, or it ends the block, and nothing behind it is reached
-record StandsInside (q : LoweringContext) (i : Instr) (is : List Instr) : Type 0 where
-  inside : IsInside i.op
-  ended : IsEnded is
-  steps : steps_of q (i ∷ is) ≡ statements_of q i.op ++ steps_of (context_after i.op q) is
-  used : used_behind q (i ∷ is) ≡ used_behind (context_after i.op q) is
-
-stands : (q : LoweringContext) (i : Instr) (is : List Instr) → IsEnded (i ∷ is)
-    → StandsInside q i is ⊎ ((i.op ≡ op.BlockEnd) × (steps_of q (i ∷ is) ≡ end_word_of))
-stands q i is h = by i.op refl
-  where
-    followed : (is : List Instr) → IsEnded (i ∷ is) → (i.op ≡ op.BlockEnd → ⊥) → IsEnded is
-    followed [] ended inside = absurd (inside ended)
-    followed (j ∷ rest) ended inside = ended
-
-    goes_on : IsInside i.op → (i.op ≡ op.BlockEnd → ⊥) → ends_block i.op ≡ false → StandsInside q i is
-    goes_on inside other not =
-        record {
-          inside = inside;
-          ended = followed is h other;
-          steps = ap (λ b. statements_of q i.op ++ (if b then [] else steps_of (context_after i.op q) is)) not;
-          used = ap (λ b. if b then (context_after i.op q).used else used_behind (context_after i.op q) is) not;
-        }
-
-    by : (o : Op) → i.op ≡ o → StandsInside q i is ⊎ ((i.op ≡ op.BlockEnd) × (steps_of q (i ∷ is) ≡ end_word_of))
-    by op.BlockEnd e = inr (e, ap (λ (o : Op). statements_of q o ++ (if ends_block o then [] else steps_of (context_after o q) is)) e)
-    by o e = inl (goes_on (subst IsInside (sym e) tt) (λ end. other (sym e ∙ end)) (ap ends_block e))
-      where
-        other : o ≡ op.BlockEnd → ⊥
-        other f = cc
 
 -- The end word
 
@@ -218,7 +136,7 @@ running_on stack a = record { blocks = a ∷ stack.callers; waiting = stack.unit
 abbrev pub ran : ℕ → Standing → End
 ran n here = end_of (steps_on n here)
 
-module _ (p : Program) (g : GraphProgram) (counts : Counting) (side : Side) (size : ℕ) where
+module _ (p : Program) (g : GraphProgram) (counts : Counting) (free : (i j : ℕ) → counts i j ≡ false → i < j) (side : Side) (size : ℕ) where
   -- what follows the unit of a running block, k, is what follows the block, for all numbers of steps up to n; what waits
   -- is as it was when the block was called
   abbrev pub Follows : ℕ → Activation → Stack → (ℕ → State → End) → ℕ → Type 0
@@ -229,162 +147,546 @@ module _ (p : Program) (g : GraphProgram) (counts : Counting) (side : Side) (siz
   abbrev calls_within : ℕ → Calls
   calls_within most = graph_calls (λ begun. nodes_do counts g most begun 0) g
 
-  -- the exit of a node that ends its unit
-  abbrev leaves : ℕ → List StNode → Sem
-  leaves most nodes = exit_meaning g.globals counts (nodes_do counts g most nodes) 0 exit.End
+  -- the exit of the node of a number, behind which there are so many locals
+  abbrev leaves : ℕ → List StNode → ℕ → ℕ → Exit → Sem
+  leaves most nodes i used exit = exit_meaning g.globals counts (nodes_do counts g most nodes) i (exit_behind used exit)
 
   -- what is left of a node, and then its exit
-  abbrev rest_of : ℕ → List StNode → LoweringContext → List Instr → Sem
-  rest_of most nodes q is units s = then_do (body_meaning g.globals (calls_within most) (steps_of q is) units s) (leaves most nodes)
+  abbrev rest_of : ℕ → List StNode → ℕ → Exit → LoweringContext → List Instr → Sem
+  rest_of most nodes i exit q is units s =
+      then_do (body_meaning g.globals (calls_within most) (steps_of q is) units s) (leaves most nodes i (used_behind q is) exit)
 
-  -- a node begins with its block
+  -- a node begins where its block does
   abbrev pub AtNode : ℕ → Type 0
   AtNode n =
-      (a : Activation) (stack : Stack) (b : Block) → slice_get p.blocks a.block ≡ Some b → a.at ≡ 0
-      → IsEnded b.body → HaveOperands b.body → AreNested b.body 0 → a.at + length b.body ≤ size
-      → (now : Now) (s : State) → Related (running_on stack a) now s → (total : ℕ) → used_behind first_context b.body ≤ total
-      → Keeps total first_context now.brackets s.activations → (units most debt : ℕ) → Begun side size n units most a.at debt
+      (a : Activation) (stack : Stack) (u : HasBlock p size a.block) (i : ℕ) → BeginsAt u.blocks i a.at
+      → (now : Now) (s : State) → Related (running_on stack a) now s → now.brackets ≡ [] → length (own_of s.activations) ≡ u.total
+      → (units most debt : ℕ) → Begun side size n units most a.at debt
       → (k : ℕ → State → End) → Follows n a stack k debt
-      → Sees side (ran n (running p now)) (through (nodes_do counts g most (node_of b.body ∷ []) 0 units s) k)
+      → Sees side (ran n (running p now)) (through (nodes_do counts g most u.nodes i units s) k)
 
-  -- it goes on at an instruction
+  -- it goes on at an instruction, or with its exit
   abbrev Inside : ℕ → Type 0
   Inside n =
-      (a : Activation) (stack : Stack) (b : Block) → slice_get p.blocks a.block ≡ Some b → (nodes : List StNode) (is : List Instr)
-      → HasFrom b.body a.at is → IsEnded is → (total : ℕ) (q : LoweringContext) → AreLeft total q is → a.at + length is ≤ size
-      → (now : Now) (s : State) → Related (running_on stack a) now s → Keeps total q now.brackets s.activations
+      (a : Activation) (stack : Stack) (u : HasBlock p size a.block) (i : ℕ) (x : Node) → slice_get u.blocks i ≡ Some x
+      → (q : LoweringContext) (is : List Instr) → IsLeft u.block.body u.blocks u.total i x a.at q is
+      → (now : Now) (s : State) → Related (running_on stack a) now s → Keeps u.total q now.brackets s.activations
       → (units most debt : ℕ) → Within side size n units most a.at debt
       → (k : ℕ → State → End) → Follows n a stack k debt
-      → Sees side (ran n (running p now)) (through (rest_of most nodes q is units s) k)
+      → Sees side (ran n (running p now)) (through (rest_of most u.nodes i x.exit q is units s) k)
 
-  -- One instruction
-
-  module _ (n : ℕ) (a : Activation) (stack : Stack) (b : Block) (there : slice_get p.blocks a.block ≡ Some b)
-      (nodes : List StNode) (i : Instr) (is : List Instr) (has : HasFrom b.body a.at (i ∷ is)) (ending : IsEnded (i ∷ is))
-      (total : ℕ) (q : LoweringContext) (left : AreLeft total q (i ∷ is)) (fits : a.at + suc (length is) ≤ size)
-      (now : Now) (s : State) (related : Related (running_on stack a) now s) (keeps : Keeps total q now.brackets s.activations)
-      (units most debt : ℕ) (within : Within side size n units most (a.at + 1) debt)
-      (k : ℕ → State → End) (follows : Follows n a stack k debt) (inside : Inside n) where
-    abbrev here : Sem
-    here u t = body_meaning g.globals (calls_within most) (statements_of q i.op) u t
-
-    abbrev later : Sem
-    later = rest_of most nodes (context_after i.op q) is
-
-    -- the instruction to come is the one that is here
-    arrives : (goal : Standing → Type 0) → goal (after_effect p now (effect_of i.op now)) → goal (step_by (instruction p now.activations) p now)
-    arrives goal h =
-        subst (λ (o : Option Instr). goal (step_by o p now))
-        (sym (ap (instruction p) related.blocks ∙ ap (option_and_then (λ (b : Block). slice_get b.body a.at)) there ∙ has_first b.body a.at i is has)) h
-
-    -- its statements are the first of those that are left
-    splits : steps_of q (i ∷ is) ≡ statements_of q i.op ++ steps_of (context_after i.op q) is
-        → rest_of most nodes q (i ∷ is) units s ≡ then_do (here units s) later
-    splits e =
-        ap (λ (xs : List Stmt). then_do (body_meaning g.globals (calls_within most) xs units s) (leaves most nodes)) e
-        ∙ ap (λ (o : Out). then_do o (leaves most nodes))
-        (in_parts g.globals (calls_within most) (statements_of q i.op) (steps_of (context_after i.op q) is) units s)
-        ∙ then_in_parts (here units s) (body_meaning g.globals (calls_within most) (steps_of (context_after i.op q) is)) (leaves most nodes)
-
-    meets : (e : Effect) (o : Out) → IsEnded is → AreLeft total (context_after i.op q) is
-        → Does o units total (context_after i.op q) (running_on stack a) now.memory e
-        → Sees side (ran n (after_effect p now e)) (through (then_do o later) k)
-    meets (next after) o ends left done =
-        subst (λ (x : Out). Sees side (ran n (after_effect p now (next after))) (through (then_do x later) k)) (sym done.1)
-        (inside (record a { at = a.at + 1 }) stack b there nodes is (has_rest b.body a.at i is has) ends total (context_after i.op q) left (omega arith)
-        (record after { activations = going_on after.activations }) done.0
-        (keep_position (running_on stack a) after done.0 done.2) done.3 units most debt within k follows)
-    meets (fault f) o ends left done =
-        both_end side _ _
-        (ap end_of (over_stays n now.memory (Some f))
-        ∙ sym (ap (λ (x : Out). through (then_do x later) k) done.1 ∙ ap (λ (m : Areas). Ended m (Some f)) done.2))
-    meets (go to after) o ends left done = elim done [ ]
-    meets (enter call after) o ends left done = elim done [ ]
-    meets (leave after) o ends left done = elim done [ ]
-
-    by_inside : StandsInside q i is → Sees side (ran (suc n) (running p now)) (through (rest_of most nodes q (i ∷ is) units s) k)
-    by_inside h =
-        let later_used : used_behind (context_after i.op q) is ≤ total = subst (λ (m : ℕ). m ≤ total) h.used left.2 in
-        let room : (context_after i.op q).used ≤ used_behind (context_after i.op q) is = used_grows is (context_after i.op q) in
-        arrives (λ stand. Sees side (ran n stand) (through (rest_of most nodes q (i ∷ is) units s) k))
-        (subst (λ (x : Out). Sees side (ran n (after_effect p now (effect_of i.op now))) (through x k)) (sym (splits h.steps))
-        (meets (effect_of i.op now) (here units s) h.ended (All-tail HasItsOperand i is left.0, nested_behind (AreNested is) i.op q h.inside left.1, later_used)
-        (does g.globals (calls_within most) units (running_on stack a) now s related total q keeps i.op h.inside
-        (All-head HasItsOperand i is left.0) (can_stand (AreNested is) (open_behind i.op (length q.brackets)) left.1) (omega arith))))
-
-    by_end : (i.op ≡ op.BlockEnd) × (steps_of q (i ∷ is) ≡ end_word_of)
-        → Sees side (ran (suc n) (running p now)) (through (rest_of most nodes q (i ∷ is) units s) k)
-    by_end h =
-        let same : n ≤ n = omega arith in
-        let small : a.at + 1 ≤ size = omega arith in
-        let frames : Frames = running_on stack a in
-        let t : State = ended_state g.globals (calls_within most) units frames now s related in
-        arrives (λ stand. Sees side (ran n stand) (through (rest_of most nodes q (i ∷ is) units s) k))
-        (subst (λ (x : Op). Sees side (ran n (after_effect p now (effect_of x now))) (through (rest_of most nodes q (i ∷ is) units s) k)) (sym h.0)
-        (subst (λ (xs : List Stmt). Sees side (ran n (after_return p now.activations (with_status after_end now)))
-        (through (then_do (body_meaning g.globals (calls_within most) xs units s) (leaves most nodes)) k)) (sym h.1)
-        (subst (λ (o : Out). Sees side (ran n (after_return p now.activations (with_status after_end now))) (through (then_do o (leaves most nodes)) k))
-        (sym (end_goes g.globals (calls_within most) units frames now s related))
-        (subst (λ (acts : List Activation). Sees side (ran n (after_return p acts (with_status after_end now))) (k units t)) (sym related.blocks)
-        (follows n same units (last_step side size n units most a.at debt small within) a.at
-        (with_status after_end now) t (end_related g.globals (calls_within most) units frames now s related))))))
-
-    pub one_step : Sees side (ran (suc n) (running p now)) (through (rest_of most nodes q (i ∷ is) units s) k)
-    one_step = ⊎_elim by_inside by_end (stands q i is ending)
-
-  -- All of them, from fewer steps to more
+  abbrev Both : ℕ → Type 0
+  Both n = AtNode n × Inside n
 
   fewer : (n m : ℕ) (a : Activation) (stack : Stack) (k : ℕ → State → End) (debt : ℕ) → n ≤ m → Follows m a stack k debt → Follows n a stack k debt
   fewer n m a stack k debt h follows j small = follows j (omega arith)
 
-  not_empty : (is : List Instr) → IsEnded is → 1 ≤ length is
-  not_empty [] ends = elim ends [ ]
-  not_empty (i ∷ is) ends = omega arith
+  -- where no step is left for a way that is counted
+  no_more : (n : ℕ) (here : Standing) → ran 0 here ≡ Going → HasNoStep side n → Sees side (ran n here) Going
+  no_more n here e h = by side n h
+    where
+      by : (side : Side) (n : ℕ) → HasNoStep side n → Sees side (ran n here) Going
+      by forth zero h = both_end forth _ _ e
+      by forth (suc n) h = absurd (omega arith)
+      by back n h = λ after f ended. cc
+
+  -- the instruction to come is the one that is here
+  module _ (n : ℕ) (a : Activation) (stack : Stack) (u : HasBlock p size a.block) (now : Now) (s : State)
+      (related : Related (running_on stack a) now s) where
+    arrives : (i : Instr) → slice_get u.block.body a.at ≡ Some i → (goal : Standing → Type 0)
+        → goal (after_effect p now (effect_of i.op now)) → goal (step_by (instruction p now.activations) p now)
+    arrives i here goal h =
+        subst (λ (o : Option Instr). goal (step_by o p now))
+        (sym (ap (instruction p) related.blocks ∙ ap (option_and_then (λ (b : Block). slice_get b.body a.at)) u.there ∙ here)) h
+
+  -- Ways to nodes
+
+  module _ (n : ℕ) (node : AtNode n) (a : Activation) (stack : Stack) (u : HasBlock p size a.block) (i most debt : ℕ)
+      (k : ℕ → State → End) (follows : Follows n a stack k debt) where
+    abbrev nodes : ℕ → Sem
+    nodes = nodes_do counts g most u.nodes
+
+    -- to the node that begins at a position, where the block is so far on
+    to_node : (j to at : ℕ) → BeginsAt u.blocks j to → (counts i j ≡ false → at ≤ to) → at ≤ size
+        → (now : Now) (s : State) → Related (running_on stack (record a { at = to })) now s → now.brackets ≡ [] → length (own_of s.activations) ≡ u.total
+        → (units : ℕ) → Within side size n units most at debt
+        → Sees side (ran n (running p now)) (through (counted_if (counts i j) (nodes j) units s) k)
+    to_node j to at begins further small now s related closed total units within = by (counts i j) units further within
+      where
+        by : (counted : Bool) (units : ℕ) → (counted ≡ false → at ≤ to) → Within side size n units most at debt
+            → Sees side (ran n (running p now)) (through (counted_if counted (nodes j) units s) k)
+        by true zero further within = no_more n (running p now) refl (no_unit side size n most at debt within)
+        by true (suc units) further within =
+            node (record a { at = to }) stack u j begins now s related closed total units most debt
+            (counted_way side size n units most at to debt small within) k follows
+        by false units further within =
+            node (record a { at = to }) stack u j begins now s related closed total units most debt
+            (free_way side size n units most at to debt (further refl) within) k follows
+
+  -- One instruction
+
+  module _ (n : ℕ) (below : (m : ℕ) → m ≤ n → Both m) (a : Activation) (stack : Stack) (u : HasBlock p size a.block) (i : ℕ) (x : Node)
+      (piece : slice_get u.blocks i ≡ Some x) (q : LoweringContext) (now : Now) (s : State) (related : Related (running_on stack a) now s)
+      (keeps : Keeps u.total q now.brackets s.activations) (units most debt : ℕ) (within : Within side size n units most (a.at + 1) debt)
+      (k : ℕ → State → End) (follows : Follows n a stack k debt) where
+    abbrev here : Op → Sem
+    here o = body_meaning g.globals (calls_within most) (statements_of q o)
+
+    -- an instruction and those behind it, and then the exit
+    abbrev rest_by : Op → List Instr → Exit → Sem
+    rest_by o is exit units s =
+        then_do (body_meaning g.globals (calls_within most) (statements_of q o ++ steps_of (context_after o q) is) units s)
+        (leaves most u.nodes i (used_behind (context_after o q) is) exit)
+
+    -- its statements are the first
+    splits : (o : Op) (is : List Instr)
+        → rest_by o is x.exit units s ≡ then_do (here o units s) (rest_of most u.nodes i x.exit (context_after o q) is)
+    splits o is =
+        ap (λ (out : Out). then_do out (leaves most u.nodes i (used_behind (context_after o q) is) x.exit))
+        (in_parts g.globals (calls_within most) (statements_of q o) (steps_of (context_after o q) is) units s)
+        ∙ then_in_parts (here o units s) (body_meaning g.globals (calls_within most) (steps_of (context_after o q) is))
+        (leaves most u.nodes i (used_behind (context_after o q) is) x.exit)
+
+    meets : (o : Op) (is : List Instr) (e : Effect) → IsLeft u.block.body u.blocks u.total i x (a.at + 1) (context_after o q) is
+        → Does (here o units s) units u.total (context_after o q) (running_on stack a) now.memory e
+        → Sees side (ran n (after_effect p now e)) (through (then_do (here o units s) (rest_of most u.nodes i x.exit (context_after o q) is)) k)
+    meets o is (next after) left done =
+        let here_below : Both n = below n (omega arith) in
+        subst
+        (λ (out : Out). Sees side (ran n (after_effect p now (next after))) (through (then_do out (rest_of most u.nodes i x.exit (context_after o q) is)) k))
+        (sym done.1)
+        (here_below.1 (record a { at = a.at + 1 }) stack u i x piece (context_after o q) is left
+        (record after { activations = going_on after.activations }) done.0
+        (keep_position (running_on stack a) after done.0 done.2) done.3 units most debt within k follows)
+    meets o is (fault f) left done =
+        both_end side _ _
+        (ap end_of (over_stays n now.memory (Some f))
+        ∙ sym
+        (ap (λ (out : Out). through (then_do out (rest_of most u.nodes i x.exit (context_after o q) is)) k) done.1
+        ∙ ap (λ (m : Areas). Ended m (Some f)) done.2))
+    meets o is (go to after) left done = elim done [ ]
+    meets o is (enter call after) left done = elim done [ ]
+    meets o is (leave after) left done = elim done [ ]
+
+    by_inside : (o : Op) (is : List Instr) → IsInside o → HasOperand o → WithNumber (open_behind o (length q.brackets)) (IsClosed is)
+        → IsLeft u.block.body u.blocks u.total i x (a.at + 1) (context_after o q) is
+        → Sees side (ran n (after_effect p now (effect_of o now))) (through (rest_by o is x.exit units s) k)
+    by_inside o is inside operand closed left =
+        let room : (context_after o q).used ≤ used_behind (context_after o q) is = used_grows is (context_after o q) in
+        let fits : used_behind (context_after o q) is ≤ u.total = left.room in
+        subst (λ (out : Out). Sees side (ran n (after_effect p now (effect_of o now))) (through out k)) (sym (splits o is))
+        (meets o is (effect_of o now) left
+        (does g.globals (calls_within most) units (running_on stack a) now s related u.total q keeps o inside operand
+        (can_stand (IsClosed is) (open_behind o (length q.brackets)) closed) (omega arith)))
+
+    -- The last instruction of a block
+
+    module _ (closed : length q.brackets ≡ 0) (end : a.at + 1 ≤ x.past) (inside : x.past ≤ length u.block.body) where
+      abbrev frames : Frames
+      frames = running_on stack a
+
+      none_open_now : now.brackets ≡ []
+      none_open_now = no_entries now.brackets (as_many q.used q.brackets now.brackets (own_of s.activations) keeps.1 ∙ closed)
+
+      small : a.at + 1 ≤ size
+      small = let fits : length u.block.body ≤ size = u.fits in omega arith
+
+      -- an exit that is not counted leads forward
+      forward : (j to : ℕ) → BeginsAt u.blocks j to → counts i j ≡ false → x.past ≤ to
+      forward j to begins unpaid =
+          let order : x.past ≤ begins.0.first = u.unit.order i j x begins.0 (free i j unpaid) piece begins.1 in
+          let same : begins.0.first ≡ to = begins.2 in
+          omega arith
+
+      -- statements that end so, with nothing behind them
+      ends_in : (xs : List Stmt) (t : State) (last : Sem) → body_meaning g.globals (calls_within most) xs units s ≡ Normal units t
+          → then_do (body_meaning g.globals (calls_within most) (xs ++ []) units s) last ≡ last units t
+      ends_in xs t last goes =
+          ap (λ (ys : List Stmt). then_do (body_meaning g.globals (calls_within most) ys units s) last) (append-nil xs)
+          ∙ ap (λ (o : Out). then_do o last) goes
+
+      abbrev nodes_then : ℕ → Sem
+      nodes_then = nodes_do counts g most u.nodes
+
+      -- the state goes on at a position, or behind the instruction
+      goes_to : (to : ℕ) (after : Now) (t : State) (j : ℕ) → BeginsAt u.blocks j to → Related frames after t → after.brackets ≡ []
+          → length (own_of t.activations) ≡ u.total
+          → Sees side (ran n (after_effect p now (go to after))) (through (counted_if (counts i j) (nodes_then j) units t) k)
+      goes_to to after t j begins alike none total =
+          let here_below : Both n = below n (omega arith) in
+          to_node n here_below.0 a stack u i most debt k follows j to (a.at + 1) begins
+          (λ unpaid. let past : x.past ≤ to = forward j to begins unpaid in omega arith) small
+          (record after { activations = going_on_at to after.activations }) t (keep_position_at to frames after t alike) none total units within
+
+      goes_behind : (after : Now) (t : State) → BeginsAt u.blocks (suc i) (a.at + 1) → Related frames after t → after.brackets ≡ []
+          → length (own_of t.activations) ≡ u.total
+          → Sees side (ran n (after_effect p now (next after))) (through (counted_if (counts i (suc i)) (nodes_then (suc i)) units t) k)
+      goes_behind after t begins alike none total =
+          let here_below : Both n = below n (omega arith) in
+          to_node n here_below.0 a stack u i most debt k follows (suc i) (a.at + 1) (a.at + 1) begins (λ unpaid. omega arith) small
+          (record after { activations = going_on after.activations }) t (keep_position frames after t alike) none total units within
+
+      -- the block ends
+      ends_block : (after : Now) (t : State) → Related frames after t → Sees side (ran n (after_return p after.activations after)) (k units t)
+      ends_block after t alike =
+          subst (λ (acts : List Activation). Sees side (ran n (after_return p acts after)) (k units t)) (sym alike.blocks)
+          (follows n (omega arith) units (last_step side size n units most a.at debt small within) a.at after t alike)
+
+      -- Exits that test
+
+      -- the number of the local that is tested
+      last_local : (q.used + 1) - 1 ≡ q.used
+      last_local = omega arith
+
+      branch_is : (l j : ℕ) (b : Bool) (t : State) → value g.globals (local_of l) t ≡ Ok (flag b)
+          → exit_meaning g.globals counts nodes_then i (exit_with l (way.Branch j)) units t
+          ≡ (if b then counted_if (counts i j) (nodes_then j) units t else counted_if (counts i (suc i)) (nodes_then (suc i)) units t)
+      branch_is l j b t h =
+          ap (λ (r : Result Value Fault). follow counts nodes_then i (and_then r (λ v. Ok (if is_set v then run.to j else run.to (suc i)))) units t) h ∙ by b
+        where
+          by : (b : Bool) → follow counts nodes_then i (Ok (if is_set (flag b) then run.to j else run.to (suc i))) units t
+              ≡ (if b then counted_if (counts i j) (nodes_then j) units t else counted_if (counts i (suc i)) (nodes_then (suc i)) units t)
+          by true = refl
+          by false = refl
+
+      end_if_is : (l : ℕ) (b : Bool) (t : State) → value g.globals (local_of l) t ≡ Ok (flag b)
+          → exit_meaning g.globals counts nodes_then i (exit_with l way.EndIf) units t
+          ≡ (if b then Normal units t else counted_if (counts i (suc i)) (nodes_then (suc i)) units t)
+      end_if_is l b t h =
+          ap (λ (r : Result Value Fault). follow counts nodes_then i (and_then r (λ v. Ok (if is_set v then run.out else run.to (suc i)))) units t) h ∙ by b
+        where
+          by : (b : Bool) → follow counts nodes_then i (Ok (if is_set (flag b) then run.out else run.to (suc i))) units t
+              ≡ (if b then Normal units t else counted_if (counts i (suc i)) (nodes_then (suc i)) units t)
+          by true = refl
+          by false = refl
+
+      branches : (xs : List Stmt) (to : ℕ) (is : List Instr) (b : Bool) (after : Now) → Branches u.blocks i a.at to is x.exit
+          → after.brackets ≡ now.brackets
+          → LeadsToTest g.globals (body_meaning g.globals (calls_within most) xs units s) units q.used frames s after (flag b)
+          → Sees side (ran n (after_effect p now (going_where b to after)))
+          (through (then_do (body_meaning g.globals (calls_within most) (xs ++ []) units s) (leaves most u.nodes i (q.used + 1) x.exit)) k)
+      branches xs to is b after ways same done =
+          subst
+          (λ (e : Exit). Sees side (ran n (after_effect p now (going_where b to after)))
+          (through (then_do (body_meaning g.globals (calls_within most) (xs ++ []) units s) (leaves most u.nodes i (q.used + 1) e)) k)) (sym ways.exit)
+          (subst (λ (o : Out). Sees side (ran n (after_effect p now (going_where b to after))) (through o k))
+          (sym
+          (ends_in xs done.leads.to (leaves most u.nodes i (q.used + 1) (way.Branch ways.node)) done.leads.goes
+          ∙ ap (λ (l : ℕ). exit_meaning g.globals counts nodes_then i (exit_with l (way.Branch ways.node)) units done.leads.to) last_local
+          ∙ branch_is q.used ways.node b done.leads.to done.test)) (by b))
+        where
+          total : length (own_of done.leads.to.activations) ≡ u.total
+          total = done.leads.as_many ∙ keeps.0
+
+          by : (b : Bool) → Sees side (ran n (after_effect p now (going_where b to after)))
+              (through
+              (if b then counted_if (counts i ways.node) (nodes_then ways.node) units done.leads.to
+              else counted_if (counts i (suc i)) (nodes_then (suc i)) units done.leads.to) k)
+          by true = goes_to to after done.leads.to ways.node ways.there done.leads.related (same ∙ none_open_now) total
+          by false = goes_behind after done.leads.to ways.behind done.leads.related (same ∙ none_open_now) total
+
+      abbrev after_either : Bool → Now
+      after_either b = if b then with_status after_end now else with_status after_jump now
+
+      ends_if : (is : List Instr) (b : Bool) → EndsIf u.blocks i a.at is x.exit
+          → LeadsToTest g.globals (body_meaning g.globals (calls_within most) (end_if_of q.used) units s) units q.used frames s (after_either b) (flag b)
+          → Sees side (ran n (after_effect p now (ended_where b now)))
+          (through (then_do (body_meaning g.globals (calls_within most) (end_if_of q.used ++ []) units s) (leaves most u.nodes i (q.used + 1) x.exit)) k)
+      ends_if is b ways done =
+          subst
+          (λ (e : Exit). Sees side (ran n (after_effect p now (ended_where b now)))
+          (through (then_do (body_meaning g.globals (calls_within most) (end_if_of q.used ++ []) units s) (leaves most u.nodes i (q.used + 1) e)) k))
+          (sym ways.exit)
+          (subst (λ (o : Out). Sees side (ran n (after_effect p now (ended_where b now))) (through o k))
+          (sym
+          (ends_in (end_if_of q.used) done.leads.to (leaves most u.nodes i (q.used + 1) way.EndIf) done.leads.goes
+          ∙ ap (λ (l : ℕ). exit_meaning g.globals counts nodes_then i (exit_with l way.EndIf) units done.leads.to) last_local
+          ∙ end_if_is q.used b done.leads.to done.test)) (by b done.leads.to done.leads.related (done.leads.as_many ∙ keeps.0)))
+        where
+          by : (b : Bool) (t : State) → Related frames (after_either b) t → length (own_of t.activations) ≡ u.total
+              → Sees side (ran n (after_effect p now (ended_where b now)))
+              (through (if b then Normal units t else counted_if (counts i (suc i)) (nodes_then (suc i)) units t) k)
+          by true t alike total = ends_block (with_status after_end now) t alike
+          by false t alike total = goes_behind (with_status after_jump now) t ways.behind alike none_open_now total
+
+      -- Jump lists
+
+      table_is : (l j v : ℕ) (js : List ℕ) (t : State) → value g.globals (local_of l) t ≡ Ok (record { ty = type.Dint; n = pos v })
+          → exit_meaning g.globals counts nodes_then i (exit_with l (way.Table js j)) units t
+          ≡ counted_if (counts i (entry_or (slice_get js v) j)) (nodes_then (entry_or (slice_get js v) j)) units t
+      table_is l j v js t h =
+          ap (λ (r : Result Value Fault). follow counts nodes_then i (and_then r (λ v. Ok (run.to (chosen_node v.n js j)))) units t) h
+
+      -- the JU of a number, which is the second step
+      second : (m : ℕ) → m ≡ n → (is : List Instr) (j v : ℕ) → HasFrom u.block.body (a.at + 1) is → x.past ≡ a.at + 1 + length is
+          → Listed u.blocks is v j → v < length is → (after : Now) (t : State) → Related (running_on stack (record a { at = a.at + 1 + v })) after t
+          → after.brackets ≡ [] → length (own_of t.activations) ≡ u.total
+          → Sees side (ran m (running p after)) (through (counted_if (counts i j) (nodes_then j) units t) k)
+      second zero e is j v has past listed less after t alike none total =
+          let fits : length u.block.body ≤ size = u.fits in
+          none_forth side _
+          (no_step side size units most (a.at + 1 + v) debt (omega arith)
+          (far_step side size 0 units most (a.at + 1) (a.at + 1 + v) debt (omega arith)
+          (subst (λ (m : ℕ). Within side size m units most (a.at + 1) debt) (sym e) within)))
+      second (suc m) e is j v has past listed less after t alike none total =
+          let fits : length u.block.body ≤ size = u.fits in
+          let there : Activation = record a { at = a.at + 1 + v } in
+          let fewer_below : Both m = below m (omega arith) in
+          let far : Within side size (suc m) units most (a.at + 1 + v) debt =
+          far_step side size (suc m) units most (a.at + 1) (a.at + 1 + v) debt (omega arith)
+          (subst (λ (m : ℕ). Within side size m units most (a.at + 1) debt) (sym e) within) in
+          arrives (suc m) there stack u after t alike listed.instr (has v listed.instr listed.there)
+          (λ stand. Sees side (ran m stand) (through (counted_if (counts i j) (nodes_then j) units t) k))
+          (subst (λ (o : Op). Sees side (ran m (after_effect p after (effect_of o after))) (through (counted_if (counts i j) (nodes_then j) units t) k))
+          (sym listed.is_jump)
+          (to_node m fewer_below.0 a stack u i most debt k (fewer m n a stack k debt (omega arith) follows) j listed.to (a.at + 1 + v + 1) listed.begins
+          (λ unpaid. let far_on : x.past ≤ listed.to = forward j listed.to listed.begins unpaid in omega arith) (omega arith)
+          (record after { activations = going_on_at listed.to after.activations }) t
+          (keep_position_at listed.to (running_on stack there) after t alike) none total units
+          (next_step side size m units most (a.at + 1 + v) debt far)))
+
+      selects : (is : List Instr) (count label v : ℕ) → Selects u.blocks count label is x.exit → HasFrom u.block.body (a.at + 1) is
+          → x.past ≡ a.at + 1 + length is → (t : State) → Related frames now t → length (own_of t.activations) ≡ u.total
+          → (ways : Selects u.blocks count label is x.exit) → (o : Option ℕ) → slice_get ways.nodes v ≡ o
+          → Sees side (ran n (after_effect p now (go (if nat_lt v count then position_of now.activations + 1 + v else label) now)))
+          (through (counted_if (counts i (entry_or o ways.node)) (nodes_then (entry_or o ways.node)) units t) k)
+      selects is count label v h has past t alike total ways None e =
+          let many : length is ≡ length ways.nodes = as_many_listed u.blocks is ways.nodes ways.listed in
+          let short : length ways.nodes ≤ v = not_listed ways.nodes v e in
+          let past_list : nat_lt v count ≡ false = grind (arith, nat_tests, ways.count) in
+          subst
+          (λ (b : Bool). Sees side (ran n (after_effect p now (go (if b then position_of now.activations + 1 + v else label) now)))
+          (through (counted_if (counts i ways.node) (nodes_then ways.node) units t) k)) (sym past_list)
+          (goes_to label now t ways.node ways.there alike none_open_now total)
+      selects is count label v h has past t alike total ways (Some j) e =
+          let many : length is ≡ length ways.nodes = as_many_listed u.blocks is ways.nodes ways.listed in
+          let less : v < length ways.nodes = slice_get_within ways.nodes v j e in
+          let in_list : nat_lt v count ≡ true = grind (arith, nat_tests, ways.count) in
+          let at : position_of now.activations ≡ a.at = ap position_of alike.blocks in
+          subst
+          (λ (b : Bool). Sees side (ran n (after_effect p now (go (if b then position_of now.activations + 1 + v else label) now)))
+          (through (counted_if (counts i j) (nodes_then j) units t) k)) (sym in_list)
+          (subst
+          (λ (m : ℕ). Sees side (ran n (after_effect p now (go (m + 1 + v) now))) (through (counted_if (counts i j) (nodes_then j) units t) k)) (sym at)
+          (second n refl is j v has past (listed_at u.blocks is ways.nodes v j ways.listed e) (omega arith)
+          (record now { activations = going_on_at (a.at + 1 + v) now.activations }) t
+          (keep_position_at (a.at + 1 + v) frames now t alike) none_open_now total))
+
+    -- By what it is
+
+    -- what is said of an instruction and what follows it in its block
+    record IsNext (o : Op) (is : List Instr) : Type 0 where
+      operand : HasOperand o
+      closed : WithNumber (open_behind o (length q.brackets)) (IsClosed is)
+      goes : GoesBy u.blocks i a.at o is x.exit (Goes u.blocks i (a.at + 1) is x.exit)
+      has : HasFrom u.block.body (a.at + 1) is
+      reach : x.past ≡ a.at + 1 + length is
+      within_body : x.past ≤ length u.block.body
+      operands : HaveOperands is
+      room : used_behind (context_after o q) is ≤ u.total
+
+    -- there is room for the locals of the instruction
+    roomy : (o : Op) (is : List Instr) → IsNext o is → q.used + length (types_of o) ≤ length (own_of s.activations)
+    roomy o is h =
+        let more : (context_after o q).used ≤ used_behind (context_after o q) is = used_grows is (context_after o q) in
+        let fits : used_behind (context_after o q) is ≤ u.total = h.room in
+        let used : (context_after o q).used ≡ q.used + length (types_of o) = used_behind_one o q in
+        let total : length (own_of s.activations) ≡ u.total = keeps.0 in
+        omega arith
+
+    abbrev Goal : Op → List Instr → Type 0
+    Goal o is = Sees side (ran n (after_effect p now (effect_of o now))) (through (rest_by o is x.exit units s) k)
+
+    jump_list : (count label : ℕ) (is : List Instr) → IsNext (op.JumpList count label) is → Goal (op.JumpList count label) is
+    jump_list count label is h =
+        let closed : length q.brackets ≡ 0 = none_there (IsClosed is) (length q.brackets) h.closed in
+        let ways : Selects u.blocks count label is x.exit = h.goes in
+        let ctx : LoweringContext = context_after (op.JumpList count label) q in
+        let done =
+        (jumps.list count label q.used).does g.globals (calls_within most) units (running_on stack a) now s related
+        (roomy (op.JumpList count label) is h) in
+        let v : ℕ = part width.Byte now.registers.accu1 in
+        let local : (q.used + 1) - 1 ≡ q.used = omega arith in
+        subst (λ (o : Out). Sees side (ran n (after_effect p now (listed count label now))) (through o k))
+        (sym
+        (ap
+        (λ (xs : List Stmt). then_do (body_meaning g.globals (calls_within most) (list_of q.used ++ xs) units s)
+        (leaves most u.nodes i (used_behind ctx is) x.exit)) (no_steps u.blocks ctx is ways.nodes ways.listed)
+        ∙ ap (λ (m : ℕ). then_do (body_meaning g.globals (calls_within most) (list_of q.used ++ []) units s) (leaves most u.nodes i m x.exit))
+        (no_locals_used u.blocks ctx is ways.nodes ways.listed)
+        ∙ ap (λ (e : Exit). then_do (body_meaning g.globals (calls_within most) (list_of q.used ++ []) units s) (leaves most u.nodes i (q.used + 1) e))
+        ways.exit
+        ∙ ends_in closed (omega (arith, h.reach)) h.within_body (list_of q.used) done.leads.to
+        (leaves most u.nodes i (q.used + 1) (way.Table ways.nodes ways.node)) done.leads.goes
+        ∙ ap (λ (l : ℕ). exit_meaning g.globals counts (nodes_do counts g most u.nodes) i (exit_with l (way.Table ways.nodes ways.node)) units done.leads.to)
+        local
+        ∙ table_is closed (omega (arith, h.reach)) h.within_body q.used ways.node v ways.nodes done.leads.to done.test))
+        (selects closed (omega (arith, h.reach)) h.within_body is count label v ways h.has h.reach done.leads.to done.leads.related
+        (done.leads.as_many ∙ keeps.0) ways (slice_get ways.nodes v) refl)
+
+    end_word : (is : List Instr) → IsNext op.BlockEnd is → Goal op.BlockEnd is
+    end_word is h =
+        let closed : length q.brackets ≡ 0 = none_there (IsClosed is) (length q.brackets) h.closed in
+        let ways : Ends is x.exit = h.goes in
+        let t : State = ended_state g.globals (calls_within most) units (running_on stack a) now s related in
+        subst (λ (rest : List Instr). Goal op.BlockEnd rest) (sym ways.last)
+        (subst (λ (o : Out). Sees side (ran n (after_effect p now (effect_of op.BlockEnd now))) (through o k))
+        (sym
+        (ap
+        (λ (e : Exit). then_do (body_meaning g.globals (calls_within most) (end_word_of ++ []) units s)
+        (leaves most u.nodes i (context_after op.BlockEnd q).used e)) ways.exit
+        ∙ ends_in closed (omega (arith, h.reach)) h.within_body end_word_of t (leaves most u.nodes i (context_after op.BlockEnd q).used way.End)
+        (end_goes g.globals (calls_within most) units (running_on stack a) now s related)))
+        (ends_block closed (omega (arith, h.reach)) h.within_body (with_status after_end now) t
+        (end_related g.globals (calls_within most) units (running_on stack a) now s related)))
+
+    always : (to : ℕ) (is : List Instr) → IsNext (op.Jump jump.Always to) is → Goal (op.Jump jump.Always to) is
+    always to is h =
+        let closed : length q.brackets ≡ 0 = none_there (IsClosed is) (length q.brackets) h.closed in
+        let ways : Jumps u.blocks to is x.exit = h.goes in
+        subst (λ (rest : List Instr). Goal (op.Jump jump.Always to) rest) (sym ways.last)
+        (subst (λ (e : Exit). Sees side (ran n (after_effect p now (effect_of (op.Jump jump.Always to) now)))
+        (through (rest_by (op.Jump jump.Always to) [] e units s) k)) (sym ways.exit)
+        (goes_to closed (omega (arith, h.reach)) h.within_body to (with_status (after_test jump.Always) now) s ways.node ways.there related
+        (none_open_now closed (omega (arith, h.reach)) h.within_body) keeps.0))
+
+    tests : (t : JumpTest) (to : ℕ) (is : List Instr) → HasTest t → Branches u.blocks i a.at to is x.exit → IsNext (op.Jump t to) is
+        → q.used + length (types_of_jump t) ≡ q.used + 1 → Goal (op.Jump t to) is
+    tests t to is made ways h one =
+        let closed : length q.brackets ≡ 0 = none_there (IsClosed is) (length q.brackets) h.closed in
+        subst (λ (rest : List Instr). Goal (op.Jump t to) rest) (sym ways.last)
+        (subst
+        (λ (m : ℕ). Sees side (ran n (after_effect p now (effect_of (op.Jump t to) now)))
+        (through (then_do (body_meaning g.globals (calls_within most) (jump_of q.used t ++ []) units s) (leaves most u.nodes i m x.exit)) k)) (sym one)
+        (branches closed (omega (arith, h.reach)) h.within_body (jump_of q.used t) to is (is_made t now.registers.status)
+        (with_status (after_test t) now) ways refl
+        ((jumps.jump t to q.used h.operand made).does g.globals (calls_within most) units (running_on stack a) now s related (roomy (op.Jump t to) is h))))
+
+    loops : (to : ℕ) (is : List Instr) → IsNext (op.Loop to) is → Goal (op.Loop to) is
+    loops to is h =
+        let closed : length q.brackets ≡ 0 = none_there (IsClosed is) (length q.brackets) h.closed in
+        let ways : Branches u.blocks i a.at to is x.exit = h.goes in
+        subst (λ (rest : List Instr). Goal (op.Loop to) rest) (sym ways.last)
+        (branches closed (omega (arith, h.reach)) h.within_body (loop_of q.used) to is
+        (not (part width.Word (after_count now).registers.accu1 == 0)) (after_count now) ways refl
+        ((jumps.loop to q.used).does g.globals (calls_within most) units (running_on stack a) now s related (roomy (op.Loop to) is h)))
+
+    leaves_if : (is : List Instr) → IsNext op.BlockEndIf is → Goal op.BlockEndIf is
+    leaves_if is h =
+        let closed : length q.brackets ≡ 0 = none_there (IsClosed is) (length q.brackets) h.closed in
+        let ways : EndsIf u.blocks i a.at is x.exit = h.goes in
+        subst (λ (rest : List Instr). Goal op.BlockEndIf rest) (sym ways.last)
+        (ends_if closed (omega (arith, h.reach)) h.within_body is now.registers.status.rlo ways
+        ((jumps.end_if q.used).does g.globals (calls_within most) units (running_on stack a) now s related (roomy op.BlockEndIf is h)))
+
+    straight : (o : Op) (is : List Instr) → IsInside o → IsNext o is → Goal o is
+    straight o is inside h =
+        by_inside o is inside h.operand h.closed
+        (record {
+          has = h.has;
+          goes = goes_later u.blocks i a.at o is x.exit (Goes u.blocks i (a.at + 1) is x.exit) inside h.goes;
+          reach = sym h.reach;
+          within = h.within_body;
+          operands = h.operands;
+          closed = nested_behind (IsClosed is) o q inside h.closed;
+          room = h.room;
+        })
+
+    by_op : (o : Op) (is : List Instr) → IsNext o is → Goal o is
+    by_op (op.Jump jump.Always to) is h = always to is h
+    by_op (op.Jump t to) is h = tests t to is tt h.goes h refl
+    by_op (op.Loop to) is h = loops to is h
+    by_op (op.JumpList count label) is h = jump_list count label is h
+    by_op op.BlockEnd is h = end_word is h
+    by_op op.BlockEndIf is h = leaves_if is h
+    by_op o is h = straight o is tt h
+
+    pub one_step : (y : Instr) (is : List Instr) → IsLeft u.block.body u.blocks u.total i x a.at q (y ∷ is)
+        → Sees side (ran (suc n) (running p now)) (through (rest_of most u.nodes i x.exit q (y ∷ is) units s) k)
+    one_step y is left =
+        arrives n a stack u now s related y (has_first u.block.body a.at y is left.has)
+        (λ stand. Sees side (ran n stand) (through (rest_by y.op is x.exit units s) k))
+        (by_op y.op is (record {
+          operand = All-head HasItsOperand y is left.operands;
+          closed = left.closed;
+          goes = left.goes;
+          has = has_rest u.block.body a.at y is left.has;
+          reach = omega (arith, left.reach);
+          within_body = left.within;
+          operands = All-tail HasItsOperand y is left.operands;
+          room = left.room;
+        }))
+
+  -- All of them, from fewer steps to more
+
+  -- no bracket is open where a block begins
+  keeps_none : (total used : ℕ) (entries : List Entry) (acts : List Running) → entries ≡ [] → length (own_of acts) ≡ total
+      → Keeps total (context_from used) entries acts
+  keeps_none total used [] acts e long = (long, tt)
+  keeps_none total used (x ∷ entries) acts e long = cc
 
   node_none : AtNode 0
-  node_none a stack b there start ends operands nested fits now s related total small keeps units most debt begun k follows =
-      let some : 1 ≤ length b.body = not_empty b.body ends in
-      none_forth side _ (no_first_step side size units most a.at debt (omega arith) begun)
+  node_none a stack u i begins now s related none total units most debt begun k follows =
+      let at = u.unit.each i begins.0 begins.1 in
+      let some : 1 ≤ length at.is = at.some in
+      let fits : length u.block.body ≤ size = u.fits in
+      none_forth side _ (no_first_step side size units most a.at debt (omega (arith, begins.2, at.left.reach, at.left.within)) begun)
 
-  inside_none : Inside 0
-  inside_none a stack b there nodes is has ends total q left fits now s related keeps units most debt within k follows =
-      let some : 1 ≤ length is = not_empty is ends in
-      none_forth side _ (no_step side size units most a.at debt (omega arith) within)
-
-  -- one more step, at an instruction of which nothing is known but that one is there
-  more_step : (n : ℕ) → Inside n → (a : Activation) (stack : Stack) (b : Block) → slice_get p.blocks a.block ≡ Some b → (nodes : List StNode) (is : List Instr)
-      → HasFrom b.body a.at is → IsEnded is → (total : ℕ) (q : LoweringContext) → AreLeft total q is → a.at + length is ≤ size
-      → (now : Now) (s : State) → Related (running_on stack a) now s → Keeps total q now.brackets s.activations
-      → (units most debt : ℕ) → Within side size n units most (a.at + 1) debt
-      → (k : ℕ → State → End) → Follows n a stack k debt
-      → Sees side (ran (suc n) (running p now)) (through (rest_of most nodes q is units s) k)
-  more_step n inside a stack b there nodes [] has ends total q left fits now s related keeps units most debt within k follows = elim ends [ ]
-  more_step n inside a stack b there nodes (i ∷ is) has ends total q left fits now s related keeps units most debt within k follows =
-      one_step n a stack b there nodes i is has ends total q left (omega arith) now s related keeps units most debt within k follows inside
-
-  inside_next : (n : ℕ) → Inside n → Inside (suc n)
-  inside_next n inside a stack b there nodes is has ends total q left fits now s related keeps units most debt within k follows =
-      more_step n inside a stack b there nodes is has ends total q left fits now s related keeps units most debt
-      (next_step side size n units most a.at debt within) k
-      (fewer n (suc n) a stack k debt (omega arith) follows)
-
-  node_next : (n : ℕ) → Inside n → AtNode (suc n)
-  node_next n inside a stack b there start ends operands nested fits now s related total small keeps units zero debt begun k follows =
+  node_next : (n : ℕ) → ((m : ℕ) → m ≤ n → Both m) → AtNode (suc n)
+  node_next n below a stack u i begins now s related none total units zero debt begun k follows =
       none_back side _ (no_node side size n units a.at debt begun)
-  node_next n inside a stack b there start ends operands nested fits now s related total small keeps units (suc most) debt begun k follows =
-      more_step n inside a stack b there (node_of b.body ∷ []) b.body (λ j. let e : a.at + j ≡ j = omega arith in ap (slice_get b.body) e) ends
-      total first_context (operands, nested, small) fits now s related keeps units most debt
-      (first_step side size n units most a.at debt begun) k (fewer n (suc n) a stack k debt (omega arith) follows)
+  node_next n below a stack u i begins now s related none total units (suc most) debt begun k follows =
+      let at = u.unit.each i begins.0 begins.1 in
+      subst (λ (o : Out). Sees side (ran (suc n) (running p now)) (through o k))
+      (sym
+      (ap
+      (λ (o : Option StNode). node_meaning g.globals counts (calls_within most) (nodes_do counts g most u.nodes) i o units s)
+      at.there))
+      (by at.is at.some (subst (λ (m : ℕ). IsLeft u.block.body u.blocks u.total i begins.0 m (context_from at.used) at.is) begins.2 at.left))
+    where
+      by : (is : List Instr) → 1 ≤ length is
+          → IsLeft u.block.body u.blocks u.total i begins.0 a.at (context_from (u.unit.each i begins.0 begins.1).used) is
+          → Sees side (ran (suc n) (running p now))
+          (through (rest_of most u.nodes i begins.0.exit (context_from (u.unit.each i begins.0 begins.1).used) is units s) k)
+      by [] some left = absurd (omega arith)
+      by (y ∷ is) some left =
+          let used : ℕ = (u.unit.each i begins.0 begins.1).used in
+          one_step n below a stack u i begins.0 begins.1 (context_from used) now s related
+          (keeps_none u.total used now.brackets s.activations none total) units most debt
+          (first_step side size n units most a.at debt begun) k (fewer n (suc n) a stack k debt (omega arith) follows) y is left
 
-  abbrev pub Both : ℕ → Type 0
-  Both n = AtNode n × Inside n
+  -- with the exit of a node from which the next one follows, which takes no step
+  falls : (n : ℕ) → AtNode n → (a : Activation) (stack : Stack) (u : HasBlock p size a.block) (i : ℕ) (x : Node) → slice_get u.blocks i ≡ Some x
+      → (q : LoweringContext) → IsLeft u.block.body u.blocks u.total i x a.at q [] → (now : Now) (s : State) → Related (running_on stack a) now s
+      → Keeps u.total q now.brackets s.activations → (units most debt : ℕ) → Within side size n units most a.at debt
+      → (k : ℕ → State → End) → Follows n a stack k debt
+      → Sees side (ran n (running p now)) (through (rest_of most u.nodes i x.exit q [] units s) k)
+  falls n node a stack u i x piece q left now s related keeps units most debt within k follows =
+      let fits : length u.block.body ≤ size = u.fits in
+      subst (λ (e : Exit). Sees side (ran n (running p now)) (through (rest_of most u.nodes i e q [] units s) k)) (sym left.goes.0)
+      (to_node n node a stack u i most debt k follows (suc i) a.at a.at left.goes.1 (λ unpaid. omega arith) (omega (arith, left.reach, left.within))
+      now s related (no_entries now.brackets (as_many q.used q.brackets now.brackets (own_of s.activations) keeps.1 ∙ left.closed)) keeps.0 units within)
 
-  -- from all smaller numbers, which jumps and calls ask for
+  inside_none : AtNode 0 → Inside 0
+  inside_none node a stack u i x piece q [] left now s related keeps units most debt within k follows =
+      falls 0 node a stack u i x piece q left now s related keeps units most debt within k follows
+  inside_none node a stack u i x piece q (y ∷ is) left now s related keeps units most debt within k follows =
+      let fits : length u.block.body ≤ size = u.fits in
+      none_forth side _ (no_step side size units most a.at debt (omega (arith, left.reach, left.within)) within)
+
+  inside_next : (n : ℕ) → AtNode (suc n) → ((m : ℕ) → m ≤ n → Both m) → Inside (suc n)
+  inside_next n node below a stack u i x piece q [] left now s related keeps units most debt within k follows =
+      falls (suc n) node a stack u i x piece q left now s related keeps units most debt within k follows
+  inside_next n node below a stack u i x piece q (y ∷ is) left now s related keeps units most debt within k follows =
+      one_step n below a stack u i x piece q now s related keeps units most debt (next_step side size n units most a.at debt within) k
+      (fewer n (suc n) a stack k debt (omega arith) follows) y is left
+
+  -- from all smaller numbers, which jump lists and calls ask for
   both_next : (n : ℕ) → ((m : ℕ) → m ≤ n → Both m) → Both (suc n)
-  both_next n smaller = let here : Both n = smaller n (omega arith) in (node_next n here.1, inside_next n here.1)
+  both_next n below = let node : AtNode (suc n) = node_next n below in (node, inside_next n node below)
 
   both_within : (n m : ℕ) → m ≤ n → Both m
-  both_within zero zero h = (node_none, inside_none)
+  both_within zero zero h = (node_none, inside_none node_none)
   both_within zero (suc m) h = absurd (omega arith)
   both_within (suc n) m h =
       ⊎_elim (λ (e : m ≡ suc n). subst Both (sym e) (both_next n (both_within n))) (λ (less : m < suc n). both_within n m (omega arith)) (eq-or-lt_of_le h)

@@ -2,9 +2,8 @@
 use Rattle.std.proofs.Common.{◌≡◌, ℕ, suc, ◌+◌, ◌<◌, ◌≤◌, List, [], ◌∷◌, length, refl, ap, ◌∙◌, arith}
 use Rattle.std.specs.Prelude.{slice_get}
 use Rattle.s7_base.specs.declared.check.Entry.{Entry}
-use Rattle.st_tree.specs.State.{Activation}
+use Rattle.st_tree.specs.State.{Activation, own_of}
 use Rattle.st_tree.specs.declared.state.Value.{Value}
-use Rattle.template_parts.specs.DoesInstruction.{own_of}
 use Rattle.bit_templates.specs.Brackets.{KeepBrackets, KeepsBracket}
 use Rattle.bit_templates.specs.declared.chain.OpenBracket.{OpenBracket}
 use Rattle.instruction_lowering.specs.declared.statements.LoweringContext.{LoweringContext}

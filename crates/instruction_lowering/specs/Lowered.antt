@@ -1,16 +1,20 @@
 -- A graph program that means the same as a program.
-use Rattle.std.specs.Prelude.{◌≡◌, ℕ, ◌+◌, ◌*◌, ◌≤◌, Bool, true, false, List, [], ◌∷◌, ◌++◌, ◌⊎◌, length, flat_map, All, Option}
+use Rattle.std.specs.Prelude.{◌≡◌, ℕ, ◌+◌, ◌*◌, ◌≤◌, ◌==◌, Bool, true, List, [], ◌∷◌, ◌++◌, ◌⊎◌, length, flat_map, All, Option}
 use Rattle.std.specs.List.{sum_by}
+use Rattle.flow_graph.specs.Graphs.{IsGraphOf, extent_of}
+use Rattle.flow_graph.specs.declared.graph.Exit.{Exit}
+use Rattle.flow_graph.specs.declared.graph.Exit.TheVariants as way
+use Rattle.flow_graph.specs.declared.graph.Graph.{Graph}
+use Rattle.flow_graph.specs.declared.graph.Node.{Node}
 use Rattle.memory_areas.specs.Areas.{Areas, IsMemoryOf}
 use Rattle.memory_areas.specs.End.{End, Ended}
 use Rattle.memory_areas.specs.declared.data_block.DataBlock.{DataBlock}
 use Rattle.s7_base.specs.declared.outcome.Fault.{Fault}
 use Rattle.s7_base.specs.declared.register.Reg.{Reg}
 use Rattle.st_tree.specs.BodyParts.{reads_in, reads_of as variables_of}
+use Rattle.stl_tree.specs.Blocks.{instructions_of}
 use Rattle.stl_tree.specs.Reads.{reads_of}
 use Rattle.stl_tree.specs.declared.program.Instr.{Instr}
-use Rattle.stl_tree.specs.declared.program.Op.{Op}
-use Rattle.stl_tree.specs.declared.program.Op.TheVariants as op
 use Rattle.stl_tree.specs.StlRun.{Fits, HasNoInstance, size_of, stl_run}
 use Rattle.stl_tree.specs.declared.program.Block.{Block}
 use Rattle.stl_tree.specs.declared.program.Formal.{Formal}
@@ -29,60 +33,51 @@ use Rattle.st_tree.specs.declared.program.Local.{Local}
 use Rattle.st_tree.specs.declared.program.Pou.{Pou}
 use Rattle.st_tree.specs.Values.{type_of_width}
 use Rattle.graph_rules.specs.Plain.{IsTemporary, tests_of}
-use Rattle.template_parts.specs.Writes.{AreWrites}
+use Rattle.graph_rules.specs.Writes.{AreWrites}
 use Rattle.template_parts.specs.Nodes.{nodes, nodes_in}
 use Rattle.template_parts.specs.Reading.{EachRegister, IsAmong}
 
--- Blocks
+-- Nodes
 
--- the blocks of a body: it is cut before each target of a jump and after each jump; no instruction jumps so far, so it
--- is one block
-abbrev pub blocks_of : List Instr → List (List Instr)
-blocks_of body = body ∷ []
+-- the exit of a node goes on as a body does: with the node behind it, at a node, where a test is true, or at the node
+-- that an expression selects
+abbrev pub IsExitOf : Exit → StExit → Type 0
+IsExitOf way.Fall exit_of.Fall = Unit {0}
+IsExitOf (way.Jump j) (exit_of.Jump k) = k ≡ j
+IsExitOf (way.Branch j) (exit_of.Branch test k) = k ≡ j
+IsExitOf way.EndIf (exit_of.EndIf test) = Unit {0}
+IsExitOf (way.Table js j) (exit_of.Table selected ks k) = (ks ≡ js) × (k ≡ j)
+IsExitOf way.End exit_of.End = Unit {0}
+IsExitOf way other = ⊥
 
--- the exit of a node after an instruction: an end word ends its unit, and after any other the next node follows
-abbrev pub IsExitBehind : Op → StExit → Type 0
-IsExitBehind op.BlockEnd exit = exit ≡ exit_of.End
-IsExitBehind other exit = exit ≡ exit_of.Fall
-
--- the exit of a node after the last instruction of its block
-abbrev pub IsExitOf : List Instr → StExit → Type 0
-IsExitOf [] exit = ⊥
-IsExitOf (i ∷ []) exit = IsExitBehind i.op exit
-IsExitOf (i ∷ j ∷ rest) exit = IsExitOf (j ∷ rest) exit
-
--- an instruction ends its block
-abbrev pub ends_block : Op → Bool
-ends_block op.BlockEnd = true
-ends_block other = false
-
--- a block is an end word alone
-abbrev pub is_end_alone : List Instr → Bool
-is_end_alone (i ∷ []) = ends_block i.op
-is_end_alone other = false
+-- a block is the end word of its body alone, which is the last instruction
+abbrev pub is_end_alone : List Instr → Node → Bool
+is_end_alone body block = block.first + 1 == length body
 
 -- some instruction reads a register
 abbrev pub IsRead : List Instr → Reg → Type 0
 IsRead [] r = ⊥
 IsRead (i ∷ rest) r = IsAmong r (reads_of i.op) ⊎ IsRead rest r
 
--- a node is that of a block: it has the exit of the block; its steps and the test of its exit read only register
--- variables that instructions of the block read, and have at most eleven statements and 91 nodes of expressions for
--- each of them
-pub record IsNodeOf (block : List Instr) (node : StNode) : Type 0 where
-  pub exit : IsExitOf block node.exit
-  pub only_end : node.only_end ≡ is_end_alone block
+-- a node is that of a block of a body: it has the exit of the block; its steps and the test of its exit read only
+-- register variables that instructions of the block read, and have at most eleven statements and 91 nodes of
+-- expressions for each of them
+pub record IsNodeOf (body : List Instr) (block : Node) (node : StNode) : Type 0 where
+  pub exit : IsExitOf block.exit node.exit
+  pub only_end : node.only_end ≡ is_end_alone body block
   pub steps : AreWrites node.steps
-  pub reads : EachRegister (IsRead block) (reads_in node.steps ++ flat_map variables_of (tests_of node.exit))
-  pub few : length node.steps + length (tests_of node.exit) ≤ 11 * length block
-  pub small : nodes_in node.steps + sum_by nodes (tests_of node.exit) ≤ 91 * length block
+  pub reads : EachRegister (IsRead (instructions_of body (extent_of block)))
+      (reads_in node.steps ++ flat_map variables_of (tests_of node.exit))
+  pub few : length node.steps + length (tests_of node.exit) ≤ 11 * length (instructions_of body (extent_of block))
+  pub small : nodes_in node.steps + sum_by nodes (tests_of node.exit)
+      ≤ 91 * length (instructions_of body (extent_of block))
 
--- there is a node for each block, in the same order
-abbrev pub AreNodesOf : List (List Instr) → List StNode → Type 0
-AreNodesOf [] [] = Unit {0}
-AreNodesOf [] (node ∷ nodes) = ⊥
-AreNodesOf (block ∷ blocks) [] = ⊥
-AreNodesOf (block ∷ blocks) (node ∷ nodes) = IsNodeOf block node × AreNodesOf blocks nodes
+-- there is a node for each block of a body, in the same order
+abbrev pub AreNodesOf : List Instr → List Node → List StNode → Type 0
+AreNodesOf body [] [] = Unit {0}
+AreNodesOf body [] (node ∷ nodes) = ⊥
+AreNodesOf body (block ∷ blocks) [] = ⊥
+AreNodesOf body (block ∷ blocks) (node ∷ nodes) = IsNodeOf body block node × AreNodesOf body blocks nodes
 
 -- Units
 
@@ -113,10 +108,12 @@ pub record IsHeadOf (block : Block) (head : Pou) : Type 0 where
   pub locals : All IsTemporary head.locals
   pub body : head.body ≡ []
 
--- a unit is that of a block: it has its head, and a node for each block of its body
+-- a unit is that of a block: it has its head, and the nodes of the graph of its body
 pub record IsUnitOf (block : Block) (unit : GraphPou) : Type 0 where
   pub head : IsHeadOf block unit.head
-  pub nodes : AreNodesOf (blocks_of block.body) unit.graph.nodes
+  pub graph : Graph
+  pub is_graph : IsGraphOf block.body graph
+  pub nodes : AreNodesOf block.body graph.nodes unit.graph.nodes
 
 -- there is a unit for each block, in the same order
 abbrev pub AreUnitsOf : List Block → List GraphPou → Type 0

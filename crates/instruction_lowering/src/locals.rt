@@ -1,6 +1,5 @@
 //! The temporaries of a unit.
 ghost use Rattle.std.specs.Prelude.{◌≡◌, ◌<◌, ◌^◌, ◌++◌, length, IfOk, OnOk};
-ghost use Rattle.instruction_lowering.specs.Lowered.{ends_block};
 ghost use Rattle.instruction_lowering.specs.inner.Temporaries.{types_in, types_of, types_of_unary};
 ghost use Rattle.instruction_lowering.specs.inner.Lowering.{temporaries, temporary};
 
@@ -11,6 +10,7 @@ use arithmetic_templates::{types_of_calculated, types_of_compared, types_of_nega
 use bit_templates::{types_checked, types_of_bracket, types_of_edge};
 use digit_templates::{types_of_btd, types_of_bti, types_of_dtb, types_of_itb};
 use itoa::Buffer;
+use jump_templates::{types_of_jump, types_of_list, types_of_test};
 use pointer_templates::{types_of_pointer_exchange, types_of_pointer_load, types_of_pointer_store};
 use s7_base::{List, NoMemory, Width};
 use shift_templates::{types_of_shift, types_through_cc1};
@@ -75,6 +75,9 @@ pub fn types_of(op: &Op) -> &'static [StType]
         Op::Logic(row, constant) => types_of_logic(*row, *constant),
         Op::Unary(row) => types_of_unary(*row),
         Op::Tak => types_of_exchange(),
+        Op::Jump(test, _) => types_of_jump(*test),
+        Op::Loop(_) | Op::BlockEndIf => types_of_test(),
+        Op::JumpList(_, _) => types_of_list(),
         _ => &[],
     }
 }
@@ -91,15 +94,6 @@ fn types_of_unary(row: UnaryRow) -> &'static [StType]
         UnaryRow::Negi => types_of_negated(Width::Word),
         UnaryRow::Negd => types_of_negated(Width::Dword),
         UnaryRow::Itd | UnaryRow::Invi | UnaryRow::Invd | UnaryRow::Caw | UnaryRow::Cad => &[],
-    }
-}
-
-pub fn ends_block(op: &Op) -> bool
-    ensures { result ≡ ends_block op.now }
-{
-    match op {
-        Op::BlockEnd => true,
-        _ => false,
     }
 }
 

@@ -1,9 +1,9 @@
 //! The statements of an instruction.
 //!
-//! Each is a handful of assignments and area writes, so a body without jumps is one node. Of the status word all bits but
-//! STA have variables.
+//! Each is a handful of assignments and area writes, so a block without a jump inside is one node. Of the status word all
+//! bits but STA have variables.
 ghost use Rattle.std.specs.Prelude.{◌≡◌, ◌<◌, ◌+◌, ◌^◌, ◌++◌, IfOk, OnOk};
-ghost use Rattle.instruction_lowering.specs.inner.Templates.{context_after, close_innermost, end_word_of, first_context, more, statements_of, unary_of, with_bracket};
+ghost use Rattle.instruction_lowering.specs.inner.Templates.{context_after, close_innermost, context_from, end_word_of, more, statements_of, unary_of, with_bracket};
 
 use crate::locals::types_of;
 use accumulator_templates::{
@@ -17,6 +17,7 @@ use bit_templates::{
     push_opened, push_or_alone, push_reset, push_rising, push_rlo, push_saved, push_set,
 };
 use digit_templates::{push_btd, push_bti, push_dtb, push_itb};
+use jump_templates::{push_end_if, push_jump, push_list, push_loop};
 use pointer_templates::{
     push_pointer_exchange, push_pointer_load, push_pointer_move, push_pointer_store,
 };
@@ -32,19 +33,19 @@ use template_parts::{literal, push_clear_or, set_register};
 #[derive(Drop)]
 pub struct LoweringContext {
     /// How many locals the unit has so far.
-    used: u32,
+    pub used: u32,
 
     /// The brackets that are open, the innermost one first.
     brackets: LinkedList<OpenBracket>,
 }
 
 impl LoweringContext {
-    /// The state at the start of a body.
-    pub fn first(alloc: Global) -> LoweringContext
-        ensures { result ≡ first_context }
+    /// The state at the start of a block, where the unit has so many locals; no bracket is open there.
+    pub fn from(alloc: Global, used: u32) -> LoweringContext
+        ensures { result ≡ context_from used }
     {
         LoweringContext {
-            used: 0,
+            used,
             brackets: LinkedList::new(alloc),
         }
     }
@@ -129,7 +130,11 @@ pub fn push_statements(
         Op::OpenDi(block) => push_block_open(alloc, steps, first, Reg::DiNo, *block),
         Op::ExchangeDb => push_block_exchange(steps, first),
         Op::Nop => Ok(()),
+        Op::Jump(test, _) => push_jump(alloc, steps, first, *test),
+        Op::Loop(_) => push_loop(alloc, steps, first),
+        Op::JumpList(_, _) => push_list(alloc, steps, first),
         Op::BlockEnd => push_end(steps),
+        Op::BlockEndIf => push_end_if(alloc, steps, first),
     }
 }
 

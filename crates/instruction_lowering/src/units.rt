@@ -1,22 +1,25 @@
 //! The units of a program's blocks.
 //!
-//! No instruction of the language so far jumps, so each unit is one node, which its end word ends.
-ghost use Rattle.std.specs.Prelude.{◌≡◌, ◌++◌, decimal, IfOk, OnOk};
+//! A unit has a node for each block of its body, by the graph of the body. The locals of a unit are numbered through its
+//! nodes, in one pass.
+ghost use Rattle.std.specs.Prelude.{◌≡◌, ◌+◌, ◌==◌, ◌++◌, decimal, IfOk, OnOk};
 ghost use Rattle.graph_rules.specs.Plain.{Plain};
 ghost use Rattle.st_tree.specs.StRun.{called_name};
-ghost use Rattle.stl_tree.specs.Accepted.{IsAccepted};
+ghost use Rattle.stl_tree.specs.Accepted.{IsAccepted, IsAcceptedBlock};
 ghost use Rattle.instruction_lowering.specs.Lowered.{Lowered};
-ghost use Rattle.instruction_lowering.specs.inner.Lowering.{IsFew, graph_of, head_for, graph_program_of, node_of, steps_of, unit_of};
-ghost use Rattle.instruction_lowering.specs.inner.Templates.{first_context};
+ghost use Rattle.instruction_lowering.specs.inner.Lowering.{IsFew, IsMadeOf, exit_behind, head_for, node_of, nodes_of, steps_of, used_behind};
+ghost use Rattle.instruction_lowering.specs.inner.Templates.{context_from};
 
 use crate::data_blocks::copy_blocks;
-use crate::locals::{ends_block, locals_of};
+use crate::locals::locals_of;
 use crate::statements::{LoweringContext, push_statements};
+use flow_graph::{Exit, Node, graph_of};
 use itoa::Buffer;
-use s7_base::{List, NoMemory};
+use s7_base::{List, NoMemory, front_of, rest_after};
 use st_tree::{GraphPou, GraphProgram, Pou, StExit, StGraph, StNode, Stmt};
 use std::alloc::Global;
 use stl_tree::{Block, BlockName, Instr, Program};
+use template_parts::local;
 
 /// The graph program of a program: a unit for each block, in the order of the blocks. It means what the
 /// program means.
@@ -38,23 +41,19 @@ pub fn lower(alloc: Global, program: &Program) -> Result<GraphProgram, NoMemory>
     })
 }
 
+/// The unit of a block.
 fn unit(alloc: Global, block: &Block) -> Result<GraphPou, NoMemory>
-    ensures unit { IfOk result (λ unit. unit ≡ unit_of block.now) }
+    requires { IsAcceptedBlock block.now }
+    ensures unit { IfOk result (λ unit. IsMadeOf block.now unit) }
     ensures few { OnOk result (IsFew block.now) }
 {
-    let graph = graph(alloc, block.body.as_slice())?;
+    let graph = graph_of(alloc, block.body.as_slice())?;
+    let nodes = nodes(alloc, block.body.as_slice(), graph.nodes)?;
     let head = head(alloc, block)?;
-    Ok(GraphPou { head, graph })
-}
-
-/// The graph of a body, which is one node.
-fn graph(alloc: Global, body: &[Instr]) -> Result<StGraph, NoMemory>
-    ensures { IfOk result (λ graph. graph ≡ graph_of body.now) }
-{
-    let node = node(alloc, body)?;
-    let mut nodes = List::new(alloc);
-    nodes.push(node)?;
-    Ok(StGraph { nodes })
+    Ok(GraphPou {
+        head,
+        graph: StGraph { nodes },
+    })
 }
 
 fn head(alloc: Global, block: &Block) -> Result<Pou, NoMemory>
@@ -90,30 +89,72 @@ fn word_with_number(alloc: Global, word: &str, number: u16) -> Result<List<u8>, 
     Ok(List::from_vec(text))
 }
 
-/// The node of a body of which no instruction jumps.
-fn node(alloc: Global, body: &[Instr]) -> Result<StNode, NoMemory>
-    ensures { IfOk result (λ node. node ≡ node_of body.now) }
+/// The nodes of a body with these blocks.
+fn nodes(alloc: Global, body: &[Instr], blocks: List<Node>) -> Result<List<StNode>, NoMemory>
+    ensures { IfOk result (λ nodes. nodes ≡ nodes_of body.now blocks) }
 {
+    let mut nodes = List::new(alloc);
+    let mut used: u32 = 0;
+    let mut rest = body;
+    for block in blocks.into_vec() {
+        let count = block.past.saturating_sub(block.first) as usize;
+        let node = node(alloc, body.len(), &mut used, front_of(rest, count), block)?;
+        nodes.push(node)?;
+        rest = rest_after(rest, count);
+    }
+    Ok(nodes)
+}
+
+/// The node of a block with these instructions, of a body of this length.
+fn node(
+    alloc: Global,
+    size: usize,
+    used: &mut u32,
+    instructions: &[Instr],
+    block: Node,
+) -> Result<StNode, NoMemory>
+    ensures node { IfOk result (λ node. node ≡ node_of (context_from used.old) instructions.now block.exit (block.first + 1 == size)) }
+    ensures used { OnOk result (used.new ≡ used_behind (context_from used.old) instructions.now) }
+{
+    let mut spot = LoweringContext::from(alloc, *used);
     let mut steps = List::new(alloc);
-    push_steps(alloc, &mut steps, body)?;
+    push_steps(alloc, &mut steps, &mut spot, instructions)?;
+    *used = spot.used;
     Ok(StNode {
         steps,
-        exit: StExit::End,
-        only_end: body.len() == 1,
+        exit: exit_behind(spot.used, block.exit),
+        only_end: block.first as usize + 1 == size,
     })
 }
 
-/// Appends the statements of a body; nothing after an end word is reached.
-fn push_steps(alloc: Global, steps: &mut List<Stmt>, body: &[Instr]) -> Result<(), NoMemory>
-    ensures { OnOk result (steps.new ≡ steps.old ++ steps_of first_context body.now) }
+/// The exit of a node: what it tests is in the last local.
+fn exit_behind(used: u32, way: Exit) -> StExit
+    ensures { result ≡ exit_behind used way }
 {
-    let mut spot = LoweringContext::first(alloc);
-    let mut rest = body;
+    let last = used.saturating_sub(1);
+    match way {
+        Exit::Fall => StExit::Fall,
+        Exit::Jump(node) => StExit::Jump(node),
+        Exit::Branch(node) => StExit::Branch(local(last), node),
+        Exit::EndIf => StExit::EndIf(local(last)),
+        Exit::Table(nodes, node) => StExit::Table(local(last), nodes, node),
+        Exit::End => StExit::End,
+    }
+}
+
+/// Appends the statements of some instructions.
+fn push_steps(
+    alloc: Global,
+    steps: &mut List<Stmt>,
+    spot: &mut LoweringContext,
+    instructions: &[Instr],
+) -> Result<(), NoMemory>
+    ensures steps { OnOk result (steps.new ≡ steps.old ++ steps_of spot.old instructions.now) }
+    ensures used { OnOk result (spot.new.used ≡ used_behind spot.old instructions.now) }
+{
+    let mut rest = instructions;
     while let Some((instr, behind)) = rest.split_first() {
-        push_statements(alloc, steps, &mut spot, &instr.op)?;
-        if ends_block(&instr.op) {
-            break;
-        }
+        push_statements(alloc, steps, spot, &instr.op)?;
         rest = behind;
     }
     Ok(())

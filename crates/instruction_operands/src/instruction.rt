@@ -80,6 +80,8 @@ fn with_nothing(what: Mnemonic) -> Option<Op>
         Mnemonic::ExchangeAr => Some(Op::ExchangeAr),
         Mnemonic::AddAr(ar) => Some(Op::AddAr(ar, None)),
         Mnemonic::ExchangeDb => Some(Op::ExchangeDb),
+        Mnemonic::BlockEnd => Some(Op::BlockEnd),
+        Mnemonic::BlockEndIf => Some(Op::BlockEndIf),
         _ => None,
     }
 }
@@ -383,6 +385,18 @@ fn with_operand(what: Mnemonic, operand: Operand, width: Width) -> Option<Op>
     }
 }
 
+/// A jump to the position of a label; a jump list is made without its `JU`.
+fn with_target(what: Mnemonic, to: u32) -> Option<Op>
+    ensures { result ≡ op_with what (behind.Target to) }
+{
+    match what {
+        Mnemonic::Jump(test) => Some(Op::Jump(test, to)),
+        Mnemonic::Loop => Some(Op::Loop(to)),
+        Mnemonic::JumpList => Some(Op::JumpList(0, to)),
+        _ => None,
+    }
+}
+
 /// The instruction of a mnemonic and its operand, if there is one.
 #[tactic(auto, using(crate::proofs::Operands::none_fit))]
 fn op_with(what: Mnemonic, resolved_operand: ResolvedOperand) -> Option<Op>
@@ -401,6 +415,7 @@ fn op_with(what: Mnemonic, resolved_operand: ResolvedOperand) -> Option<Op>
         ResolvedOperand::OtherAr => with_other_ar(what),
         ResolvedOperand::DbBy(number) => with_db_by(what, number),
         ResolvedOperand::DiBy(number) => with_di_by(what, number),
+        ResolvedOperand::Target(to) => with_target(what, to),
         ResolvedOperand::Outside(_, _)
         | ResolvedOperand::NoPointer
         | ResolvedOperand::NoNumber

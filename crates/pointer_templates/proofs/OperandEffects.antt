@@ -11,7 +11,7 @@ use Rattle.pointer_templates.specs.Pointers.{pointed_of, pointer_load_of, pointe
 use Rattle.template_parts.specs.Builders.{read_of}
 use Rattle.template_parts.specs.Fetching.{fetched_value_of, types_fetched, types_reached}
 use Rattle.template_parts.specs.Related.{Frames, Related}
-use Rattle.template_parts.specs.DoesInstruction.{DoesInstruction, Stops, own_of}
+use Rattle.template_parts.specs.DoesInstruction.{DoesInstruction, Stops}
 use Rattle.template_parts.proofs.Alike.{same_areas}
 use Rattle.template_parts.proofs.Fetching.{fetch_effect, number_shown, number_value, reach_effect}
 use Rattle.template_parts.proofs.MemoryEffects.{by_value}
@@ -23,7 +23,7 @@ use Rattle.s7_base.specs.declared.register.Reg.TheVariants as reg
 use Rattle.s7_base.specs.declared.word.Width.TheVariants as width
 use Rattle.st_tree.proofs.Equations.{assign_stops_at_value}
 use Rattle.st_tree.specs.Meaning.{Calls, body_meaning}
-use Rattle.st_tree.specs.State.{State, read_place}
+use Rattle.st_tree.specs.State.{State, own_of, read_place}
 use Rattle.st_tree.specs.Value.{value}
 use Rattle.st_tree.specs.Values.{typed}
 use Rattle.st_tree.specs.declared.expr.Expr.{Expr}

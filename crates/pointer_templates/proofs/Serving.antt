@@ -9,14 +9,14 @@ use Rattle.pointer_templates.proofs.PointerEffects.{accu1_effect, constant_effec
 use Rattle.pointer_templates.proofs.StatementReads.{pointer_exchange_reads, pointer_load_reads, pointer_move_reads, pointer_store_reads}
 use Rattle.pointer_templates.specs.PointerLaw.{PointersServe}
 use Rattle.pointer_templates.specs.Pointers.{pointer_exchange_of, pointer_load_of, pointer_move_of, pointer_store_of, types_of_pointer_exchange, types_of_pointer_load, types_of_pointer_store}
-use Rattle.template_parts.specs.DoesInstruction.{DoesInstruction, own_of}
+use Rattle.template_parts.specs.DoesInstruction.{DoesInstruction}
 use Rattle.template_parts.specs.Related.{Frames, Related}
 use Rattle.template_parts.proofs.Obligations.{HasSizes, by_sizes}
 use Rattle.template_parts.proofs.RegisterEffects.{HasRegisterEffect, does_effect}
 use Rattle.template_parts.proofs.Typing.{no_statement}
 use Rattle.s7_base.specs.declared.register.Reg.TheVariants as reg
 use Rattle.st_tree.specs.Meaning.{Calls, body_meaning}
-use Rattle.st_tree.specs.State.{State}
+use Rattle.st_tree.specs.State.{State, own_of}
 use Rattle.st_tree.specs.declared.expr.StType.{StType}
 use Rattle.st_tree.specs.declared.program.Located.{Located}
 use Rattle.st_tree.specs.declared.program.Stmt.{Stmt}

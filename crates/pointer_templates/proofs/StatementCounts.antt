@@ -27,7 +27,7 @@ use Rattle.stl_tree.specs.declared.program.ArStore.TheVariants as store
 
 module _ (first : ℕ) where
   -- an address register takes a pointer
-  pointed_sizes : (a : Ar) (e : Expr) (n : ℕ) → nodes e ≡ n → n ≤ 5 → misses first e ≡ 0 → HasSizes first [] (pointed_of a e)
+  pointed_sizes : (a : Ar) (e : Expr) (n : ℕ) → nodes e ≡ n → n ≤ 5 → misses first first e ≡ 0 → HasSizes first [] (pointed_of a e)
   pointed_sizes a e n same few none =
       record {
         writes = tt;
@@ -37,8 +37,8 @@ module _ (first : ℕ) where
         sets = refl;
       }
 
-  register_misses : (n : ℕ) (a : Ar) → misses n (read_of (register_of a)) ≡ 0
-  register_misses n a = ap (missed n) (reads_of_read (var.Register (register_of a)))
+  register_misses : (n : ℕ) (a : Ar) → misses first n (read_of (register_of a)) ≡ 0
+  register_misses n a = ap (missed first n) (reads_of_read (var.Register (register_of a)))
 
   pub pointer_load_sizes : (a : Ar) (from : ArLoad) → HasSizes first (types_of_pointer_load from) (pointer_load_of first a from)
   pointer_load_sizes a load.Accu1 = pointed_sizes a (read_of reg.Accu1) 1 (of_register reg.Accu1) (omega arith) (simp order_equations)
@@ -47,7 +47,7 @@ module _ (first : ℕ) where
   pointer_load_sizes a (load.At o) =
       let before : List Stmt = fetch_of first o width.Dword in
       let e : Expr = fetched_value_of first o width.Dword in
-      let none : misses (first + locals_set before) e ≡ 0 =
+      let none : misses first (first + locals_set before) e ≡ 0 =
       fetched_misses first o width.Dword (first + locals_set before) (omega (arith, fetch_sets first o width.Dword)) in
       record {
         writes = writes_in_parts before (pointed_of a e) (fetch_writes first o width.Dword) tt;
@@ -60,7 +60,7 @@ module _ (first : ℕ) where
           fetched_nodes first o width.Dword,
           of_nothing,
         );
-        order = disorder_in_parts first before (pointed_of a e) (fetch_disorder first o width.Dword) (omega (arith, none));
+        order = disorder_in_parts first first before (pointed_of a e) (fetch_disorder first o width.Dword) (omega (arith, none));
         sets = omega (arith, sets_in_parts before (pointed_of a e), fetch_sets first o width.Dword);
       }
   pointer_load_sizes a load.OtherAr =
@@ -84,7 +84,7 @@ module _ (first : ℕ) where
           of_register (register_of a),
           of_nothing,
         );
-        order = disorder_in_parts first (reach_of first o) own (reach_disorder first o)
+        order = disorder_in_parts first first (reach_of first o) own (reach_disorder first o)
             (writing_disorder w first o width.Dword e [] (omega (arith, reach_sets first o)) (register_misses w a) refl);
         sets = omega (arith, sets_in_parts (reach_of first o) own, reach_sets first o, writing_sets first o width.Dword e []);
       }

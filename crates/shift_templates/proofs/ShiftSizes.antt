@@ -19,64 +19,64 @@ use Rattle.stl_tree.specs.declared.accumulator.ShiftRow.TheVariants as row
 
 -- Order, a statement at a time
 
--- where so many locals are written, statements set the next ones in order
-record IsNext (w : ℕ) (body : List Stmt) : Type 0 where
-  none : disorder w body ≡ 0
+-- where so many locals are written, statements set the next ones in order, and read those alone from the lowest one on
+record IsNext (low w : ℕ) (body : List Stmt) : Type 0 where
+  none : disorder low w body ≡ 0
 
-nothing_next : {w : ℕ} → IsNext w []
+nothing_next : {low w : ℕ} → IsNext low w []
 nothing_next = record { none = refl }
 
-local_next : {w i : ℕ} {e : Expr} {rest : List Stmt} → i ≡ w → misses w e ≡ 0 → IsNext (suc w) rest → IsNext w (set_local_of i e ∷ rest)
-local_next {w} {i} {e} {rest} same known h = let others : disorder (suc w) rest ≡ 0 = h.none in record { none = omega arith }
+local_next : {low w i : ℕ} {e : Expr} {rest : List Stmt} → i ≡ w → misses low w e ≡ 0 → IsNext low (suc w) rest → IsNext low w (set_local_of i e ∷ rest)
+local_next {low} {w} {i} {e} {rest} same known h = let others : disorder low (suc w) rest ≡ 0 = h.none in record { none = omega arith }
 
-register_next : {w : ℕ} {r : Reg} {e : Expr} {rest : List Stmt} → misses w e ≡ 0 → IsNext w rest → IsNext w (set_of r e ∷ rest)
-register_next {w} {r} {e} {rest} known h = let others : disorder w rest ≡ 0 = h.none in record { none = omega arith }
+register_next : {low w : ℕ} {r : Reg} {e : Expr} {rest : List Stmt} → misses low w e ≡ 0 → IsNext low w rest → IsNext low w (set_of r e ∷ rest)
+register_next {low} {w} {r} {e} {rest} known h = let others : disorder low w rest ≡ 0 = h.none in record { none = omega arith }
 
-operand_misses : (n : ℕ) (w : Width) → misses n (operand_of w) ≡ 0
-operand_misses n width.Word = simp order_equations
-operand_misses n w = simp order_equations
+operand_misses : (low n : ℕ) (w : Width) → misses low n (operand_of w) ≡ 0
+operand_misses low n width.Word = simp order_equations
+operand_misses low n w = simp order_equations
 
-accu1_misses : (n : ℕ) (w : Width) (e : Expr) → misses n (accu1_with w e) ≡ misses n e
-accu1_misses n width.Word e = simp order_equations (omega arith)
-accu1_misses n w e = refl
+accu1_misses : (low n : ℕ) (w : Width) (e : Expr) → misses low n (accu1_with w e) ≡ misses low n e
+accu1_misses low n width.Word e = simp order_equations (omega arith)
+accu1_misses low n w e = refl
 
-where_next : {w : ℕ} (stepped out : Expr) {rest : List Stmt} → misses w stepped ≡ 0
-    → misses w out ≡ 0 → IsNext w rest → IsNext w (flags_set_where stepped out ++ rest)
+where_next : {low w : ℕ} (stepped out : Expr) {rest : List Stmt} → misses low w stepped ≡ 0
+    → misses low w out ≡ 0 → IsNext low w rest → IsNext low w (flags_set_where stepped out ++ rest)
 where_next stepped out h k more =
     register_next (simp order_equations (omega (arith, h, k)))
     (register_next (simp order_equations (omega (arith, h))) (register_next (simp order_equations (omega (arith, h))) more))
 
 module _ (used : ℕ) where
-  counted_next : {rest : List Stmt} → IsNext (suc (suc used)) rest → IsNext used (count_locals used ++ rest)
+  counted_next : {rest : List Stmt} → IsNext used (suc (suc used)) rest → IsNext used used (count_locals used ++ rest)
   counted_next more = local_next refl (simp order_equations) (local_next (omega arith) (simp order_equations (omega arith)) more)
 
-  signed_order : (w : Width) (n : ℕ) → IsNext used (signed_by_constant w n used)
+  signed_order : (w : Width) (n : ℕ) → IsNext used used (signed_by_constant w n used)
   signed_order w n =
-      local_next refl (operand_misses used w)
+      local_next refl (operand_misses used used w)
       (local_next (omega arith) (simp order_equations (omega arith))
       (local_next (omega arith) (simp order_equations (omega arith))
       (register_next (simp order_equations (omega arith))
       (register_next (simp order_equations) (register_next (simp order_equations)
-      (register_next (accu1_misses _ w _ ∙ simp order_equations (omega arith)) nothing_next))))))
+      (register_next (accu1_misses used _ w _ ∙ simp order_equations (omega arith)) nothing_next))))))
 
-  shift_where_order : (op : ShiftOp) (w : Width) → IsNext used (shift_by_accu2 op w used)
+  shift_where_order : (op : ShiftOp) (w : Width) → IsNext used used (shift_by_accu2 op w used)
   shift_where_order op w =
       counted_next
-      (local_next (omega arith) (operand_misses _ w)
+      (local_next (omega arith) (operand_misses used _ w)
       (local_next (omega arith) (simp order_equations (omega arith))
       (where_next _ _ (simp order_equations (omega arith)) (simp order_equations (omega arith))
-      (register_next (accu1_misses _ w _ ∙ simp order_equations (omega arith)) nothing_next))))
+      (register_next (accu1_misses used _ w _ ∙ simp order_equations (omega arith)) nothing_next))))
 
-  signed_where_order : (w : Width) → IsNext used (signed_by_accu2 w used)
+  signed_where_order : (w : Width) → IsNext used used (signed_by_accu2 w used)
   signed_where_order w =
       counted_next
-      (local_next (omega arith) (operand_misses _ w)
+      (local_next (omega arith) (operand_misses used _ w)
       (local_next (omega arith) (simp order_equations (omega arith))
       (local_next (omega arith) (simp order_equations (omega arith))
       (where_next _ _ (simp order_equations (omega arith)) (simp order_equations (omega arith))
-      (register_next (accu1_misses _ w _ ∙ simp order_equations (omega arith)) nothing_next)))))
+      (register_next (accu1_misses used _ w _ ∙ simp order_equations (omega arith)) nothing_next)))))
 
-  turn_where_order : (op : ShiftOp) → IsNext used (turn_by_accu2 op used)
+  turn_where_order : (op : ShiftOp) → IsNext used used (turn_by_accu2 op used)
   turn_where_order op =
       counted_next
       (local_next (omega arith) (simp order_equations (omega arith))

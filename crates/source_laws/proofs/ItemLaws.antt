@@ -32,7 +32,7 @@ use Rattle.digit_texts.specs.Digits.{kept_number}
 use Rattle.stl_statement_grammar.specs.Paths.{number_word}
 use Rattle.stl_grammar.specs.Symbols.{address_of, ends_table, is_next, symbol_at, symbol_with, trimmed_field}
 use Rattle.stl_statement_grammar.specs.Readers.{fitting}
-use Rattle.stl_statement_grammar.specs.Statements.{is_numbered, on_line, statement as statement_said, instruction_of}
+use Rattle.stl_statement_grammar.specs.Statements.{begins_with_label, instruction_from, instruction_of, is_numbered, on_line, statement as statement_said}
 use Rattle.stl_statement_grammar.specs.Words.{is_word, is_quoted_kind}
 use Rattle.stl_statement_grammar.specs.declared.mnemonic.Read.{Read}
 use Rattle.stl_statement_grammar.specs.declared.mnemonic.Read.TheVariants as read
@@ -453,14 +453,18 @@ behind_reads_begin kind before first rest =
 -- in a body
 
 -- no instruction is answered for want of memory
-never_lost : (line : Line) (said : Result RawOp Reason) → on_line line said ≡ Err NoMemory → ⊥
-never_lost line (Ok op) e = absurd cc
-never_lost line (Err reason) e = absurd cc
+never_lost : (label : Option (List ℕ)) (line : Line) (said : Result RawOp Reason) → on_line label line said ≡ Err NoMemory → ⊥
+never_lost label line (Ok op) e = absurd cc
+never_lost label line (Err reason) e = absurd cc
+
+never_behind : (has_label : Bool) (first : Token) (rest : List Token) → instruction_from has_label first rest ≡ Err NoMemory → ⊥
+never_behind true first rest e = never_lost (Some first.text) first.line (statement_said (drop 1 rest)) e
+never_behind false first rest e = never_lost None first.line (statement_said (first ∷ rest)) e
 
 never : (tokens : List Token) → instruction_of tokens ≡ Err NoMemory → ⊥
 unfolding instruction_of
 never [] e = absurd cc
-never (first ∷ rest) e = never_lost first.line (statement_said (first ∷ rest)) e
+never (first ∷ rest) e = never_behind (begins_with_label (first ∷ rest)) first rest e
 
 statement_reads : (kind : BlockKind) (first : Token) (rest : List Token) (said : Result RawInstr Rejection)
     → is_skipped_alone first ≡ false → is_end kind first ≡ false

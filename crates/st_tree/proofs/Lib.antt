@@ -10,6 +10,7 @@ pub mod FittingStart
 pub mod FittingValues
 mod GraphCases
 pub mod Induction
+pub mod Locals
 mod NameWords
 mod OperatorCases
 pub mod PartEquations
@@ -17,6 +18,7 @@ mod PartCases
 mod ProperCases
 mod RunCases
 mod SpellingCases
+pub mod TwoParts
 pub mod TypedParts
 pub mod TypesAgree
 pub mod TypingEquations

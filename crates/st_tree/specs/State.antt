@@ -44,6 +44,10 @@ abbrev pub locals_of : Option Activation → List Value
 locals_of None = []
 locals_of (Some a) = a.locals
 
+-- the locals of the running unit, which is the last one
+abbrev pub own_of : List Activation → List Value
+own_of running = locals_of (slice_get running (length running - 1))
+
 -- the references of the formals of an activation; none where it does not exist
 abbrev pub formals_of : Option Activation → List Reference
 formals_of None = []

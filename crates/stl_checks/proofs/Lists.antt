@@ -1,21 +1,46 @@
 -- Lists of instructions, item by item.
-use Rattle.std.proofs.Common.{◌≡◌, ◌≤◌, ℕ, List, [], ◌∷◌, ◌++◌, length, drop, get_or, sym, subst, ◌∙◌, arith, append_assoc}
+use Rattle.std.proofs.Common.{◌≡◌, ◌≤◌, ◌<◌, ℕ, ◌+◌, List, [], ◌∷◌, ◌++◌, length, drop, get_or, sym, ap, ◌∙◌, arith, append_assoc}
+use Rattle.std.proofs.lemmas.List.{append-nil}
 use Rattle.s7_base.specs.declared.rule_break.Break.{Break}
 use Rattle.s7_base.specs.declared.reason.Line.{Line}
-use Rattle.stl_rules.specs.Stages.{brackets_at, brackets_from, open_at_end, open_then}
+use Rattle.stl_rules.specs.BodyRules.{brackets_at, brackets_from, label_closed, labels_at, labels_from, open_then}
 use Rattle.stl_statement_grammar.specs.Mnemonics.{mnemonic_named}
 use Rattle.stl_tree.specs.declared.raw.RawInstr.{RawInstr}
+
+-- the rules that an instruction and those after it break
+abbrev both : Line → ℕ → RawInstr → List RawInstr → List Break
+both end n raw rest =
+    label_closed raw.line raw.label n ++ brackets_at raw.line (mnemonic_named raw.op.mnemonic) n
+    ++ brackets_from end (open_then (mnemonic_named raw.op.mnemonic) n) rest
 
 -- one instruction more of a body whose brackets are judged
 pub brackets_more : (breaks : List Break) (end : Line) (n : ℕ) (raw : RawInstr) (rest : List RawInstr) (whole : List Break)
     → 1 ≤ length rest → raw ≡ get_or rest 0 raw
     → breaks ++ brackets_from end n rest ≡ whole
-    → (breaks ++ brackets_at raw.line (mnemonic_named raw.op.mnemonic) n) ++ brackets_from end (open_then (mnemonic_named raw.op.mnemonic) n) (drop 1 rest)
+    → ((breaks ++ label_closed raw.line raw.label n) ++ brackets_at raw.line (mnemonic_named raw.op.mnemonic) n)
+    ++ brackets_from end (open_then (mnemonic_named raw.op.mnemonic) n) (drop 1 rest)
     ≡ whole
 brackets_more breaks end n raw [] whole some is e = absurd (omega arith)
 brackets_more breaks end n raw (first ∷ rest) whole some is e =
-    let P : RawInstr → Type 0 =
-    λ i. (breaks ++ brackets_at i.line (mnemonic_named i.op.mnemonic) n) ++ brackets_from end (open_then (mnemonic_named i.op.mnemonic) n) rest ≡ whole in
-    subst P (sym is)
-    (append_assoc breaks (brackets_at first.line (mnemonic_named first.op.mnemonic) n) (brackets_from end (open_then (mnemonic_named first.op.mnemonic) n) rest)
-    ∙ e)
+    let label = label_closed raw.line raw.label n in
+    let own = brackets_at raw.line (mnemonic_named raw.op.mnemonic) n in
+    let more = brackets_from end (open_then (mnemonic_named raw.op.mnemonic) n) rest in
+    append_assoc (breaks ++ label) own more ∙ append_assoc breaks label (own ++ more)
+    ∙ ap (λ ys. breaks ++ ys) (sym (append_assoc label own more))
+    ∙ ap (λ (i : RawInstr). breaks ++ both end n i rest) is ∙ e
+
+-- one instruction more of a body whose labels are judged
+pub labels_more : (breaks : List Break) (body : List RawInstr) (at : ℕ) (raw : RawInstr) (rest : List RawInstr) (whole : List Break)
+    → 1 ≤ length rest → raw ≡ get_or rest 0 raw
+    → breaks ++ labels_from body at rest ≡ whole
+    → (breaks ++ labels_at body at raw (drop 1 rest)) ++ labels_from body (at + 1) (drop 1 rest) ≡ whole
+labels_more breaks body at raw [] whole some is e = absurd (omega arith)
+labels_more breaks body at raw (first ∷ rest) whole some is e =
+    append_assoc breaks (labels_at body at raw rest) (labels_from body (at + 1) rest)
+    ∙ ap (λ (i : RawInstr). breaks ++ (labels_at body at i rest ++ labels_from body (at + 1) rest)) is ∙ e
+
+-- where none is left
+pub labels_all : (breaks : List Break) (body : List RawInstr) (at : ℕ) (rest : List RawInstr) (whole : List Break) → length rest < 1
+    → breaks ++ labels_from body at rest ≡ whole → breaks ≡ whole
+labels_all breaks body at [] whole none e = sym (append-nil breaks) ∙ e
+labels_all breaks body at (raw ∷ rest) whole none e = absurd (omega arith)

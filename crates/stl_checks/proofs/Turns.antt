@@ -4,7 +4,7 @@ use native.Mathlib.Numerals.{unary_clauses}
 use Rattle.s7_base.specs.Broken.{rule_break}
 use Rattle.s7_base.specs.declared.reason.Line.{Line}
 use Rattle.s7_base.specs.declared.reason.Reason.TheVariants.{BracketMissing, BracketOpen}
-use Rattle.stl_rules.specs.Stages.{brackets_at, open_at_end, open_then}
+use Rattle.stl_rules.specs.BodyRules.{brackets_at, none_open, open_then}
 use Rattle.stl_statement_grammar.specs.declared.mnemonic.Mnemonic.TheVariants as is
 
 pub close_missing : (line : Line) → brackets_at line (Some is.Close) 0 ≡ rule_break line BracketMissing
@@ -14,10 +14,10 @@ pub close_there : (line : Line) (n : ℕ) → n ≢ 0 → brackets_at line (Some
 close_there line zero h = absurd (h refl)
 close_there line (suc n) h = refl
 
-pub end_closed : (line : Line) → open_at_end line 0 ≡ []
+pub end_closed : (line : Line) → none_open line 0 ≡ []
 end_closed line = refl
 
-pub end_open : (line : Line) (n : ℕ) → n ≢ 0 → open_at_end line n ≡ rule_break line BracketOpen
+pub end_open : (line : Line) (n : ℕ) → n ≢ 0 → none_open line n ≡ rule_break line BracketOpen
 end_open line zero h = absurd (h refl)
 end_open line (suc n) h = refl
 

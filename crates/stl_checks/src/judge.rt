@@ -7,7 +7,7 @@ ghost use Rattle.stl_rules.specs.Stages.{no_blocks};
 ghost use Rattle.stl_rules.specs.Verdict.{checked_program, verdict};
 ghost use Rattle.stl_tree.specs.Accepted.{IsAccepted};
 
-use crate::brackets::first_in_bodies;
+use crate::bodies::first_in_bodies;
 use s7_base::{Break, Line, NoMemory, Reason, Rejection};
 use std::alloc::Global;
 use stl_reader::read_blocks;

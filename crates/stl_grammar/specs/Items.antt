@@ -78,12 +78,11 @@ abbrev pub statement_at : List Token → List Token
 statement_at tokens = take (statement_size tokens) tokens
 
 -- the item has a form that is not built yet, given whether it begins with a label and whether the end of the
--- text cuts its heading off: a word of a heading, section or end has one by itself, a mnemonic or a label
--- where its statement is complete
+-- text cuts its heading off: a word of a heading, section or end has one by itself, a mnemonic where its statement
+-- is complete
 unfoldable pub is_not_built : Bool → Bool → List Token → Bool
 is_not_built label cut tokens =
-    (begins_with_block_word tokens && not label && not cut)
-    || (is_complete tokens && (begins_with_mnemonic tokens || label))
+    (begins_with_block_word tokens && not label && not cut) || (is_complete tokens && begins_with_mnemonic tokens)
 
 -- why an item that fits no form is refused, given whether it begins with a label and whether the end of the text cuts
 -- its heading off
@@ -174,9 +173,10 @@ misfit_line (Inside kind section levels) first = level_line levels first
 misfit_line elsewhere first = first.line
 
 -- why a complete statement is refused that is no instruction: one that begins with a word of a heading, section or
--- end has a form that is not built, any other has this reason
+-- end, which is no label, has a form that is not built, any other has this reason
 abbrev pub statement_reason : List Token → Reason → Reason
-statement_reason tokens reason = if begins_with_block_word tokens then Unsupported NotBuilt else reason
+statement_reason tokens reason =
+    if begins_with_block_word tokens && not (begins_with_label tokens) then Unsupported NotBuilt else reason
 
 -- Forms that are built
 

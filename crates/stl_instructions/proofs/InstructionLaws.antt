@@ -9,13 +9,13 @@ use Rattle.s7_base.specs.Tokens.{is_same_word}
 use Rattle.s7_base.specs.declared.reason.Kind.TheVariants as kind
 use Rattle.s7_base.specs.declared.reason.Line.{Line}
 use Rattle.s7_base.specs.declared.reason.Reason.{Reason}
-use Rattle.s7_base.specs.declared.reason.Reason.TheVariants.{Unsupported}
+use Rattle.s7_base.specs.declared.reason.Reason.TheVariants.{BadStatement, Unsupported}
 use Rattle.s7_base.specs.declared.token.Token.{Token}
 use Rattle.status_word.specs.declared.test.Test.{Test}
 use Rattle.status_word.specs.declared.test.Test.TheVariants as test
 use Rattle.stl_statement_grammar.specs.ConstantForms.{IsAddend, IsConstant, IsUpTo}
 use Rattle.stl_statement_grammar.specs.Constants.{Prefixed, addend_at, begins_glued, constant_at, left_out_prefixes, marked_at, number_at, plain}
-use Rattle.stl_statement_grammar.specs.InstructionForms.{IsLocated, IsOpened, IsPlaced, IsStatusOperand, flag, compared, IsOperand, IsInstruction, instruction, InstructionsHaveForms}
+use Rattle.stl_statement_grammar.specs.InstructionForms.{IsLocated, IsOpened, IsPlaced, IsStatusOperand, flag, compared, IsOperand, IsStatement, IsInstruction, plain_instruction, labelled_instruction, InstructionsHaveForms}
 use Rattle.stl_statement_grammar.specs.InstructionForms as form
 use Rattle.stl_statement_grammar.specs.Mnemonics.{Row, goes_on, mnemonic_at}
 use Rattle.stl_statement_grammar.specs.PathForms.{IsNamed}
@@ -23,7 +23,7 @@ use Rattle.stl_statement_grammar.specs.PlaceForms.{IsPlace}
 use Rattle.stl_statement_grammar.specs.PointerForms.{IsOffsetConstant, IsPointerConstant}
 use Rattle.stl_statement_grammar.specs.Pointers.{behind_hash, offset_at, pointer_at, pointer_behind}
 use Rattle.stl_statement_grammar.specs.Readers.{read_as}
-use Rattle.stl_statement_grammar.specs.Statements.{any_constant_at, asked_by, begins_with_label, block_number_at, checked_at, first_of, instr_with, instruction_of, is_asked, left_out_at, length_at, loaded_at, located_at, name_of, nothing_at, on_line, opened_at, operand_by, operand_of, or_nothing, other_at, placed_at, pointer_alone_at, pointer_loaded_at, pointer_stored_at, second_of, operand_form_of, size_with, statement, status_at, stored_at, stw_at, tests, timers_and_counters, with_mnemonic, with_operand}
+use Rattle.stl_statement_grammar.specs.Statements.{any_constant_at, asked_by, begins_with_label, block_number_at, checked_at, first_of, instr_with, instruction_from, instruction_of, is_asked, is_label_word, label_at, left_out_at, length_at, loaded_at, located_at, name_of, nothing_at, on_line, opened_at, operand_by, operand_of, or_nothing, other_at, placed_at, pointer_alone_at, pointer_loaded_at, pointer_stored_at, second_of, operand_form_of, size_with, statement, status_at, stored_at, stw_at, tests, timers_and_counters, with_mnemonic, with_operand}
 use Rattle.stl_statement_grammar.specs.Words.{is_joined, is_sign, is_sign_kind, is_spelled, is_word, is_word_kind}
 use Rattle.stl_statement_grammar.specs.declared.mnemonic.Read.{Read}
 use Rattle.stl_statement_grammar.specs.declared.mnemonic.Read.TheVariants.{Fits, LeftOut, No}
@@ -35,7 +35,7 @@ use Rattle.stl_tree.specs.declared.raw.Constant.{Constant as Literal}
 use Rattle.stl_tree.specs.declared.raw.RawInstr.{RawInstr}
 use Rattle.stl_tree.specs.declared.raw.RawOp.{RawOp}
 use Rattle.stl_tree.specs.declared.raw.RawOperand.{RawOperand}
-use Rattle.stl_tree.specs.declared.raw.RawOperand.TheVariants.{At, Constant, DbNo, DiNo, Flag, Missing, OtherAr, Pointer, Stw}
+use Rattle.stl_tree.specs.declared.raw.RawOperand.TheVariants.{At, Constant, DbNo, DiNo, Flag, Label, Missing, OtherAr, Pointer, Stw}
 use Rattle.stl_tree.specs.declared.raw.RawPlace.{RawPlace}
 use Rattle.stl_tree.specs.declared.raw.RawPointer.{RawPointer}
 use Rattle.stl_instructions.proofs.BracketTokens.{IsBracketed, bracketed_no_constant, bracketed_no_text, bracketed_no_word, bracketed_there, bracketed_unmarked, crossing_bracketed, indirect_bracketed, is_opening}
@@ -241,6 +241,16 @@ number_as : (most : ℕ) (tokens : List Token) (P : RawOperand → Type 0) → (
 number_as most tokens P make =
     constant_as tokens P (λ c. P (Constant c)) (λ c is. is) (number_at most tokens) (number_all most tokens (λ c. P (Constant c)) make)
 
+label_all : (tokens : List Token) → AllOf (length tokens) (IsOperand shape.Label tokens) (label_at tokens)
+label_all [] = tt
+label_all (first ∷ rest) = by (is_label_word first) refl rest
+  where
+    by : (b : Bool) → is_label_word first ≡ b → (rest : List Token)
+        → AllOf (length (first ∷ rest)) (IsOperand shape.Label (first ∷ rest)) (if b then Fits (Label first.text) 1 else No)
+    by true word [] = λ size. form.label first word
+    by true word (next ∷ more) = λ size. absurd (omega (arith, size))
+    by false word rest = tt
+
 -- what was read of all tokens is an operand of the shape
 operand_is : (shape : OperandForm) (tokens : List Token) → AllOf (length tokens) (IsOperand shape tokens) (operand_by shape tokens)
 operand_is shape.Nothing tokens = nothing_all tokens (IsOperand shape.Nothing) form.nothing
@@ -272,6 +282,7 @@ operand_is shape.OffsetOrNothing tokens =
 operand_is shape.Opened tokens =
     weaker (length tokens) (IsOpened tokens) (IsOperand shape.Opened tokens)
     (λ operand is. form.opened tokens operand is) (opened_at tokens) (opened_all tokens)
+operand_is shape.Label tokens = label_all tokens
 operand_is shape.TimerOrCounter tokens =
     as_all (length tokens) At (λ place. ⊥) (IsOperand shape.TimerOrCounter tokens) (λ place is. absurd is) (left_out_at timers_and_counters tokens)
     (left_out_all (length tokens) (λ place. ⊥) timers_and_counters tokens)
@@ -297,19 +308,20 @@ said_is row tokens (Fits operand size) op h e = by (size == length tokens) refl 
         subst P same (record { operand = h (eqb-true size (length tokens) t); named = refl })
     by false t e = absurd cc
 
--- what stands on a line
-record Lined (line : Line) (said : Result RawOp Reason) (instr : RawInstr) : Type 0 where
+-- what is on a line
+record Lined (label : Option (List ℕ)) (line : Line) (said : Result RawOp Reason) (instr : RawInstr) : Type 0 where
   op : RawOp
   said_op : said ≡ Ok op
-  instr_is : instr_with line op.mnemonic op.operand ≡ instr
+  instr_is : instr_with label line op.mnemonic op.operand ≡ instr
 
-lined : (line : Line) (said : Result RawOp Reason) (instr : RawInstr) → on_line line said ≡ Ok instr → Lined line said instr
-lined line (Ok op) instr e = record { op = op; said_op = refl; instr_is = cc }
-lined line (Err reason) instr e = absurd cc
+lined : (label : Option (List ℕ)) (line : Line) (said : Result RawOp Reason) (instr : RawInstr) → on_line label line said ≡ Ok instr
+    → Lined label line said instr
+lined label line (Ok op) instr e = record { op = op; said_op = refl; instr_is = cc }
+lined label line (Err reason) instr e = absurd cc
 
-unlabelled : (b : Bool) (said : Result RawOp Reason) (op : RawOp) → (if b then Err (Unsupported kind.NotBuilt) else said) ≡ Ok op → (b ≡ false) × (said ≡ Ok op)
-unlabelled true said op e = absurd cc
-unlabelled false said op e = (refl, e)
+without_label : (b : Bool) (said : Result RawOp Reason) (op : RawOp) → (if b then Err BadStatement else said) ≡ Ok op → (b ≡ false) × (said ≡ Ok op)
+without_label true said op e = absurd cc
+without_label false said op e = (refl, e)
 
 -- the row that was found, and what is said with it
 record Found (tokens : List Token) (op : RawOp) : Type 0 where
@@ -323,17 +335,50 @@ found_by tokens (Some row) op at e =
     let behind = drop (size_with row.second) tokens in
     record { row = row; at = at; said = said_is row behind (operand_of row.what behind) op (operand_is (operand_form_of row.what) behind) e }
 
+-- a statement on a line
+record Stated (label : Option (List ℕ)) (line : Line) (tokens : List Token) (instr : RawInstr) : Type 0 where
+  row : Row
+  operand : RawOperand
+  is : IsStatement tokens row operand
+  instr_is : instr_with label line (name_of row) operand ≡ instr
+
+stated : (label : Option (List ℕ)) (line : Line) (tokens : List Token) (instr : RawInstr)
+    → on_line label line (statement tokens) ≡ Ok instr → Stated label line tokens instr
+stated label line tokens instr e =
+    let l = lined label line (statement tokens) instr e in
+    let u = without_label (begins_with_label tokens) (with_mnemonic tokens (mnemonic_at tokens)) l.op l.said_op in
+    let f = found_by tokens (mnemonic_at tokens) l.op refl u.1 in
+    record {
+      row = f.row;
+      operand = l.op.operand;
+      is = record { unlabelled = u.0; mnemonic = f.at; behind = f.said.operand };
+      instr_is = ap (λ (name : List ℕ). instr_with label line name l.op.operand) f.said.named ∙ l.instr_is;
+    }
+
+plain_one : (first : Token) (rest : List Token) (instr : RawInstr) → on_line None first.line (statement (first ∷ rest)) ≡ Ok instr
+    → IsInstruction (first ∷ rest) instr
+plain_one first rest instr e =
+    let s = stated None first.line (first ∷ rest) instr e in
+    let P : RawInstr → Type 0 = λ i. IsInstruction (first ∷ rest) i in
+    subst P s.instr_is (plain_instruction first rest s.row s.operand s.is)
+
+labelled_one : (first : Token) (rest : List Token) (instr : RawInstr) → begins_with_label (first ∷ rest) ≡ true
+    → on_line (Some first.text) first.line (statement (drop 1 rest)) ≡ Ok instr → IsInstruction (first ∷ rest) instr
+labelled_one first [] instr label e = absurd cc
+labelled_one first (second ∷ rest) instr label e =
+    let p = and_parts (is_label_word first) (is_sign (codes ":") second) label in
+    let s = stated (Some first.text) first.line rest instr e in
+    let P : RawInstr → Type 0 = λ i. IsInstruction (first ∷ second ∷ rest) i in
+    subst P s.instr_is (labelled_instruction first second rest s.row s.operand p.0 p.1 s.is)
+
 sound : (tokens : List Token) (instr : RawInstr) → instruction_of tokens ≡ Ok instr → IsInstruction tokens instr
 unfolding instruction_of
 sound [] instr e = absurd cc
-sound (first ∷ rest) instr e =
-    let l = lined first.line (statement (first ∷ rest)) instr e in
-    let u = unlabelled (begins_with_label (first ∷ rest)) (with_mnemonic (first ∷ rest) (mnemonic_at (first ∷ rest))) l.op l.said_op in
-    let f = found_by (first ∷ rest) (mnemonic_at (first ∷ rest)) l.op refl u.1 in
-    let P : RawInstr → Type 0 = λ i. IsInstruction (first ∷ rest) i in
-    let same : instr_with first.line (name_of f.row) l.op.operand ≡ instr =
-    ap (λ (name : List ℕ). instr_with first.line name l.op.operand) f.said.named ∙ l.instr_is in
-    subst P same (instruction first rest f.row l.op.operand u.0 f.at f.said.operand)
+sound (first ∷ rest) instr e = by (begins_with_label (first ∷ rest)) refl e
+  where
+    by : (b : Bool) → begins_with_label (first ∷ rest) ≡ b → instruction_from b first rest ≡ Ok instr → IsInstruction (first ∷ rest) instr
+    by true label is = labelled_one first rest instr label is
+    by false label is = plain_one first rest instr is
 
 -- From a form to what is read of it
 
@@ -683,18 +728,25 @@ operand_read shape tokens operand (form.offset ts p is) =
     or_nothing_read ts (pointer_alone_at offset_at ts) (Pointer p) (hashed_there ts h) (pointer_alone_read offset_at ts p h (offset_at_read ts p is))
 operand_read shape tokens operand form.no_offset = refl
 operand_read shape tokens operand (form.opened ts o is) = opened_read ts o is
+operand_read shape tokens operand (form.label word is) = if_true (is_label_word word) _ No is
+
+statement_read : (tokens : List Token) (row : Row) (operand : RawOperand) → IsStatement tokens row operand
+    → statement tokens ≡ Ok (record { mnemonic = name_of row; operand = operand })
+statement_read tokens row operand is =
+    let behind = drop (size_with row.second) tokens in
+    if_false (begins_with_label tokens) _ _ is.unlabelled
+    ∙ ap (λ (o : Option Row). with_mnemonic tokens o) is.mnemonic
+    ∙ ap (λ (r : Read RawOperand). with_operand (name_of row) (length behind) r) (operand_read (operand_form_of row.what) behind operand is.behind)
+    ∙ if_true (length behind == length behind) _ _ (same_size (length behind))
 
 complete : (tokens : List Token) (instr : RawInstr) → IsInstruction tokens instr → instruction_of tokens ≡ Ok instr
 unfolding instruction_of
-complete tokens instr (instruction first rest row operand label at is) =
-    let behind = drop (size_with row.second) (first ∷ rest) in
-    let op : RawOp = record { mnemonic = name_of row; operand = operand } in
-    let said : statement (first ∷ rest) ≡ Ok op =
-    if_false (begins_with_label (first ∷ rest)) _ _ label
-    ∙ ap (λ (o : Option Row). with_mnemonic (first ∷ rest) o) at
-    ∙ ap (λ (r : Read RawOperand). with_operand (name_of row) (length behind) r) (operand_read (operand_form_of row.what) behind operand is)
-    ∙ if_true (length behind == length behind) _ _ (same_size (length behind)) in
-    ap (λ (s : Result RawOp Reason). on_line first.line s) said
+complete tokens instr (plain_instruction first rest row operand is) =
+    ap (λ (b : Bool). instruction_from b first rest) is.unlabelled
+    ∙ ap (λ (s : Result RawOp Reason). on_line None first.line s) (statement_read (first ∷ rest) row operand is)
+complete tokens instr (labelled_instruction label colon rest row operand word sign is) =
+    ap (λ (b : Bool). instruction_from b label (colon ∷ rest)) (and_from _ _ word sign)
+    ∙ ap (λ (s : Result RawOp Reason). on_line (Some label.text) label.line s) (statement_read rest row operand is)
 
 pub have_forms : InstructionsHaveForms
 have_forms = record { sound = sound; complete = complete }

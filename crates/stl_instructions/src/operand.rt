@@ -7,7 +7,7 @@ ghost use Rattle.stl_statement_grammar.specs.Mnemonics.{goes_on};
 ghost use Rattle.stl_statement_grammar.specs.Paths.{named_at};
 ghost use Rattle.stl_statement_grammar.specs.Pointers.{indirect_at, offset_at, pointer_at};
 ghost use Rattle.stl_statement_grammar.specs.Readers.{or_else, read_as};
-ghost use Rattle.stl_statement_grammar.specs.Statements.{any_constant_at, block_number_at, checked_at, checked_form, first_of, has_form, is_asked, is_named, left_out_at, left_out_forms, length_at, loaded_at, located_at, nothing_at, operand_by, operand_of, or_nothing, other_at, place_operand, placed_at, pointer_alone_at, pointer_loaded_at, pointer_stored_at, second_of, operand_form_of, size_with, status_at, stored_at, stw_at, tests, timers_and_counters};
+ghost use Rattle.stl_statement_grammar.specs.Statements.{any_constant_at, block_number_at, checked_at, checked_form, first_of, has_form, is_asked, is_label, is_label_word, is_named, label_at, left_out_at, left_out_forms, length_at, loaded_at, located_at, nothing_at, operand_by, operand_of, or_nothing, other_at, place_operand, placed_at, pointer_alone_at, pointer_loaded_at, pointer_stored_at, second_of, operand_form_of, size_with, status_at, stored_at, stw_at, tests, timers_and_counters};
 ghost use Rattle.stl_statement_grammar.specs.Words.{is_spelled};
 ghost use Rattle.stl_tree.specs.declared.raw.RawOperand.TheVariants as operand;
 ghost use Rattle.stl_instructions.specs.inner.Rows.{named_form_of};
@@ -23,7 +23,7 @@ use stl_constants::{
     left_out_constant_at, number_at,
 };
 use stl_mnemonics::goes_on;
-use stl_places::{crossing_at, indirect_at, named_at, offset_at, place_at, pointer_at};
+use stl_places::{crossing_at, indirect_at, name_of, named_at, offset_at, place_at, pointer_at};
 use stl_statement_grammar::{Mnemonic, OperandForm, Read};
 use stl_tree::{Ar, Constant, RawOperand, RawPlace, RawPointer};
 
@@ -544,6 +544,36 @@ fn pointer_stored_or_nothing(
     }
 }
 
+/// Whether a word is one to four letters, digits or `_`, the first of them no digit.
+fn is_label(word: &[u8]) -> bool
+    ensures { result ≡ is_label word.now }
+{
+    match word {
+        [first, rest @ ..] => rest.len() < 4 && !first.is_ascii_digit(),
+        [] => false,
+    }
+}
+
+/// Whether a token is a label.
+pub fn is_label_word(token: &Token) -> bool
+    ensures { result ≡ is_label_word token.now }
+{
+    is_word_kind(token) && is_label(token.text.as_slice())
+}
+
+/// A label as an operand.
+fn label_at(alloc: Global, tokens: &[Token]) -> Result<Read<RawOperand>, NoMemory>
+    ensures { IfOk result (λ read. read ≡ label_at tokens.now) }
+{
+    match tokens {
+        [first, ..] if is_label_word(first) => {
+            let label = name_of(alloc, first)?;
+            Ok(Read::Fits(RawOperand::Label(label), 1))
+        }
+        _ => Ok(Read::No),
+    }
+}
+
 /// An operand of a form that is neither a place nor a name.
 fn plain_operand(shape: OperandForm, tokens: &[Token]) -> Read<RawOperand>
     requires { IsPlainForm shape }
@@ -579,6 +609,7 @@ fn operand_by(
         OperandForm::PointerLoaded(register) => pointer_loaded_or_nothing(alloc, register, tokens),
         OperandForm::PointerStored(register) => pointer_stored_or_nothing(alloc, register, tokens),
         OperandForm::Opened => opened_at(alloc, tokens),
+        OperandForm::Label => label_at(alloc, tokens),
         OperandForm::Nothing
         | OperandForm::Number(_)
         | OperandForm::NumberOrNothing(_)
@@ -621,7 +652,9 @@ fn operand_form_of(what: Mnemonic) -> OperandForm
         | Mnemonic::ExchangeDb
         | Mnemonic::Push
         | Mnemonic::Pop
-        | Mnemonic::ExchangeAr => OperandForm::Nothing,
+        | Mnemonic::ExchangeAr
+        | Mnemonic::BlockEnd
+        | Mnemonic::BlockEndIf => OperandForm::Nothing,
         Mnemonic::Assign
         | Mnemonic::Set
         | Mnemonic::Reset
@@ -637,6 +670,7 @@ fn operand_form_of(what: Mnemonic) -> OperandForm
         Mnemonic::StoreAr(register) => OperandForm::PointerStored(register),
         Mnemonic::AddAr(_) => OperandForm::OffsetOrNothing,
         Mnemonic::Open => OperandForm::Opened,
+        Mnemonic::Jump(_) | Mnemonic::Loop | Mnemonic::JumpList => OperandForm::Label,
         Mnemonic::TimerOrCounter => OperandForm::TimerOrCounter,
         Mnemonic::Later => OperandForm::Later,
         Mnemonic::LeftOut(kind) => OperandForm::LeftOut(kind),

@@ -1,16 +1,17 @@
 //! Reads one statement.
 ghost use Rattle.std.specs.Prelude.{◌≡◌, IfOk, length};
 ghost use Rattle.s7_base.specs.Answers.{Answers};
-ghost use Rattle.stl_statement_grammar.specs.Statements.{refusal_kind, is_label, begins_with_label, name_of, instr_with, with_operand, with_mnemonic, statement, instruction_of};
+ghost use Rattle.stl_statement_grammar.specs.Statements.{refusal_kind, begins_with_label, name_of, instr_with, on_line, with_operand, with_mnemonic, statement, instruction_of};
 ghost use Rattle.stl_statement_grammar.specs.Mnemonics.{mnemonic_at};
 ghost use Rattle.stl_instructions.specs.inner.Answers.{Says};
 ghost use Rattle.stl_mnemonics.specs.Rows.{view};
 
-use crate::operand::{operand_of, size_with};
-use s7_base::{Kind, Line, NoMemory, Reason, Rejection, SmallText, Token, rest_after};
+use crate::operand::{is_label_word, operand_of, size_with};
+use s7_base::{Kind, Line, List, NoMemory, Reason, Rejection, SmallText, Token, rest_after};
 use std::alloc::Global;
-use stl_constants::{is_sign, is_word_kind};
+use stl_constants::is_sign;
 use stl_mnemonics::{Row, mnemonic_at};
+use stl_places::name_of as name_of_token;
 use stl_statement_grammar::Read;
 use stl_tree::{RawInstr, RawOp, RawOperand};
 
@@ -32,24 +33,12 @@ fn refusal_kind(kind: Kind) -> Kind
     }
 }
 
-/// Whether a word is one to four letters, digits or `_`, the first of them no digit.
-fn is_label(word: &[u8]) -> bool
-    ensures { result ≡ is_label word.now }
-{
-    match word {
-        [first, rest @ ..] => rest.len() < 4 && !first.is_ascii_digit(),
-        [] => false,
-    }
-}
-
 /// Whether the tokens begin with a label and its colon.
 pub fn begins_with_label(tokens: &[Token]) -> bool
     ensures { result ≡ begins_with_label tokens.now }
 {
     match tokens {
-        [first, second, ..] => is_word_kind(first)
-            && is_label(first.text.as_slice())
-            && is_sign(second, ":"),
+        [first, second, ..] => is_label_word(first) && is_sign(second, ":"),
         _ => false,
     }
 }
@@ -77,12 +66,13 @@ fn with_operand(row: Row, size: usize, read: Read<RawOperand>) -> Result<(Row, R
     }
 }
 
-/// The mnemonic and the operand of a statement, or the rule that its tokens break.
+/// The mnemonic and the operand of a statement without its label, or the rule that its tokens break. The
+/// word before a colon is no mnemonic.
 fn statement(alloc: Global, tokens: &[Token]) -> Result<Result<(Row, RawOperand), Reason>, NoMemory>
     ensures { IfOk result (λ said. Says said (statement tokens.now)) }
 {
     if begins_with_label(tokens) {
-        return Ok(Err(Reason::Unsupported(Kind::NotBuilt)));
+        return Ok(Err(Reason::BadStatement));
     }
     unlabelled_statement(alloc, tokens)
 }
@@ -103,15 +93,37 @@ fn unlabelled_statement(
     }
 }
 
-fn on_line(alloc: Global, line: Line, row: Row, operand: RawOperand) -> Result<RawInstr, NoMemory>
-    ensures { IfOk result (λ instr. instr ≡ instr_with line (name_of (view row)) operand) }
+/// An instruction on a line.
+fn instr_with(
+    alloc: Global,
+    label: Option<List<u8>>,
+    line: Line,
+    row: Row,
+    operand: RawOperand,
+) -> Result<RawInstr, NoMemory>
+    ensures { IfOk result (λ instr. instr ≡ instr_with label line (name_of (view row)) operand) }
 {
     let mnemonic = name_of(alloc, row)?;
     Ok(RawInstr {
-        label: None,
+        label,
         line,
         op: RawOp { mnemonic, operand },
     })
+}
+
+/// The instruction with a label, or without one, on a line, by the tokens after the label.
+fn instruction_on(
+    alloc: Global,
+    label: Option<List<u8>>,
+    line: Line,
+    tokens: &[Token],
+) -> Result<RawInstr, Rejection>
+    ensures { Answers result (on_line label line (statement tokens.now)) }
+{
+    match statement(alloc, tokens)? {
+        Ok((row, operand)) => Ok(instr_with(alloc, label, line, row, operand)?),
+        Err(reason) => Err(Rejection::Refused(line, reason)),
+    }
 }
 
 /// The instruction that the tokens of one statement are, without its `;`.
@@ -122,8 +134,10 @@ pub fn instruction(alloc: Global, tokens: &[Token]) -> Result<RawInstr, Rejectio
     let [first, ..] = tokens else {
         return Err(Rejection::Refused(Line(1), Reason::BadStatement));
     };
-    match statement(alloc, tokens)? {
-        Ok((row, operand)) => Ok(on_line(alloc, first.line, row, operand)?),
-        Err(reason) => Err(Rejection::Refused(first.line, reason)),
+    if begins_with_label(tokens) {
+        let label = name_of_token(alloc, first)?;
+        instruction_on(alloc, Some(label), first.line, rest_after(tokens, 2))
+    } else {
+        instruction_on(alloc, None, first.line, tokens)
     }
 }

@@ -1,3 +1,4 @@
 mod Counting
+mod JumpCases
 mod Pushing
 mod Steps

@@ -1,5 +1,5 @@
 //! What one instruction does.
-ghost use Rattle.std.specs.Prelude.{◌≡◌};
+ghost use Rattle.std.specs.Prelude.{◌≡◌, ◌^◌, ◌<◌};
 ghost use Rattle.status_word.specs.Flags.{bits};
 ghost use Rattle.stl_machine.specs.inner.Effects.{Does};
 ghost use Rattle.stl_machine.specs.inner.Operands.{IsTaken};
@@ -7,20 +7,25 @@ ghost use Rattle.stl_machine.specs.inner.RegisterInstructions.{IsOnRegisters};
 ghost use Rattle.stl_machine.specs.inner.Views.{now_of};
 ghost use Rattle.stl_registers.specs.Values.{values};
 ghost use Rattle.stl_tree.specs.Instructions.{at_edge, block_opened, effect_of, on_accu1, on_registers, on_status, store_where_rlo};
+ghost use Rattle.stl_tree.specs.Jumps.{going_where};
+ghost use Rattle.stl_tree.specs.Now.{with_registers};
 ghost use Rattle.stl_tree.specs.declared.program.Op.TheVariants as op;
 
 use crate::state::State;
 use address_registers::Pointer;
-use s7_base::{Check, Fault, Width};
+use s7_base::{Check, Fault, Width, low_byte, low_word};
 use status_word::{Flag, Status};
 use stl_registers::{Registers, read_number, write_number};
-use stl_tree::{Ar, ArLoad, ArStore, BitArg, LoadArg, Op, OpenArg, Operand, UnaryRow};
+use stl_tree::{Ar, ArLoad, ArStore, BitArg, JumpTest, LoadArg, Op, OpenArg, Operand, UnaryRow};
 
 /// How a run continues after an instruction.
 #[derive(Clone, Copy)]
 pub enum Effect {
     /// The next instruction follows.
     Next,
+
+    /// The instruction at this position of the body follows.
+    Go(usize),
 
     /// The block ends.
     Leave,
@@ -200,12 +205,64 @@ fn close(state: &mut State) -> Result<Effect, Fault>
     Ok(Effect::Next)
 }
 
+/// Sets the registers; the body goes on at a position, or with the next instruction.
+fn go_where(made: bool, to: u32, registers: Registers, state: &mut State) -> Result<Effect, Fault>
+    ensures { Does (going_where made to (with_registers (λ before. values registers) (now_of state.old))) result state.old state.new }
+{
+    state.registers = registers;
+    if made {
+        Ok(Effect::Go(to as usize))
+    } else {
+        Ok(Effect::Next)
+    }
+}
+
+/// The effect of a jump.
+fn jump(test: JumpTest, to: u32, state: &mut State) -> Result<Effect, Fault>
+    ensures { Does (effect_of (op.Jump test to) (now_of state.old)) result state.old state.new }
+{
+    let before = state.registers;
+    go_where(before.is_made(test), to, before.after_test(test), state)
+}
+
+/// The effect of `LOOP`.
+fn count_down(to: u32, state: &mut State) -> Result<Effect, Fault>
+    ensures { Does (effect_of (op.Loop to) (now_of state.old)) result state.old state.new }
+{
+    let counted = state.registers.after_addition(Width::Word, -1);
+    go_where(low_word(counted.accu1) != 0, to, counted, state)
+}
+
+/// The effect of `JL`, which goes on at one of the `JU` after it, or at its label.
+fn choose(count: u8, label: u32, state: &State) -> Result<Effect, Fault>
+    requires { state.now.frames.current.at < 2 ^ 63 }
+    ensures { Does (effect_of (op.JumpList count label) (now_of state.now)) result state.now state.now }
+{
+    let number = low_byte(state.registers.accu1);
+    if number < count {
+        Ok(Effect::Go(state.frames.current.at + 1 + usize::from(number)))
+    } else {
+        Ok(Effect::Go(label as usize))
+    }
+}
+
 /// The effect of the end word of a block.
 fn leave(state: &mut State) -> Result<Effect, Fault>
     ensures { Does (effect_of op.BlockEnd (now_of state.old)) result state.old state.new }
 {
     state.registers.status = state.registers.status.ended();
     Ok(Effect::Leave)
+}
+
+/// The effect of `BEC`.
+fn leave_if(state: &mut State) -> Result<Effect, Fault>
+    ensures { Does (effect_of op.BlockEndIf (now_of state.old)) result state.old state.new }
+{
+    if state.registers.status.get(Flag::Rlo) {
+        leave(state)
+    } else {
+        next_with(state.registers.status.after_jump(), state)
+    }
 }
 
 /// The effect of an instruction on the registers alone.
@@ -242,6 +299,7 @@ fn on_registers(op: &Op, state: &mut State) -> Result<Effect, Fault>
 
 /// Does an instruction. A fault leaves the memory as it was.
 pub fn effect_of(op: &Op, state: &mut State) -> Result<Effect, Fault>
+    requires { state.old.frames.current.at < 2 ^ 63 }
     ensures { Does (effect_of op.now (now_of state.old)) result state.old state.new }
 {
     let status = state.registers.status;
@@ -267,7 +325,11 @@ pub fn effect_of(op: &Op, state: &mut State) -> Result<Effect, Fault>
         Op::OpenDb(argument) => open_db(argument, state),
         Op::OpenDi(argument) => open_di(argument, state),
         Op::Nop => Ok(Effect::Next),
+        Op::Jump(test, to) => jump(*test, *to, state),
+        Op::Loop(to) => count_down(*to, state),
+        Op::JumpList(count, label) => choose(*count, *label, state),
         Op::BlockEnd => leave(state),
+        Op::BlockEndIf => leave_if(state),
         _ => on_registers(op, state),
     }
 }

@@ -82,7 +82,7 @@ fn next_of<'p>(program: &'p Program, progress: Progress, state: &State) -> Optio
     ensures instruction { MatchOption result (next_of (standing program.now progress state.now) ≡ None)
         (λ instr. next_of (standing program.now progress state.now) ≡ Some instr.now) }
     ensures running { IfSome result (λ instr. progress ≡ Running) }
-    ensures room { IfSome result (λ instr. state.now.frames.current.at + 1 < 2 ^ 64) }
+    ensures room { IfSome result (λ instr. state.now.frames.current.at < 2 ^ 63) }
 {
     if let Progress::Over(_) = progress {
         return None;
@@ -111,11 +111,12 @@ fn after_return(state: &mut State) -> Progress
 /// a step seldom does.
 fn step_by(instr: &Instr, state: &mut State, progress: &mut Progress)
     requires running { progress.old ≡ Running }
-    requires room { state.old.frames.current.at + 1 < 2 ^ 64 }
+    requires room { state.old.frames.current.at < 2 ^ 63 }
     ensures { (program : Program) → standing program progress.new state.new ≡ step_by (Some instr.now) program (now_of state.old) }
 {
     match effect_of(&instr.op, state) {
         Ok(Effect::Next) => state.frames.current.at += 1,
+        Ok(Effect::Go(to)) => state.frames.current.at = to,
         Ok(Effect::Leave) => *progress = after_return(state),
         Err(fault) => *progress = Progress::Over(Some(fault)),
     }

@@ -10,15 +10,12 @@ use s7_base::{Check, Kind, Token, Width, front_of, is_same_word, rest_after};
 use status_word::Test;
 use stl_constants::{is_sign, is_spelled, is_word_or_sign};
 use stl_statement_grammar::Mnemonic;
-use stl_tree::{Ar, Arith, LogicRow, ShiftRow, UnaryRow};
+use stl_tree::{Ar, Arith, JumpTest, LogicRow, ShiftRow, UnaryRow};
 
 /// A line of the table: a word or a sign, the word or sign after it, if there is one, and what the mnemonic
 /// is.
 #[derive(Clone, Copy)]
 pub struct Row(pub &'static str, pub &'static str, pub Mnemonic);
-
-/// An instruction that is not built yet.
-const LATER: Mnemonic = Mnemonic::Later;
 
 /// The mnemonics. Of two that begin a statement the longer one comes first.
 static ROWS: [Row; 155] = [
@@ -122,30 +119,30 @@ static ROWS: [Row; 155] = [
     Row("CDB", "", Mnemonic::ExchangeDb),
     Row("NOP", "", Mnemonic::Nop),
     Row("BLD", "", Mnemonic::Nop),
-    Row("JU", "", LATER),
-    Row("JC", "", LATER),
-    Row("JCN", "", LATER),
-    Row("JCB", "", LATER),
-    Row("JNB", "", LATER),
-    Row("JBI", "", LATER),
-    Row("JNBI", "", LATER),
-    Row("JO", "", LATER),
-    Row("JOS", "", LATER),
-    Row("JZ", "", LATER),
-    Row("JN", "", LATER),
-    Row("JP", "", LATER),
-    Row("JM", "", LATER),
-    Row("JPZ", "", LATER),
-    Row("JMZ", "", LATER),
-    Row("JUO", "", LATER),
-    Row("LOOP", "", LATER),
-    Row("JL", "", LATER),
-    Row("BE", "", LATER),
-    Row("BEU", "", LATER),
-    Row("BEC", "", LATER),
-    Row("CALL", "", LATER),
-    Row("UC", "", LATER),
-    Row("CC", "", LATER),
+    Row("JU", "", Mnemonic::Jump(JumpTest::Always)),
+    Row("JC", "", Mnemonic::Jump(JumpTest::Rlo(true))),
+    Row("JCN", "", Mnemonic::Jump(JumpTest::Rlo(false))),
+    Row("JCB", "", Mnemonic::Jump(JumpTest::RloSaved(true))),
+    Row("JNB", "", Mnemonic::Jump(JumpTest::RloSaved(false))),
+    Row("JBI", "", Mnemonic::Jump(JumpTest::Br(true))),
+    Row("JNBI", "", Mnemonic::Jump(JumpTest::Br(false))),
+    Row("JO", "", Mnemonic::Jump(JumpTest::Overflow)),
+    Row("JOS", "", Mnemonic::Jump(JumpTest::StoredOverflow)),
+    Row("JZ", "", Mnemonic::Jump(JumpTest::Result(Test::Eq))),
+    Row("JN", "", Mnemonic::Jump(JumpTest::Result(Test::Ne))),
+    Row("JP", "", Mnemonic::Jump(JumpTest::Result(Test::Gt))),
+    Row("JM", "", Mnemonic::Jump(JumpTest::Result(Test::Lt))),
+    Row("JPZ", "", Mnemonic::Jump(JumpTest::Result(Test::Ge))),
+    Row("JMZ", "", Mnemonic::Jump(JumpTest::Result(Test::Le))),
+    Row("JUO", "", Mnemonic::Jump(JumpTest::Result(Test::Uo))),
+    Row("LOOP", "", Mnemonic::Loop),
+    Row("JL", "", Mnemonic::JumpList),
+    Row("BE", "", Mnemonic::BlockEnd),
+    Row("BEU", "", Mnemonic::BlockEnd),
+    Row("BEC", "", Mnemonic::BlockEndIf),
+    Row("CALL", "", Mnemonic::Later),
+    Row("UC", "", Mnemonic::Later),
+    Row("CC", "", Mnemonic::Later),
     Row("FR", "", Mnemonic::TimerOrCounter),
     Row("LC", "", Mnemonic::TimerOrCounter),
     Row("SP", "", Mnemonic::LeftOut(Kind::Timer)),

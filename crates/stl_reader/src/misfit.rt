@@ -52,7 +52,7 @@ fn is_not_built(label: bool, cut: bool, tokens: &[Token]) -> bool
     ensures { result ≡ is_not_built label cut tokens.now }
 {
     (begins_with_block_word(tokens) && !label && !cut)
-        || (is_complete(tokens) && (begins_with_mnemonic(tokens) || label))
+        || (is_complete(tokens) && begins_with_mnemonic(tokens))
 }
 
 /// Why an item that fits no form is refused, given whether it begins with a label, and whether it is a
@@ -166,11 +166,11 @@ pub fn undeclared_reason(tokens: &[Token]) -> Reason
 }
 
 /// Why a complete statement is refused that is no instruction: `NotBuilt` where it begins like a heading or
-/// an end word, else this reason.
+/// an end word and with no label, else this reason.
 pub fn statement_reason(tokens: &[Token], reason: Reason) -> Reason
     ensures { result ≡ statement_reason tokens.now reason }
 {
-    if begins_with_block_word(tokens) {
+    if begins_with_block_word(tokens) && !begins_with_label(tokens) {
         Reason::Unsupported(Kind::NotBuilt)
     } else {
         reason

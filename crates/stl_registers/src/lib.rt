@@ -12,6 +12,7 @@ pub use registers::Registers;
 mod accumulators;
 mod arithmetic;
 mod conversions;
+mod jumps;
 mod places;
 mod pointers;
 mod registers;

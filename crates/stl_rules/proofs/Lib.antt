@@ -1,6 +1,7 @@
 pub mod Components
 pub mod Ends
 pub mod Equations
+mod JumpCases
 mod LayoutCases
 pub mod Lengths
 pub mod Lists

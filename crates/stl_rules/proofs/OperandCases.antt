@@ -13,6 +13,7 @@ use Rattle.s7_base.specs.declared.word.Width.TheVariants as width
 use Rattle.status_word.specs.declared.test.Test.TheVariants as test
 use Rattle.stl_grammar.specs.Items.{is_not_built, item_at}
 use Rattle.stl_statement_grammar.specs.Mnemonics.{mnemonic_at, mnemonic_named}
+use Rattle.stl_rules.specs.Labels.{label_of}
 use Rattle.stl_rules.specs.Programs.{op_of}
 use Rattle.stl_rules.specs.Raw.{resolved_operand}
 use Rattle.stl_rules.specs.DeclarationRules.{scope_breaks}
@@ -62,7 +63,7 @@ numbers :
     (constant 5 ∷ constant 32767 ∷ constant 32768 ∷ constant 65535 ∷ constant 0 ∷ constant 4294967295 ∷ constant 2147483647
     ∷ constant 2147483648 ∷ [])
 unfolding verdict checked_program raw_text raw_program item_at is_not_built instruction_of tokens_of
-    mnemonic_at mnemonic_named op_of resolved_operand out-RawOperand Carrier.out scope_breaks first_large
+    mnemonic_at mnemonic_named op_of resolved_operand label_of out-RawOperand Carrier.out scope_breaks first_large
 numbers = refl
 
 patterns :
@@ -71,7 +72,7 @@ patterns :
     (constant 255 ∷ constant 32769 ∷ constant 2147483649 ∷ constant 2 ∷ constant 258 ∷ constant 4278190852 ∷ constant 65 ∷ constant 16706
     ∷ constant 4275011 ∷ constant 1094861636 ∷ [])
 unfolding verdict checked_program raw_text raw_program item_at is_not_built instruction_of tokens_of
-    mnemonic_at mnemonic_named op_of resolved_operand out-RawOperand Carrier.out scope_breaks first_large
+    mnemonic_at mnemonic_named op_of resolved_operand label_of out-RawOperand Carrier.out scope_breaks first_large
 patterns = refl
 
 places :
@@ -81,7 +82,7 @@ places :
     ∷ op.Load (load.At (Direct area.I 2044 0) width.Dword) ∷ op.Transfer (Direct area.Q 2047 0) width.Byte
     ∷ op.Transfer (Direct area.M 1 0) width.Dword ∷ op.LoadStw ∷ op.TransferStw ∷ [])
 unfolding verdict checked_program raw_text raw_program item_at is_not_built instruction_of tokens_of
-    mnemonic_at mnemonic_named op_of resolved_operand out-RawOperand Carrier.out scope_breaks first_large
+    mnemonic_at mnemonic_named op_of resolved_operand label_of out-RawOperand Carrier.out scope_breaks first_large
 places = refl
 
 with_numbers :
@@ -90,7 +91,7 @@ with_numbers :
     (op.AddWord (pos 5) ∷ op.AddWord (negsuc 4) ∷ op.AddDword (negsuc 4) ∷ op.Inc 255 ∷ op.Dec 0 ∷ op.Shift shift.Slw (Some 15)
     ∷ op.Shift shift.Sld (Some 32) ∷ op.Shift shift.Rrd None ∷ op.Nop ∷ [])
 unfolding verdict checked_program raw_text raw_program item_at is_not_built instruction_of tokens_of
-    mnemonic_at mnemonic_named op_of resolved_operand out-RawOperand Carrier.out scope_breaks first_large
+    mnemonic_at mnemonic_named op_of resolved_operand label_of out-RawOperand Carrier.out scope_breaks first_large
 with_numbers = refl
 
 word_logic :
@@ -99,7 +100,7 @@ word_logic :
     (op.Logic logic.Aw (Some 15) ∷ op.Logic logic.Ow (Some 65535) ∷ op.Logic logic.Xow (Some 1) ∷ op.Logic logic.Ad (Some 15)
     ∷ op.Logic logic.Od (Some 4294967295) ∷ op.Logic logic.Xod (Some 1) ∷ op.Logic logic.Aw None ∷ op.Logic logic.Ad (Some 4294967295) ∷ [])
 unfolding verdict checked_program raw_text raw_program item_at is_not_built instruction_of tokens_of
-    mnemonic_at mnemonic_named op_of resolved_operand out-RawOperand Carrier.out scope_breaks first_large
+    mnemonic_at mnemonic_named op_of resolved_operand label_of out-RawOperand Carrier.out scope_breaks first_large
 word_logic = refl
 
 alone :
@@ -108,7 +109,7 @@ alone :
     (op.Arith arith.AddI ∷ op.Arith arith.DivD ∷ op.Arith arith.Mod ∷ op.Compare test.Eq width.Word ∷ op.Compare test.Le width.Dword
     ∷ op.Unary unary.Bti ∷ op.Unary unary.Negd ∷ op.Rlda ∷ op.Rrda ∷ op.Tak ∷ op.Push ∷ op.Pop ∷ [])
 unfolding verdict checked_program raw_text raw_program item_at is_not_built instruction_of tokens_of
-    mnemonic_at mnemonic_named op_of resolved_operand out-RawOperand Carrier.out scope_breaks first_large
+    mnemonic_at mnemonic_named op_of resolved_operand label_of out-RawOperand Carrier.out scope_breaks first_large
 alone = refl
 
 -- what is left out, by its kind, and what is refused
@@ -191,17 +192,17 @@ hexadecimal_added = refl
 
 byte_in_a_word : verdict (with_body (codes "AW B#16#5;")) ≡ refused 3 BadOperand
 unfolding verdict checked_program raw_text raw_program item_at is_not_built instruction_of tokens_of
-    mnemonic_at mnemonic_named op_of resolved_operand out-RawOperand Carrier.out scope_breaks first_large
+    mnemonic_at mnemonic_named op_of resolved_operand label_of out-RawOperand Carrier.out scope_breaks first_large
 byte_in_a_word = refl
 
 word_past_the_area : verdict (with_body (codes "L MW 8191;")) ≡ refused 3 BadAddress
 unfolding verdict checked_program raw_text raw_program item_at is_not_built instruction_of tokens_of
-    mnemonic_at mnemonic_named op_of resolved_operand out-RawOperand Carrier.out scope_breaks first_large
+    mnemonic_at mnemonic_named op_of resolved_operand label_of out-RawOperand Carrier.out scope_breaks first_large
 word_past_the_area = refl
 
 bit_loaded : verdict (with_body (codes "L M 0.0;")) ≡ refused 3 BadOperand
 unfolding verdict checked_program raw_text raw_program item_at is_not_built instruction_of tokens_of
-    mnemonic_at mnemonic_named op_of resolved_operand out-RawOperand Carrier.out scope_breaks first_large
+    mnemonic_at mnemonic_named op_of resolved_operand label_of out-RawOperand Carrier.out scope_breaks first_large
 bit_loaded = refl
 
 constant_stored : verdict (with_body (codes "T 5;")) ≡ refused 3 (Unsupported kind.NotBuilt)
@@ -222,7 +223,7 @@ pointers :
     ∷ op.StoreAr Two (ar_store.At (Direct area.L 4 0)) ∷ op.LoadAr One (ar_load.At (Opened 5 0 0)) ∷ op.ExchangeAr
     ∷ op.AddAr One (Some 6) ∷ op.AddAr Two None ∷ [])
 unfolding verdict checked_program raw_text raw_program item_at is_not_built instruction_of tokens_of
-    mnemonic_at mnemonic_named op_of resolved_operand out-RawOperand Carrier.out scope_breaks first_large
+    mnemonic_at mnemonic_named op_of resolved_operand label_of out-RawOperand Carrier.out scope_breaks first_large
 pointers = refl
 
 indirect :
@@ -234,7 +235,7 @@ indirect :
     ∷ op.LoadAr One (ar_load.At (ByMemory area.M area.M 0)) ∷ op.OpenDb (open_arg.At (Direct area.M 2 0))
     ∷ op.OpenDi (open_arg.At (Direct area.Db 65535 0)) ∷ [])
 unfolding verdict checked_program raw_text raw_program item_at is_not_built instruction_of tokens_of
-    mnemonic_at mnemonic_named op_of resolved_operand out-RawOperand Carrier.out scope_breaks first_large
+    mnemonic_at mnemonic_named op_of resolved_operand label_of out-RawOperand Carrier.out scope_breaks first_large
 indirect = refl
 
 -- the verdicts of bodies of one line
@@ -248,7 +249,7 @@ bad_operands :
     ≡ refused 3 BadOperand ∷ refused 3 BadOperand ∷ refused 3 BadOperand ∷ refused 3 BadOperand ∷ refused 3 BadOperand
     ∷ refused 3 BadOperand ∷ refused 3 BadOperand ∷ refused 3 BadOperand ∷ refused 3 BadOperand ∷ []
 unfolding verdict checked_program raw_text raw_program item_at is_not_built instruction_of tokens_of
-    mnemonic_at mnemonic_named op_of resolved_operand out-RawOperand Carrier.out scope_breaks first_large
+    mnemonic_at mnemonic_named op_of resolved_operand label_of out-RawOperand Carrier.out scope_breaks first_large
 bad_operands = refl
 
 bad_addresses :
@@ -258,5 +259,5 @@ bad_addresses :
     ≡ refused 3 BadAddress ∷ refused 3 BadAddress ∷ refused 3 BadAddress ∷ refused 3 BadAddress ∷ refused 3 BadAddress
     ∷ refused 3 BadAddress ∷ refused 3 BadAddress ∷ []
 unfolding verdict checked_program raw_text raw_program item_at is_not_built instruction_of tokens_of
-    mnemonic_at mnemonic_named op_of resolved_operand out-RawOperand Carrier.out scope_breaks first_large
+    mnemonic_at mnemonic_named op_of resolved_operand label_of out-RawOperand Carrier.out scope_breaks first_large
 bad_addresses = refl

@@ -12,6 +12,7 @@ use Rattle.s7_base.specs.declared.reason.Reason.TheVariants.{BadAddress, BadToke
 use Rattle.s7_base.specs.declared.reason.Rejection.{Rejection}
 use Rattle.s7_base.specs.declared.reason.Rejection.TheVariants.{Refused}
 use Rattle.stl_grammar.specs.Items.{is_not_built, item_at}
+use Rattle.stl_rules.specs.Labels.{label_of}
 use Rattle.stl_rules.specs.Programs.{op_of}
 use Rattle.stl_rules.specs.Raw.{resolved_operand}
 use Rattle.stl_rules.specs.DeclarationRules.{scope_breaks}
@@ -58,14 +59,14 @@ three_instructions :
       symbols = [];
     })
 unfolding verdict checked_program raw_text raw_program item_at is_not_built instruction_of tokens_of
-    mnemonic_at mnemonic_named op_of resolved_operand out-RawOperand Carrier.out scope_breaks first_large
+    mnemonic_at mnemonic_named op_of resolved_operand label_of out-RawOperand Carrier.out scope_breaks first_large
 three_instructions = refl
 
 empty_input : verdict [] ≡ refused 1 NoBlocks
 unfolding verdict checked_program raw_text raw_program item_at is_not_built instruction_of tokens_of mnemonic_at
 empty_input = refl
 
-not_built : verdict (with_body (codes "JU a;")) ≡ refused 3 (Unsupported NotBuilt)
+not_built : verdict (with_body (codes "CALL FC 1;")) ≡ refused 3 (Unsupported NotBuilt)
 unfolding verdict checked_program raw_text raw_program item_at is_not_built instruction_of tokens_of mnemonic_at
 not_built = refl
 
@@ -76,14 +77,6 @@ no_mnemonic = refl
 timer_is_left_out : verdict (with_body (codes "SP T 1;")) ≡ refused 3 (Unsupported Timer)
 unfolding verdict checked_program raw_text raw_program item_at is_not_built instruction_of tokens_of mnemonic_at
 timer_is_left_out = refl
-
-label_is_not_built : verdict (with_body (codes "a: A I 0.0;")) ≡ refused 3 (Unsupported NotBuilt)
-unfolding verdict checked_program raw_text raw_program item_at is_not_built instruction_of tokens_of mnemonic_at
-label_is_not_built = refl
-
-label_before_mnemonic : verdict (with_body (codes "A: A I 0.0;")) ≡ refused 3 (Unsupported NotBuilt)
-unfolding verdict checked_program raw_text raw_program item_at is_not_built instruction_of tokens_of mnemonic_at
-label_before_mnemonic = refl
 
 colon_equals_is_no_label : verdict (with_body (codes "L1:= M 0.0;")) ≡ refused 3 BadStatement
 unfolding verdict checked_program raw_text raw_program item_at is_not_built instruction_of tokens_of mnemonic_at
@@ -99,17 +92,17 @@ blank_before_the_point = refl
 
 byte_past_the_inputs : verdict (with_body (codes "A I 2048.0;")) ≡ refused 3 BadAddress
 unfolding verdict checked_program raw_text raw_program item_at is_not_built instruction_of tokens_of
-    mnemonic_at mnemonic_named op_of resolved_operand out-RawOperand Carrier.out scope_breaks first_large
+    mnemonic_at mnemonic_named op_of resolved_operand label_of out-RawOperand Carrier.out scope_breaks first_large
 byte_past_the_inputs = refl
 
 bit_eight : verdict (with_body (codes "A I 0.8;")) ≡ refused 3 BadAddress
 unfolding verdict checked_program raw_text raw_program item_at is_not_built instruction_of tokens_of
-    mnemonic_at mnemonic_named op_of resolved_operand out-RawOperand Carrier.out scope_breaks first_large
+    mnemonic_at mnemonic_named op_of resolved_operand label_of out-RawOperand Carrier.out scope_breaks first_large
 bit_eight = refl
 
 network_is_skipped : verdict (with_body (codes "NETWORK\n);")) ≡ refused 4 BracketMissing
 unfolding verdict checked_program raw_text raw_program item_at is_not_built instruction_of tokens_of
-    mnemonic_at mnemonic_named op_of resolved_operand out-RawOperand Carrier.out scope_breaks first_large
+    mnemonic_at mnemonic_named op_of resolved_operand label_of out-RawOperand Carrier.out scope_breaks first_large
 network_is_skipped = refl
 
 section_is_not_built : verdict (with_body (codes "VAR_TEMP")) ≡ refused 3 (Unsupported NotBuilt)
@@ -146,14 +139,14 @@ heading_is_cut_off = refl
 
 block_zero : verdict (codes "ORGANIZATION_BLOCK OB 0 BEGIN END_ORGANIZATION_BLOCK") ≡ refused 1 BadAddress
 unfolding verdict checked_program raw_text raw_program item_at is_not_built instruction_of tokens_of
-    mnemonic_at mnemonic_named op_of resolved_operand out-RawOperand Carrier.out scope_breaks first_large
+    mnemonic_at mnemonic_named op_of resolved_operand label_of out-RawOperand Carrier.out scope_breaks first_large
 block_zero = refl
 
 second_block_of_a_number :
     verdict (codes "ORGANIZATION_BLOCK OB 1 BEGIN END_ORGANIZATION_BLOCK\nORGANIZATION_BLOCK OB 01 BEGIN\nEND_ORGANIZATION_BLOCK")
     ≡ refused 2 DuplicateBlock
 unfolding verdict checked_program raw_text raw_program item_at is_not_built instruction_of tokens_of
-    mnemonic_at mnemonic_named op_of resolved_operand out-RawOperand Carrier.out scope_breaks first_large
+    mnemonic_at mnemonic_named op_of resolved_operand label_of out-RawOperand Carrier.out scope_breaks first_large
 second_block_of_a_number = refl
 
 function_is_not_built : verdict (codes "FUNCTION FC 1 : VOID") ≡ refused 1 (Unsupported NotBuilt)
@@ -214,19 +207,19 @@ spelled_freely :
       symbols = [];
     })
 unfolding verdict checked_program raw_text raw_program item_at is_not_built instruction_of tokens_of
-    mnemonic_at mnemonic_named op_of resolved_operand out-RawOperand Carrier.out scope_breaks first_large
+    mnemonic_at mnemonic_named op_of resolved_operand label_of out-RawOperand Carrier.out scope_breaks first_large
 spelled_freely = refl
 
 -- brackets
 
 bracket_is_missing : verdict (with_body (codes ");")) ≡ refused 3 BracketMissing
 unfolding verdict checked_program raw_text raw_program item_at is_not_built instruction_of tokens_of
-    mnemonic_at mnemonic_named op_of resolved_operand out-RawOperand Carrier.out scope_breaks first_large
+    mnemonic_at mnemonic_named op_of resolved_operand label_of out-RawOperand Carrier.out scope_breaks first_large
 bracket_is_missing = refl
 
 bracket_is_open : verdict (with_body (codes "A(;")) ≡ refused 4 BracketOpen
 unfolding verdict checked_program raw_text raw_program item_at is_not_built instruction_of tokens_of
-    mnemonic_at mnemonic_named op_of resolved_operand out-RawOperand Carrier.out scope_breaks first_large
+    mnemonic_at mnemonic_named op_of resolved_operand label_of out-RawOperand Carrier.out scope_breaks first_large
 bracket_is_open = refl
 
 bracket_is_closed :
@@ -248,30 +241,30 @@ bracket_is_closed :
       symbols = [];
     })
 unfolding verdict checked_program raw_text raw_program item_at is_not_built instruction_of tokens_of
-    mnemonic_at mnemonic_named op_of resolved_operand out-RawOperand Carrier.out scope_breaks first_large
+    mnemonic_at mnemonic_named op_of resolved_operand label_of out-RawOperand Carrier.out scope_breaks first_large
 bracket_is_closed = refl
 
 -- eight brackets, and as many that close them: the eighth is open all the same
 eight_brackets : verdict (with_body (codes "A(;\nA(;\nA(;\nA(;\nA(;\nA(;\nA(;\nA(;\n););););););););")) ≡ refused 10 TooManyBrackets
 unfolding verdict checked_program raw_text raw_program item_at is_not_built instruction_of tokens_of
-    mnemonic_at mnemonic_named op_of resolved_operand out-RawOperand Carrier.out scope_breaks first_large
+    mnemonic_at mnemonic_named op_of resolved_operand label_of out-RawOperand Carrier.out scope_breaks first_large
 eight_brackets = refl
 
 -- of the broken rules of a stage the least line is named, and on one line the least number
 least_line : verdict (with_body (codes ");\nA(;A(;A(;A(;A(;A(;A(;A(;")) ≡ refused 3 BracketMissing
 unfolding verdict checked_program raw_text raw_program item_at is_not_built instruction_of tokens_of
-    mnemonic_at mnemonic_named op_of resolved_operand out-RawOperand Carrier.out scope_breaks first_large
+    mnemonic_at mnemonic_named op_of resolved_operand label_of out-RawOperand Carrier.out scope_breaks first_large
 least_line = refl
 
 least_number : verdict (codes "ORGANIZATION_BLOCK OB 1 BEGIN A(;A(;A(;A(;A(;A(;A(;A(; END_ORGANIZATION_BLOCK") ≡ refused 1 BracketOpen
 unfolding verdict checked_program raw_text raw_program item_at is_not_built instruction_of tokens_of
-    mnemonic_at mnemonic_named op_of resolved_operand out-RawOperand Carrier.out scope_breaks first_large
+    mnemonic_at mnemonic_named op_of resolved_operand label_of out-RawOperand Carrier.out scope_breaks first_large
 least_number = refl
 
 -- an item that does not fit comes before a bracket that is missing
 misfit_comes_first : verdict (with_body (codes ");\nFOO;")) ≡ refused 4 BadStatement
 unfolding verdict checked_program raw_text raw_program item_at is_not_built instruction_of tokens_of
-    mnemonic_at mnemonic_named op_of resolved_operand out-RawOperand Carrier.out scope_breaks first_large
+    mnemonic_at mnemonic_named op_of resolved_operand label_of out-RawOperand Carrier.out scope_breaks first_large
 misfit_comes_first = refl
 
 each_form :
@@ -293,5 +286,5 @@ each_form :
       symbols = [];
     })
 unfolding verdict checked_program raw_text raw_program item_at is_not_built instruction_of tokens_of
-    mnemonic_at mnemonic_named op_of resolved_operand out-RawOperand Carrier.out scope_breaks first_large
+    mnemonic_at mnemonic_named op_of resolved_operand label_of out-RawOperand Carrier.out scope_breaks first_large
 each_form = refl

@@ -1,8 +1,10 @@
 pub mod Accepting
+pub mod BodyRules
 pub mod Contents
 pub mod DataBlocks
 pub mod DeclarationRules
 pub mod Extents
+pub mod Labels
 pub mod Layouts
 pub mod Names
 pub mod Paths

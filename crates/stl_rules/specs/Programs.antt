@@ -22,6 +22,7 @@ use Rattle.stl_tree.specs.Arithmetic.{is_comparison}
 use Rattle.stl_statement_grammar.specs.Constants.{constant, fits, value_in}
 use Rattle.stl_statement_grammar.specs.Mnemonics.{mnemonic_named}
 use Rattle.stl_rules.specs.DataBlocks.{data_of, in_order}
+use Rattle.stl_rules.specs.Labels.{list_count}
 use Rattle.stl_rules.specs.Names.{block_number}
 use Rattle.stl_rules.specs.Raw.{OperandScope, resolved_operand}
 use Rattle.stl_tree.specs.Accepted.{is_of_pointers}
@@ -176,6 +177,11 @@ opening (behind.DbBy operand) = Some (op.OpenDb (open_arg.At operand))
 opening (behind.DiBy operand) = Some (op.OpenDi (open_arg.At operand))
 opening more = None
 
+-- a jump to the position of a label
+abbrev pub jumping : (ℕ → Op) → ResolvedOperand → Option Op
+jumping o (behind.Target to) = Some (o to)
+jumping o more = None
+
 -- a word logic instruction
 abbrev pub combining : LogicRow → ResolvedOperand → Option Op
 combining row behind.Nothing = Some (op.Logic row None)
@@ -186,7 +192,7 @@ combining row (behind.Constant c) =
     else None
 combining row more = None
 
--- the instruction of a mnemonic and its operand, if there is one
+-- the instruction of a mnemonic and its operand, if there is one; a jump list is made without its JU
 abbrev pub op_with : Mnemonic → ResolvedOperand → Option Op
 op_with (is.Check c) g = check_op c g
 op_with (is.Bracket c) g = alone (op.Bracket c) g
@@ -222,6 +228,11 @@ op_with (is.AddAr r) g = moving_pointer r g
 op_with is.Open g = opening g
 op_with is.ExchangeDb g = alone op.ExchangeDb g
 op_with is.Nop g = with_number (λ n. op.Nop) g
+op_with (is.Jump test) g = jumping (op.Jump test) g
+op_with is.Loop g = jumping op.Loop g
+op_with is.JumpList g = jumping (op.JumpList 0) g
+op_with is.BlockEnd g = alone op.BlockEnd g
+op_with is.BlockEndIf g = alone op.BlockEndIf g
 op_with is.TimerOrCounter g = None
 op_with is.Later g = None
 op_with (is.LeftOut left_out) g = None
@@ -269,9 +280,19 @@ abbrev pub or_any : Result Op Reason → Op
 or_any (Ok what) = what
 or_any (Err rule) = op.Nop
 
--- an instruction on its line
-abbrev pub instr_of : OperandScope → RawInstr → Instr
-instr_of scope raw = record { line = raw.line; op = or_any (op_of scope raw.op) }
+-- a jump list with the number of its JU, which are the first of these instructions
+abbrev pub with_list : List RawInstr → Op → Op
+with_list rest (op.JumpList count to) = op.JumpList (list_count rest) to
+with_list rest other = other
+
+-- an instruction on its line, before these instructions
+abbrev pub instr_of : OperandScope → RawInstr → List RawInstr → Instr
+instr_of scope raw rest = record { line = raw.line; op = with_list rest (or_any (op_of scope raw.op)) }
+
+-- the instructions of raw ones that come one after another
+abbrev pub instrs_of : OperandScope → List RawInstr → List Instr
+instrs_of scope [] = []
+instrs_of scope (raw ∷ rest) = instr_of scope raw rest ∷ instrs_of scope rest
 
 -- Blocks
 
@@ -285,7 +306,7 @@ block_name kind (Err reason) = Ob 0
 
 -- the instructions of a block in the order of the text, the last of them that of its end word
 abbrev pub body_of : OperandScope → List Instr
-body_of scope = map (instr_of scope) scope.block.body ++ (record { line = scope.block.end_line; op = op.BlockEnd } ∷ [])
+body_of scope = instrs_of scope scope.block.body ++ (record { line = scope.block.end_line; op = op.BlockEnd } ∷ [])
 
 -- a block by its name
 abbrev pub block_with : OperandScope → BlockName → Block

@@ -7,6 +7,7 @@ use Rattle.memory_areas.specs.declared.place.AreaName.TheVariants as area
 use Rattle.s7_base.specs.Broken.{first_of_all}
 use Rattle.s7_base.specs.declared.reason.Reason.{Reason}
 use Rattle.s7_base.specs.declared.reason.Reason.TheVariants.{UnknownName}
+use Rattle.stl_rules.specs.Labels.{target_in}
 use Rattle.stl_rules.specs.Names.{block_number, db_numbered, may_have, symbol_named}
 use Rattle.stl_rules.specs.declared.resolved_operand.ResolvedOperand.{ResolvedOperand}
 use Rattle.stl_rules.specs.declared.resolved_operand.ResolvedOperand.TheVariants as behind
@@ -162,7 +163,7 @@ given_in scope (layer.OpenDi name) =
     given_number (given_open (λ n. behind.Di n)) (block_number scope.text.symbols block.Db name)
 given_in scope (layer.OpenDbBy place) = given_held (λ o. behind.DbBy o) place
 given_in scope (layer.OpenDiBy place) = given_held (λ o. behind.DiBy o) place
-given_in scope (layer.Label label) = behind.Unfit
+given_in scope (layer.Label label) = behind.Target (target_in scope.block.body label)
 given_in scope (layer.Call call) = behind.Unfit
 
 -- the operand of a mnemonic, from a raw operand

@@ -1,22 +1,19 @@
 -- The rules of a source, by stages. Each stage gives all that breaks its rules: names, blocks and layout, then
--- brackets, then the text as a whole.
+-- bodies, then the text as a whole.
 -- Held against: this project's own rules.
-use Rattle.std.specs.Prelude.{ℕ, zero, suc, Bool, true, false, not, ◌==◌, ◌&&◌, nat_lt, if◌then◌else◌, List, [], ◌∷◌, ◌++◌, map, slice_get, Option, Some, None, Result, Ok, Err}
+use Rattle.std.specs.Prelude.{ℕ, Bool, true, false, not, ◌==◌, ◌&&◌, if◌then◌else◌, List, [], ◌∷◌, ◌++◌, map, slice_get, Option, Some, None, Result, Ok, Err}
 use Rattle.std.specs.List.{flat_map, list_any}
 use Rattle.memory_areas.specs.declared.sizes.TheConstants.{MOST_BLOCKS}
-use Rattle.nesting_stack.specs.Entries.{most_open}
 use Rattle.s7_base.specs.Broken.{rule_break, first_of_all}
 use Rattle.s7_base.specs.declared.rule_break.Break.{Break}
 use Rattle.s7_base.specs.declared.reason.Line.{Line}
 use Rattle.s7_base.specs.declared.reason.Reason.{Reason}
-use Rattle.s7_base.specs.declared.reason.Reason.TheVariants.{BadAddress, BadOperand, BracketMissing, BracketOpen, DuplicateBlock, DuplicateName, NoBlocks, TooLarge, TooManyBrackets, UnknownName}
+use Rattle.s7_base.specs.declared.reason.Reason.TheVariants.{BadAddress, BadOperand, DuplicateBlock, DuplicateName, NoBlocks, TooLarge, UnknownName}
+use Rattle.stl_rules.specs.BodyRules.{body_breaks, broken_if}
 use Rattle.stl_rules.specs.Names.{block_number, is_same_kind, may_have}
 use Rattle.stl_rules.specs.Programs.{op_of}
 use Rattle.stl_rules.specs.Raw.{OperandScope, are_refused, most_in_block, most_local}
-use Rattle.stl_statement_grammar.specs.Mnemonics.{mnemonic_named}
 use Rattle.stl_statement_grammar.specs.Statements.{is_in_area}
-use Rattle.stl_statement_grammar.specs.declared.mnemonic.Mnemonic.{Mnemonic}
-use Rattle.stl_statement_grammar.specs.declared.mnemonic.Mnemonic.TheVariants as is
 use Rattle.stl_tree.specs.declared.raw.BlockKind.{BlockKind}
 use Rattle.stl_tree.specs.declared.raw.BlockKind.TheVariants as block
 use Rattle.stl_tree.specs.declared.raw.Constant.{Constant}
@@ -39,11 +36,6 @@ use Rattle.stl_rules.specs.DeclarationRules.{fits_width, is_named, key_of, with_
 use Rattle.stl_rules.specs.declared.layout.Component.{Component}
 
 -- Names, blocks and layout
-
--- the rule that is broken on a line where a condition is true
-abbrev pub broken_if : Bool → Line → Reason → List Break
-broken_if true line rule = rule_break line rule
-broken_if false line rule = []
 
 -- the rules of the symbol table: a name is declared once, and an address is one of its area or a number of its kind
 abbrev pub is_address : SymbolAddress → Bool
@@ -140,37 +132,7 @@ names raw =
     symbols_behind [] raw.symbols ++ dbs_behind raw.symbols [] raw.dbs ++ one_too_many (slice_get raw.dbs MOST_BLOCKS)
     ++ blocks_behind raw [] raw.blocks
 
--- Bodies: brackets
-
--- the rule that an instruction breaks before which this many brackets are open: a bracket opens where there is no
--- room for it, or one closes where none is open
-abbrev pub brackets_at : Line → Option Mnemonic → ℕ → List Break
-brackets_at line (Some (is.Bracket c)) n = if nat_lt n most_open then [] else rule_break line TooManyBrackets
-brackets_at line (Some is.Close) zero = rule_break line BracketMissing
-brackets_at line other n = []
-
--- how many brackets are open after an instruction; one for which there is no room is open too
-abbrev pub open_then : Option Mnemonic → ℕ → ℕ
-open_then (Some (is.Bracket c)) n = suc n
-open_then (Some is.Close) zero = zero
-open_then (Some is.Close) (suc n) = n
-open_then other n = n
-
--- the rule that is broken where brackets are open at the end of a block
-abbrev pub open_at_end : Line → ℕ → List Break
-open_at_end line zero = []
-open_at_end line (suc n) = rule_break line BracketOpen
-
--- the rules of brackets that instructions break before which this many brackets are open, where the block ends on a
--- line
-abbrev pub brackets_from : Line → ℕ → List RawInstr → List Break
-brackets_from end n [] = open_at_end end n
-brackets_from end n (raw ∷ rest) =
-    let what = mnemonic_named raw.op.mnemonic in
-    brackets_at raw.line what n ++ brackets_from end (open_then what n) rest
-
-abbrev pub body_breaks : RawBlock → List Break
-body_breaks raw = brackets_from raw.end_line 0 raw.body
+-- Bodies
 
 abbrev pub bodies : RawProgram → List Break
 bodies raw = flat_map body_breaks raw.blocks

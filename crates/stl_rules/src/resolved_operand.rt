@@ -52,6 +52,9 @@ pub enum ResolvedOperand {
     /// The number of a data block that none may have, or the place of one outside its area.
     NoNumber,
 
+    /// The position of the first instruction with a label; the length of the body where none has it.
+    Target(u32),
+
     /// A name that is not declared.
     Unknown,
 

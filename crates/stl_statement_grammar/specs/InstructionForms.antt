@@ -10,7 +10,7 @@ use Rattle.stl_statement_grammar.specs.PathForms.{IsNamed}
 use Rattle.stl_statement_grammar.specs.PlaceForms.{IsNumbered, IsPlace}
 use Rattle.stl_statement_grammar.specs.Places.{opened_area}
 use Rattle.stl_statement_grammar.specs.PointerForms.{IsCrossing, IsIndirect, IsMemory, IsOffsetConstant, IsPointerConstant}
-use Rattle.stl_statement_grammar.specs.Statements.{first_of, opened_word, opening, opening_by, second_of, operand_form_of, begins_with_label, name_of, size_with, instr_with, instruction_of}
+use Rattle.stl_statement_grammar.specs.Statements.{first_of, opened_word, opening, opening_by, second_of, operand_form_of, begins_with_label, is_label_word, name_of, size_with, instr_with, instruction_of}
 use Rattle.stl_statement_grammar.specs.Words.{is_quoted_kind, is_sign, is_spelled, is_word}
 use Rattle.stl_statement_grammar.specs.declared.mnemonic.OperandForm.{OperandForm}
 use Rattle.stl_statement_grammar.specs.declared.mnemonic.OperandForm.TheVariants as shape
@@ -21,7 +21,7 @@ use Rattle.stl_tree.specs.declared.raw.Constant.{Constant as Literal}
 use Rattle.stl_tree.specs.declared.raw.RawInstr.{RawInstr}
 use Rattle.stl_tree.specs.declared.raw.RawName.TheVariants.{Name, Number}
 use Rattle.stl_tree.specs.declared.raw.RawOperand.{RawOperand}
-use Rattle.stl_tree.specs.declared.raw.RawOperand.TheVariants.{At, Constant, DbNo, DiNo, Flag, Missing, OpenDb, OtherAr, Pointer, Stw}
+use Rattle.stl_tree.specs.declared.raw.RawOperand.TheVariants.{At, Constant, DbNo, DiNo, Flag, Label, Missing, OpenDb, OtherAr, Pointer, Stw}
 use Rattle.stl_tree.specs.declared.raw.RawPlace.{RawPlace}
 use Rattle.stl_tree.specs.declared.raw.RawPointer.{RawPointer}
 
@@ -108,13 +108,23 @@ pub data IsOperand : OperandForm → List Token → RawOperand → Type 0 where
   no_offset : IsOperand shape.OffsetOrNothing [] Missing
   opened : (tokens : List Token) (operand : RawOperand) →
       IsOpened tokens operand → IsOperand shape.Opened tokens operand
+  label : (word : Token) → is_label_word word ≡ true → IsOperand shape.Label (word ∷ []) (Label word.text)
 
--- an instruction without a label: a mnemonic, and after it an operand of its form
+-- a statement without its label: a mnemonic, and after it an operand of its form; the word before a colon is no
+-- mnemonic
+pub record IsStatement (tokens : List Token) (row : Row) (operand : RawOperand) : Type 0 where
+  pub unlabelled : begins_with_label tokens ≡ false
+  pub mnemonic : mnemonic_at tokens ≡ Some row
+  pub behind : IsOperand (operand_form_of row.what) (drop (size_with row.second) tokens) operand
+
+-- an instruction: a statement, or a label, a colon and a statement
 pub data IsInstruction : List Token → RawInstr → Type 0 where
-  instruction : (first : Token) (rest : List Token) (row : Row) (operand : RawOperand) →
-      begins_with_label (first ∷ rest) ≡ false → mnemonic_at (first ∷ rest) ≡ Some row
-      → IsOperand (operand_form_of row.what) (drop (size_with row.second) (first ∷ rest)) operand
-      → IsInstruction (first ∷ rest) (instr_with first.line (name_of row) operand)
+  plain_instruction : (first : Token) (rest : List Token) (row : Row) (operand : RawOperand) →
+      IsStatement (first ∷ rest) row operand
+      → IsInstruction (first ∷ rest) (instr_with None first.line (name_of row) operand)
+  labelled_instruction : (label colon : Token) (rest : List Token) (row : Row) (operand : RawOperand) →
+      is_label_word label ≡ true → is_sign (codes ":") colon ≡ true → IsStatement rest row operand
+      → IsInstruction (label ∷ colon ∷ rest) (instr_with (Some label.text) label.line (name_of row) operand)
 
 -- tokens are an instruction exactly where they have its form
 pub record InstructionsHaveForms : Type 0 where

@@ -19,6 +19,7 @@ use Rattle.stl_tree.specs.declared.accumulator.LogicRow.TheVariants as logic
 use Rattle.stl_tree.specs.declared.accumulator.ShiftRow.TheVariants as shift
 use Rattle.stl_tree.specs.declared.accumulator.UnaryRow.TheVariants as unary
 use Rattle.stl_tree.specs.declared.program.Ar.TheVariants as ar
+use Rattle.stl_tree.specs.declared.program.JumpTest.TheVariants as jump
 use Rattle.stl_statement_grammar.specs.declared.mnemonic.Mnemonic.{Mnemonic}
 use Rattle.stl_statement_grammar.specs.declared.mnemonic.Mnemonic.TheVariants as is
 
@@ -103,6 +104,24 @@ accumulator_rows =
     ∷ one (is.Unary unary.Negi) (codes "NEGI") ∷ one (is.Unary unary.Negd) (codes "NEGD")
     ∷ one is.Tak (codes "TAK") ∷ one is.Push (codes "PUSH") ∷ one is.Pop (codes "POP") ∷ []
 
+-- a jump to a label where one of the results of CC1 and CC0 is there
+abbrev pub result_jump : Test → List ℕ → Row
+result_jump test word = one (is.Jump (jump.Result test)) word
+
+-- jumps, loops, jump lists and block ends
+abbrev pub jump_rows : List Row
+jump_rows =
+    one (is.Jump jump.Always) (codes "JU")
+    ∷ one (is.Jump (jump.Rlo true)) (codes "JC") ∷ one (is.Jump (jump.Rlo false)) (codes "JCN")
+    ∷ one (is.Jump (jump.RloSaved true)) (codes "JCB") ∷ one (is.Jump (jump.RloSaved false)) (codes "JNB")
+    ∷ one (is.Jump (jump.Br true)) (codes "JBI") ∷ one (is.Jump (jump.Br false)) (codes "JNBI")
+    ∷ one (is.Jump jump.Overflow) (codes "JO") ∷ one (is.Jump jump.StoredOverflow) (codes "JOS")
+    ∷ result_jump test.Eq (codes "JZ") ∷ result_jump test.Ne (codes "JN")
+    ∷ result_jump test.Gt (codes "JP") ∷ result_jump test.Lt (codes "JM")
+    ∷ result_jump test.Ge (codes "JPZ") ∷ result_jump test.Le (codes "JMZ") ∷ result_jump test.Uo (codes "JUO")
+    ∷ one is.Loop (codes "LOOP") ∷ one is.JumpList (codes "JL")
+    ∷ one is.BlockEnd (codes "BE") ∷ one is.BlockEnd (codes "BEU") ∷ one is.BlockEndIf (codes "BEC") ∷ []
+
 -- address registers, opening data blocks, what does nothing, jumps, block ends and calls; FR and LC are of the kind of
 -- their operand
 abbrev pub control_rows : List Row
@@ -112,11 +131,8 @@ control_rows =
     ∷ one (is.StoreAr ar.Two) (codes "TAR2") ∷ one is.ExchangeAr (codes "CAR") ∷ [])
     ++ (one is.Open (codes "OPN") ∷ one is.ExchangeDb (codes "CDB") ∷ [])
     ++ ones is.Nop (codes "NOP" ∷ codes "BLD" ∷ [])
-    ++ ones is.Later
-    (codes "JU" ∷ codes "JC" ∷ codes "JCN" ∷ codes "JCB" ∷ codes "JNB" ∷ codes "JBI" ∷ codes "JNBI"
-    ∷ codes "JO" ∷ codes "JOS" ∷ codes "JZ" ∷ codes "JN" ∷ codes "JP" ∷ codes "JM" ∷ codes "JPZ" ∷ codes "JMZ"
-    ∷ codes "JUO" ∷ codes "LOOP" ∷ codes "JL"
-    ∷ codes "BE" ∷ codes "BEU" ∷ codes "BEC" ∷ codes "CALL" ∷ codes "UC" ∷ codes "CC" ∷ [])
+    ++ jump_rows
+    ++ ones is.Later (codes "CALL" ∷ codes "UC" ∷ codes "CC" ∷ [])
     ++ ones is.TimerOrCounter (codes "FR" ∷ codes "LC" ∷ [])
 
 -- the forms that the translator does not support

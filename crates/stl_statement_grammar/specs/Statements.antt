@@ -42,7 +42,7 @@ use Rattle.stl_tree.specs.declared.raw.RawName.{RawName}
 use Rattle.stl_tree.specs.declared.raw.RawName.TheVariants.{Name, Number}
 use Rattle.stl_tree.specs.declared.raw.RawOp.{RawOp}
 use Rattle.stl_tree.specs.declared.raw.RawOperand.{RawOperand}
-use Rattle.stl_tree.specs.declared.raw.RawOperand.TheVariants.{At, Constant, DbNo, DiNo, Flag, Missing, OpenDb, OpenDbBy, OpenDi, OpenDiBy, OtherAr, Pointer, Stw}
+use Rattle.stl_tree.specs.declared.raw.RawOperand.TheVariants.{At, Constant, DbNo, DiNo, Flag, Label, Missing, OpenDb, OpenDbBy, OpenDi, OpenDiBy, OtherAr, Pointer, Stw}
 use Rattle.stl_tree.specs.declared.raw.RawPlace.{RawPlace}
 use Rattle.stl_tree.specs.declared.raw.RawPointer.{RawPointer}
 
@@ -272,6 +272,20 @@ opened_by_memory_at (word ∷ before ∷ rest) = opened_in (opened_word word) be
 abbrev pub opened_at : List Token → Read RawOperand
 opened_at tokens = or_else (opened_number_at tokens) (or_else (opened_name_at tokens) (opened_by_memory_at tokens))
 
+-- a word is one to four letters, digits or `_`, the first of them no digit
+abbrev pub is_label : List ℕ → Bool
+is_label [] = false
+is_label (first ∷ rest) = nat_lt (length rest) 4 && not (is_digit first)
+
+-- the token is a label
+abbrev pub is_label_word : Token → Bool
+is_label_word token = is_word_kind token.kind && is_label token.text
+
+-- a label as an operand
+abbrev pub label_at : List Token → Read RawOperand
+label_at [] = No
+label_at (first ∷ rest) = if is_label_word first then Fits (Label first.text) 1 else No
+
 -- what was read, or no operand
 abbrev pub or_nothing : List Token → Read RawOperand → Read RawOperand
 or_nothing tokens read = or_else (nothing_at tokens) read
@@ -292,6 +306,7 @@ operand_by (shape.PointerLoaded r) tokens = or_nothing tokens (pointer_loaded_at
 operand_by (shape.PointerStored r) tokens = or_nothing tokens (pointer_stored_at r tokens)
 operand_by shape.OffsetOrNothing tokens = or_nothing tokens (pointer_alone_at offset_at tokens)
 operand_by shape.Opened tokens = opened_at tokens
+operand_by shape.Label tokens = label_at tokens
 operand_by shape.TimerOrCounter tokens = read_as At (left_out_at timers_and_counters tokens)
 operand_by shape.Later tokens = No
 operand_by (shape.LeftOut kind) tokens = LeftOut kind
@@ -341,6 +356,11 @@ operand_form_of (is.AddAr r) = shape.OffsetOrNothing
 operand_form_of is.Open = shape.Opened
 operand_form_of is.ExchangeDb = shape.Nothing
 operand_form_of is.Nop = shape.Number 255
+operand_form_of (is.Jump test) = shape.Label
+operand_form_of is.Loop = shape.Label
+operand_form_of is.JumpList = shape.Label
+operand_form_of is.BlockEnd = shape.Nothing
+operand_form_of is.BlockEndIf = shape.Nothing
 operand_form_of is.TimerOrCounter = shape.TimerOrCounter
 operand_form_of is.Later = shape.Later
 operand_form_of (is.LeftOut kind) = shape.LeftOut kind
@@ -364,16 +384,11 @@ refusal_kind kind.Peripheral = kind.Peripheral
 refusal_kind kind.Accumulators = kind.Accumulators
 refusal_kind unbuilt = kind.NotBuilt
 
--- a word is one to four letters, digits or `_`, the first of them no digit
-abbrev pub is_label : List ℕ → Bool
-is_label [] = false
-is_label (first ∷ rest) = nat_lt (length rest) 4 && not (is_digit first)
-
 -- the tokens begin with a label and its colon
 abbrev pub begins_with_label : List Token → Bool
 begins_with_label [] = false
 begins_with_label (first ∷ []) = false
-begins_with_label (first ∷ second ∷ rest) = is_word_kind first.kind && is_label first.text && is_sign (codes ":") second
+begins_with_label (first ∷ second ∷ rest) = is_label_word first && is_sign (codes ":") second
 
 -- the name of a mnemonic, in capitals
 abbrev pub name_of : Row → List ℕ
@@ -393,22 +408,27 @@ with_mnemonic tokens (Some row) =
     let behind = drop (size_with row.second) tokens in
     with_operand (name_of row) (length behind) (operand_of row.what behind)
 
--- the mnemonic and the operand of a statement, or the rule that its tokens break; labels are not built yet
+-- the mnemonic and the operand of a statement without its label, or the rule that its tokens break; the word before a
+-- colon is no mnemonic
 abbrev pub statement : List Token → Result RawOp Reason
-statement tokens =
-    if begins_with_label tokens then Err (Unsupported kind.NotBuilt) else with_mnemonic tokens (mnemonic_at tokens)
+statement tokens = if begins_with_label tokens then Err BadStatement else with_mnemonic tokens (mnemonic_at tokens)
 
--- an instruction on a line, by its mnemonic and its operand
-abbrev pub instr_with : Line → List ℕ → RawOperand → RawInstr
-instr_with line mnemonic operand =
-    record { label = None; line = line; op = record { mnemonic = mnemonic; operand = operand } }
+-- an instruction on a line, by its label, its mnemonic and its operand
+abbrev pub instr_with : Option (List ℕ) → Line → List ℕ → RawOperand → RawInstr
+instr_with label line mnemonic operand =
+    record { label = label; line = line; op = record { mnemonic = mnemonic; operand = operand } }
 
--- the instruction or the broken rule on a line
-abbrev pub on_line : Line → Result RawOp Reason → Result RawInstr Rejection
-on_line line (Ok op) = Ok (instr_with line op.mnemonic op.operand)
-on_line line (Err reason) = Err (Refused line reason)
+-- the instruction with a label, or the broken rule, on a line
+abbrev pub on_line : Option (List ℕ) → Line → Result RawOp Reason → Result RawInstr Rejection
+on_line label line (Ok op) = Ok (instr_with label line op.mnemonic op.operand)
+on_line label line (Err reason) = Err (Refused line reason)
+
+-- an instruction on the line of its first token, which is its label where it has one
+abbrev pub instruction_from : Bool → Token → List Token → Result RawInstr Rejection
+instruction_from true first rest = on_line (Some first.text) first.line (statement (drop 1 rest))
+instruction_from false first rest = on_line None first.line (statement (first ∷ rest))
 
 -- the instruction that tokens are, on the line of the first of them
 unfoldable pub instruction_of : List Token → Result RawInstr Rejection
 instruction_of [] = Err (Refused (record { 0 = 1 }) BadStatement)
-instruction_of (first ∷ rest) = on_line first.line (statement (first ∷ rest))
+instruction_of (first ∷ rest) = instruction_from (begins_with_label (first ∷ rest)) first rest

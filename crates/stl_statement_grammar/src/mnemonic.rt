@@ -2,7 +2,7 @@
 
 use s7_base::{Check, Kind, Width};
 use status_word::Test;
-use stl_tree::{Ar, Arith, LogicRow, ShiftRow, UnaryRow};
+use stl_tree::{Ar, Arith, JumpTest, LogicRow, ShiftRow, UnaryRow};
 
 /// What a mnemonic is.
 #[derive(Clone, Copy, Debug, PartialEq, Eq)]
@@ -109,10 +109,25 @@ pub enum Mnemonic {
     /// `NOP` and `BLD`, with a number that says nothing.
     Nop,
 
+    /// A jump to a label, `JU` to `JUO`.
+    Jump(JumpTest),
+
+    /// `LOOP`, which counts the low word of ACCU1 down and jumps to a label.
+    Loop,
+
+    /// `JL`, which begins a jump list.
+    JumpList,
+
+    /// `BE` and `BEU`, which end their block.
+    BlockEnd,
+
+    /// `BEC`, which ends its block where the RLO is 1.
+    BlockEndIf,
+
     /// `FR` and `LC`, which are not supported, of the kind of their operand.
     TimerOrCounter,
 
-    /// An instruction that is not built yet.
+    /// A call, which is not built yet.
     Later,
 
     /// A form of this kind, which is not supported whatever its operand is.
@@ -163,6 +178,9 @@ pub enum OperandForm {
 
     /// A data block that is opened.
     Opened,
+
+    /// A label.
+    Label,
 
     /// A timer or a counter, which are not supported.
     TimerOrCounter,

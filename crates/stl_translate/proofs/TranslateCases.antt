@@ -1,5 +1,5 @@
 -- The text of some small programs, by computation.
-use Rattle.std.specs.Prelude.{◌≡◌, ℕ, List, [], ◌∷◌, ◌++◌, map, codes}
+use Rattle.std.specs.Prelude.{◌≡◌, ℕ, List, [], ◌∷◌, ◌++◌, length, map, codes}
 use Rattle.std.specs.Fmt.{digits}
 use Rattle.s7_base.specs.declared.check.Check.TheVariants as check
 use Rattle.memory_areas.specs.declared.place.AreaName.TheVariants as area
@@ -14,8 +14,10 @@ use Rattle.stl_tree.specs.declared.program.Instr.{Instr}
 use Rattle.stl_tree.specs.declared.program.Block.{Block}
 use Rattle.st_tree.specs.Spelling.{unit_text, line, literal_text, spelling}
 use Rattle.st_tree.proofs.Equations.{canon_equations, text_assign}
-use Rattle.instruction_lowering.specs.inner.Lowering.{graph_program_of}
-use Rattle.stl_translate.specs.inner.Straight.{straight}
+use Rattle.flow_graph.specs.declared.graph.Exit.TheVariants as exit
+use Rattle.flow_graph.specs.declared.graph.Graph.{Graph}
+use Rattle.instruction_lowering.specs.inner.Lowering.{graph_program_with, unit_of}
+use Rattle.graph_texts.specs.inner.Dispatch.{text_of_graph}
 
 abbrev instr_of : Op → Instr
 instr_of o = record { line = record { 0 = 3 }; op = o }
@@ -24,8 +26,14 @@ instr_of o = record { line = record { 0 = 3 }; op = o }
 abbrev block_of : BlockName → List Op → Block
 block_of n ops = record { name = n; line = record { 0 = 1 }; formals = []; body = map instr_of (ops ++ op.BlockEnd ∷ []) }
 
+-- the graph of a body without jumps, which is one block
+abbrev one_block : Block → Graph
+one_block b = record { nodes = record { first = 0; past = length b.body; exit = exit.End } ∷ []; cuts = 0 ∷ [] }
+
 abbrev text_of : List Block → List ℕ
-text_of blocks = spelling (straight (graph_program_of (record { dbs = []; instances = []; blocks = blocks; symbols = [] })))
+text_of blocks =
+    spelling (text_of_graph (graph_program_with (record { dbs = []; instances = []; blocks = blocks; symbols = [] })
+    (map (λ (b : Block). unit_of b (one_block b)) blocks)))
 
 abbrev input : ℕ → Operand
 input bit = operand.Direct area.I 0 bit
@@ -66,11 +74,6 @@ unfolding digits unit_text line literal_text
 exclusive = simp (text_assign, canon_equations)
 
 -- nothing stands behind the first end word of a body
-early_end : text_of (block_of (name.Ob 1) (op.Assign (operand.Direct area.Q 4 0) ∷ op.BlockEnd ∷ op.Assign (operand.Direct area.Q 4 1) ∷ []) ∷ [])
-    ≡ codes "PROGRAM OB1\n    %QX4.0 := RLO;\n    ORB := FALSE;\n    NFC := FALSE;\n    ORB := FALSE;\n    NFC := FALSE;\n    OS := FALSE;\nEND_PROGRAM\n"
-unfolding digits unit_text line literal_text
-early_end = simp (text_assign, canon_equations)
-
 two_blocks : text_of (block_of (name.Ob 1) [] ∷ block_of (name.Ob 35) [] ∷ [])
     ≡ codes "PROGRAM OB1\n    ORB := FALSE;\n    NFC := FALSE;\n    OS := FALSE;\nEND_PROGRAM\nPROGRAM OB35\n    ORB := FALSE;\n    NFC := FALSE;\n    OS := FALSE;\nEND_PROGRAM\n"
 unfolding digits unit_text line literal_text

@@ -1,15 +1,16 @@
 -- Rules that an accepted program keeps. Its operands, brackets, ends, names, numbers, data blocks and symbols are as
 -- the verdict lets them be.
 -- Held against: this project's own rules.
-use Rattle.std.specs.Prelude.{◌≡◌, ◌≢◌, ℕ, ◌≤◌, ◌<◌, ◌^◌, Bool, true, false, Option, Some, List, [], ◌∷◌, All, None}
+use Rattle.std.specs.Prelude.{◌≡◌, ◌≢◌, ℕ, zero, suc, ◌+◌, ◌≤◌, ◌<◌, ◌^◌, ◌⊎◌, Bool, true, false, Option, Some, None, option_and_then, List, [], ◌∷◌, length, All}
 use Rattle.memory_areas.specs.Access.{bits_wide, is_byte_in, is_unaligned}
 use Rattle.memory_areas.specs.Areas.{AreBlocks}
 use Rattle.s7_base.specs.SignedNumbers.{is_over}
 use Rattle.s7_base.specs.declared.word.Width.{Width}
 use Rattle.s7_base.specs.declared.word.Width.TheVariants as width
 use Rattle.status_word.specs.declared.test.Test.{Test}
+use Rattle.status_word.specs.declared.test.Test.TheVariants as test
 use Rattle.stl_tree.specs.Arithmetic.{is_comparison}
-use Rattle.stl_tree.specs.Brackets.{AreNested}
+use Rattle.stl_tree.specs.Brackets.{AreNested, open_behind}
 use Rattle.stl_tree.specs.Shifts.{most_steps}
 use Rattle.stl_tree.specs.StlRun.{block_named}
 use Rattle.stl_tree.specs.WordLogic.{width_of as logic_width}
@@ -29,6 +30,8 @@ use Rattle.memory_areas.specs.declared.place.AreaName.TheVariants as area
 use Rattle.memory_areas.specs.declared.call.BlockName.{BlockName}
 use Rattle.memory_areas.specs.declared.call.BlockName.TheVariants as name
 use Rattle.stl_tree.specs.declared.program.Instr.{Instr}
+use Rattle.stl_tree.specs.declared.program.JumpTest.{JumpTest}
+use Rattle.stl_tree.specs.declared.program.JumpTest.TheVariants as jump
 use Rattle.stl_tree.specs.declared.program.LoadArg.{LoadArg}
 use Rattle.stl_tree.specs.declared.program.LoadArg.TheVariants as load
 use Rattle.stl_tree.specs.declared.program.Op.{Op}
@@ -140,6 +143,15 @@ abbrev pub IsOfWidth : Width → Option ℕ → Type 0
 IsOfWidth w None = Unit {0}
 IsOfWidth w (Some c) = c < 2 ^ bits_wide w
 
+-- a jump tests CC1 and CC0 for a result
+abbrev pub is_of_result : Test → Bool
+is_of_result test.Uo = true
+is_of_result t = is_comparison t
+
+abbrev pub IsJumpTest : JumpTest → Type 0
+IsJumpTest (jump.Result t) = is_of_result t ≡ true
+IsJumpTest other = Unit {0}
+
 -- the operand of an instruction is one of the width that the instruction has
 abbrev pub HasOperand : Op → Type 0
 HasOperand (op.Check c (arg.At o)) = IsOperand width.Bit o
@@ -184,11 +196,74 @@ HasOperand (op.OpenDb d) = IsOpenArg d
 HasOperand (op.OpenDi d) = IsOpenArg d
 HasOperand op.ExchangeDb = Unit {0}
 HasOperand op.Nop = Unit {0}
+HasOperand (op.Jump t to) = IsJumpTest t
+HasOperand (op.Loop to) = Unit {0}
+HasOperand (op.JumpList count label) = (1 ≤ count) × (count ≤ 255)
 HasOperand op.BlockEnd = Unit {0}
+HasOperand op.BlockEndIf = Unit {0}
 
 -- each instruction of a body has its operand
 abbrev pub HaveOperands : List Instr → Type 0
 HaveOperands body = All (λ (i : Instr). HasOperand i.op) body
+
+-- Jumps
+
+-- the positions to which an instruction jumps; those of a jump list are the ones of its JU, and its label
+abbrev pub targets_of : Op → List ℕ
+targets_of (op.Jump t to) = to ∷ []
+targets_of (op.Loop to) = to ∷ []
+targets_of (op.JumpList count label) = label ∷ []
+targets_of other = []
+
+-- how many brackets are open before the instruction at a position, this many being open before the first; none where
+-- there is no instruction
+abbrev pub open_at : ℕ → List Instr → ℕ → Option ℕ
+open_at n [] at = None
+open_at n (i ∷ rest) zero = Some n
+open_at n (i ∷ rest) (suc at) = option_and_then (λ m. open_at m rest at) (open_behind i.op n)
+
+-- a jump may lead to a position: an instruction is there, and no bracket is open
+abbrev pub IsTarget : List Instr → ℕ → Type 0
+IsTarget body to = open_at 0 body to ≡ Some 0
+
+-- each jump of a body leads to such a position
+abbrev pub AreTargets : List Instr → Type 0
+AreTargets body = All (λ (i : Instr). All (IsTarget body) (targets_of i.op)) body
+
+-- an instruction is JU
+abbrev pub IsAlways : Op → Type 0
+IsAlways (op.Jump jump.Always to) = Unit {0}
+IsAlways other = ⊥
+
+-- the first of some instructions are so many JU
+abbrev pub AreListed : ℕ → List Instr → Type 0
+AreListed zero rest = Unit {0}
+AreListed (suc n) [] = ⊥
+AreListed (suc n) (i ∷ rest) = IsAlways i.op × AreListed n rest
+
+-- no jump of a body leads to one of so many instructions after a position
+abbrev pub IsOutside : ℕ → ℕ → ℕ → Type 0
+IsOutside at count to = (to ≤ at) ⊎ (at + count < to)
+
+abbrev pub AreUnlabelled : List Instr → ℕ → ℕ → Type 0
+AreUnlabelled body at count = All (λ (i : Instr). All (IsOutside at count) (targets_of i.op)) body
+
+-- the instruction at a position is a jump list with its JU, to which no jump leads, and its label after them; or it is
+-- no jump list
+abbrev pub HasList : List Instr → ℕ → Op → List Instr → Type 0
+HasList body at (op.JumpList count label) rest =
+    AreListed count rest × AreUnlabelled body at count × (label ≡ at + 1 + count)
+HasList body at other rest = Unit {0}
+
+-- each jump list among the instructions of a body from a position on has its JU and its label
+abbrev pub HaveLists : List Instr → ℕ → List Instr → Type 0
+HaveLists body at [] = Unit {0}
+HaveLists body at (i ∷ rest) = HasList body at i.op rest × HaveLists body (at + 1) rest
+
+-- the jumps of a body lead to its instructions, and its jump lists are whole
+pub record AreJumps (body : List Instr) : Type 0 where
+  pub targets : AreTargets body
+  pub lists : HaveLists body 0 body
 
 -- Ends
 
@@ -213,11 +288,14 @@ AreDistinct (b ∷ rest) = (block_named b.name rest ≡ None) × AreDistinct res
 
 -- The rules, a record a group
 
--- the rules for a block: its operands lie in their areas, its brackets are nested, it ends with an end word, its
--- number is in range, and it has no formals, since none are read yet
+-- the rules for a block: its operands lie in their areas, its brackets are nested, its jumps lead to its instructions,
+-- it ends with an end word, it has at most 32,768 instructions before that, its number is in range, and it has no
+-- formals, since none are read yet
 pub record IsAcceptedBlock (block : Block) : Type 0 where
   pub operands : HaveOperands block.body
   pub brackets : AreNested block.body 0
+  pub jumps : AreJumps block.body
+  pub few : length block.body ≤ 32769
   pub ends : IsEnded block.body
   pub number : IsBlockNumber block.name
   pub formals : block.formals ≡ []

@@ -11,6 +11,7 @@ use Rattle.stl_tree.specs.Arithmetic.{after_arithmetic, after_comparison}
 use Rattle.stl_tree.specs.Brackets.{after_bracket, in_bracket_of}
 use Rattle.stl_tree.specs.Conversions.{after_conversion}
 use Rattle.stl_tree.specs.DataBlocks.{db_number_loaded, db_opened, dbs_exchanged, di_number_loaded, di_opened}
+use Rattle.stl_tree.specs.Jumps.{ended_if, jumped, listed, looped}
 use Rattle.stl_tree.specs.Now.{Now, Effect, next, leave, with_memory, with_registers, with_status, with_value}
 use Rattle.stl_tree.specs.Operands.{with_checked, with_place}
 use Rattle.stl_tree.specs.Registers.{RegisterValues}
@@ -138,4 +139,8 @@ effect_of (op.OpenDb d) now = block_opened db_opened d now
 effect_of (op.OpenDi d) now = block_opened di_opened d now
 effect_of op.ExchangeDb now = on_registers dbs_exchanged now
 effect_of op.Nop now = next now
+effect_of (op.Jump t to) now = jumped t to now
+effect_of (op.Loop to) now = looped to now
+effect_of (op.JumpList count label) now = listed count label now
 effect_of op.BlockEnd now = leave (with_status after_end now)
+effect_of op.BlockEndIf now = ended_if now

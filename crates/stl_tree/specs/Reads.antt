@@ -18,6 +18,8 @@ use Rattle.stl_tree.specs.declared.program.ArLoad.{ArLoad}
 use Rattle.stl_tree.specs.declared.program.ArLoad.TheVariants as ar_load
 use Rattle.stl_tree.specs.declared.program.ArStore.{ArStore}
 use Rattle.stl_tree.specs.declared.program.ArStore.TheVariants as ar_store
+use Rattle.stl_tree.specs.declared.program.JumpTest.{JumpTest}
+use Rattle.stl_tree.specs.declared.program.JumpTest.TheVariants as jump
 use Rattle.stl_tree.specs.declared.program.LoadArg.{LoadArg}
 use Rattle.stl_tree.specs.declared.program.LoadArg.TheVariants as load
 use Rattle.stl_tree.specs.declared.program.OpenArg.{OpenArg}
@@ -131,7 +133,18 @@ abbrev pub opened_by : OpenArg → List Reg
 opened_by (open_arg.Number n) = []
 opened_by (open_arg.At o) = found_by o
 
--- the registers that an instruction reads; a bracket keeps its chain, and one that is closed reads the RLO inside
+-- the registers that a jump tests
+abbrev pub tested_by : JumpTest → List Reg
+tested_by jump.Always = []
+tested_by (jump.Rlo wanted) = reg.Rlo ∷ []
+tested_by (jump.RloSaved wanted) = reg.Rlo ∷ []
+tested_by (jump.Br wanted) = reg.Br ∷ []
+tested_by jump.Overflow = reg.Ov ∷ []
+tested_by jump.StoredOverflow = reg.Os ∷ []
+tested_by (jump.Result t) = asked_by t
+
+-- the registers that an instruction reads; a bracket keeps its chain, and one that is closed reads the RLO inside; BEC
+-- keeps OS where it does not end its block
 abbrev pub reads_of : Op → List Reg
 reads_of (op.Check c b) = looked_at b ++ chain_read c
 reads_of op.OrAlone = reg.Rlo ∷ reg.Nfc ∷ []
@@ -174,4 +187,8 @@ reads_of (op.OpenDb d) = opened_by d
 reads_of (op.OpenDi d) = opened_by d
 reads_of op.ExchangeDb = reg.DbNo ∷ reg.DiNo ∷ []
 reads_of op.Nop = []
+reads_of (op.Jump t to) = tested_by t
+reads_of (op.Loop to) = reg.Accu1 ∷ []
+reads_of (op.JumpList count label) = reg.Accu1 ∷ []
 reads_of op.BlockEnd = []
+reads_of op.BlockEndIf = reg.Rlo ∷ reg.Os ∷ []

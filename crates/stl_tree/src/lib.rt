@@ -9,8 +9,8 @@
 pub use accumulator::{Arith, LogicRow, ShiftRow, UnaryRow};
 pub use memory_areas::{BlockName, Call};
 pub use program::{
-    Actual, Ar, ArLoad, ArStore, BitArg, Block, BlockCall, Formal, Instance, Instr, LoadArg, Mode,
-    Op, OpenArg, Operand, Program, Symbol, may_hold_pointers,
+    Actual, Ar, ArLoad, ArStore, BitArg, Block, BlockCall, Formal, Instance, Instr, JumpTest,
+    LoadArg, Mode, Op, OpenArg, Operand, Program, Symbol, may_hold_pointers,
 };
 pub use raw::{
     BlockKind, Constant, DeclType, Declaration, Declarations, ElemType, InitialItem, PathStep,

@@ -103,6 +103,31 @@ pub enum ArStore {
     OtherAr,
 }
 
+/// Where a jump looks before it is made.
+#[derive(Clone, Copy, Debug, PartialEq, Eq)]
+pub enum JumpTest {
+    /// Nowhere: `JU`.
+    Always,
+
+    /// The RLO is this: `JC` and `JCN`.
+    Rlo(bool),
+
+    /// The RLO is this, and BR takes it: `JCB` and `JNB`.
+    RloSaved(bool),
+
+    /// BR is this: `JBI` and `JNBI`.
+    Br(bool),
+
+    /// OV is 1: `JO`.
+    Overflow,
+
+    /// OS is 1, and is cleared: `JOS`.
+    StoredOverflow,
+
+    /// CC1 and CC0 pass a test: `JZ`, `JN`, `JP`, `JM`, `JPZ`, `JMZ` and `JUO`.
+    Result(Test),
+}
+
 /// Which data block `OPN` opens.
 #[derive(Clone, Copy)]
 pub enum OpenArg {
@@ -257,8 +282,20 @@ pub enum Op {
     /// `NOP` and `BLD`, which do nothing.
     Nop,
 
-    /// The end word of a block.
+    /// A jump to the instruction at this position of the body.
+    Jump(JumpTest, u32),
+
+    /// `LOOP`, which counts the low word of ACCU1 down and jumps to this position where it is not 0.
+    Loop(u32),
+
+    /// `JL`, with the number of the `JU` after it, and the position of its label, which is after these.
+    JumpList(u8, u32),
+
+    /// `BE`, `BEU` and the end word of a block.
     BlockEnd,
+
+    /// `BEC`, which ends its block where the RLO is 1.
+    BlockEndIf,
 }
 
 /// An instruction, with the line of its first token.

@@ -17,7 +17,8 @@ use Rattle.stl_rules.specs.Layouts.{breaks_in}
 use Rattle.stl_rules.specs.Names.{block_number, may_have}
 use Rattle.stl_rules.specs.Programs.{block_name, block_of, block_with, symbol_of}
 use Rattle.stl_rules.specs.Raw.{OperandScope, most_local}
-use Rattle.stl_rules.specs.Stages.{blocks_behind, broken_if, content_breaks, dbs_behind, heading_breaks, instr_breaks, is_address, is_among, names, one_too_many, symbols_behind, with_block_number}
+use Rattle.stl_rules.specs.BodyRules.{broken_if}
+use Rattle.stl_rules.specs.Stages.{blocks_behind, content_breaks, dbs_behind, heading_breaks, instr_breaks, is_address, is_among, names, one_too_many, symbols_behind, with_block_number}
 use Rattle.stl_rules.specs.Verdict.{program_unless, resolved_program}
 use Rattle.stl_tree.specs.declared.program.Block.{Block}
 use Rattle.stl_tree.specs.declared.program.Program.{Program}

@@ -4,7 +4,7 @@ ghost use Rattle.std.specs.List.{flat_map};
 ghost use Rattle.name_tables.specs.Before.{block_numbers, numbers_before};
 ghost use Rattle.stl_rules.specs.Layouts.{breaks_in};
 ghost use Rattle.stl_rules.specs.Names.{block_number};
-ghost use Rattle.stl_rules.specs.Programs.{block_name, body_of, instr_of, op_of, or_any};
+ghost use Rattle.stl_rules.specs.Programs.{block_name, body_of, instr_of, instrs_of, op_of, or_any, with_list};
 ghost use Rattle.stl_rules.specs.Raw.{most_local};
 ghost use Rattle.stl_rules.specs.Stages.{blocks_behind, instr_breaks};
 ghost use Rattle.symbol_names.specs.inner.Firsts.{with_breaks};
@@ -15,10 +15,11 @@ use crate::declarations::IndexedDeclarations;
 use crate::first::{join, note};
 use crate::headings::note_heading;
 use crate::scope::OperandScope;
+use body_labels::{Labels, list_count};
 use component_index::Components;
 use instruction_operands::{may_have, op_or_rule};
 use name_tables::Names;
-use s7_base::{Break, List, NoMemory, Reason};
+use s7_base::{Break, List, NoMemory, Reason, rest_after};
 use std::alloc::Global;
 use stl_mnemonics::mnemonic_named;
 use stl_tree::{Block, BlockKind, BlockName, Instr, Op, RawBlock, RawInstr};
@@ -55,23 +56,35 @@ fn op_of(
     }
 }
 
-/// Adds an instruction to a body.
+/// A jump list with the number of its `JU`, which are the first of these instructions.
+fn with_list(op: Op, rest: &[RawInstr]) -> Op
+    ensures { result ≡ with_list rest.now op }
+{
+    match op {
+        Op::JumpList(_, to) => Op::JumpList(list_count(rest), to),
+        other => other,
+    }
+}
+
+/// Adds an instruction, which comes before these, to a body.
 fn put_instr(
     alloc: Global,
     scope: &OperandScope<'_, '_>,
     raw: &RawInstr,
+    rest: &[RawInstr],
     body: &mut List<Instr>,
     first: &mut Option<Break>,
 ) -> Result<(), NoMemory>
-    ensures body { OnOk result (body.new ≡ body.old ++ instr_of scope.now raw.now ∷ []) }
+    ensures body { OnOk result (body.new ≡ body.old ++ instr_of scope.now raw.now rest.now ∷ []) }
     ensures first { OnOk result (first.new ≡ with_breaks first.old (instr_breaks scope.now raw.now)) }
 {
     let op = op_of(alloc, scope, raw, first)?;
+    let op = with_list(op, rest);
     body.push(Instr { line: raw.line, op })
 }
 
 /// The instructions of a body but for its end word.
-#[tactic(auto, using(crate::proofs::Firsts::behind, crate::proofs::Firsts::none_more))]
+#[tactic(auto, using(crate::proofs::Instructions::more_laws))]
 fn put_instrs(
     alloc: Global,
     scope: &OperandScope<'_, '_>,
@@ -79,11 +92,14 @@ fn put_instrs(
     body: &mut List<Instr>,
     first: &mut Option<Break>,
 ) -> Result<(), NoMemory>
-    ensures body { OnOk result (body.new ≡ body.old ++ map (instr_of scope.now) raws.now) }
+    ensures body { OnOk result (body.new ≡ body.old ++ instrs_of scope.now raws.now) }
     ensures first { OnOk result (first.new ≡ with_breaks first.old (flat_map (instr_breaks scope.now) raws.now)) }
 {
-    for raw in raws {
-        put_instr(alloc, scope, raw, body, first)?;
+    let mut rest = raws;
+    while let [raw, ..] = rest {
+        let behind = rest_after(rest, 1);
+        put_instr(alloc, scope, raw, behind, body, first)?;
+        rest = behind;
     }
     Ok(())
 }
@@ -159,7 +175,8 @@ fn body_in(
     ensures first { OnOk result (first.new ≡ with_breaks first.old (content_breaks_of (record { text = names.now; block = raw.now }))) }
 {
     let temps = temps_of(alloc, raw, first)?;
-    let scope = OperandScope::new(names, declarations, raw, &temps);
+    let labels = Labels::new(alloc, raw.body.as_slice())?;
+    let scope = OperandScope::new(names, declarations, raw, &temps, &labels);
     body_of(alloc, &scope, first)
 }
 

@@ -1,7 +1,7 @@
 //! The first of the broken rules so far.
 ghost use Rattle.std.specs.Prelude.{◌≡◌};
 ghost use Rattle.s7_base.specs.Broken.{rule_break};
-ghost use Rattle.stl_rules.specs.Stages.{broken_if};
+ghost use Rattle.stl_rules.specs.BodyRules.{broken_if};
 ghost use Rattle.symbol_names.specs.inner.Firsts.{first_of_two, with_breaks};
 
 use s7_base::{Break, Line, Reason, sooner};

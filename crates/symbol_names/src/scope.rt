@@ -1,6 +1,7 @@
 //! The operand of a mnemonic, by what names mean in a block.
 ghost use Rattle.std.specs.Prelude.{◌≡◌, IfOk, map, Some, None, ◌∷◌, []};
 ghost use Rattle.memory_areas.specs.declared.place.AreaName.TheVariants as area;
+ghost use Rattle.stl_rules.specs.Labels.{target_in};
 ghost use Rattle.stl_rules.specs.Names.{block_number, db_numbered, number_at, symbol_named};
 ghost use Rattle.stl_rules.specs.Raw.{resolved_operand, given_in_data, given_in_kind, given_number, given_open, given_path, given_symbol, most_in_block, most_local};
 ghost use Rattle.stl_rules.specs.declared.resolved_operand.ResolvedOperand.TheVariants as behind;
@@ -8,6 +9,7 @@ ghost use Rattle.stl_tree.specs.declared.raw.BlockKind.TheVariants as block;
 ghost use Rattle.symbol_names.specs.inner.Refused.{decls_of, own_of};
 
 use crate::declarations::IndexedDeclarations;
+use body_labels::Labels;
 use instruction_operands::{
     given_by_memory, given_by_register, given_crossing, given_db_by, given_di_by, given_place,
     given_pointer, given_symbol, may_have,
@@ -32,6 +34,9 @@ pub struct OperandScope<'s, 't> {
 
     /// The temporaries of the block.
     temps: &'s IndexedDeclarations<'t>,
+
+    /// The labels of its body.
+    labels: &'s Labels<'t>,
 }
 
 impl<'s, 't> Model for OperandScope<'s, 't> {
@@ -49,7 +54,7 @@ impl<'s, 't> Model for OperandScope<'s, 't> {
 
     ghost view = { λ s. record { text = s.names.now; block = s.block.now } };
 
-    ghost invariant = { λ s. (s.declarations.now ≡ map own_of s.names.now.dbs) × (s.temps.now ≡ (most_local, s.block.now.temps ∷ [])) };
+    ghost invariant = { λ s. (s.declarations.now ≡ map own_of s.names.now.dbs) × (s.temps.now ≡ (most_local, s.block.now.temps ∷ [])) × (s.labels.now ≡ s.block.now.body) };
 }
 
 /// The operand that a path names in a data block of a number.
@@ -97,15 +102,17 @@ fn given_di(number: u32) -> ResolvedOperand
 }
 
 impl<'s, 't> OperandScope<'s, 't> {
-    /// What names mean in a block with these temporaries.
+    /// What names mean in a block with these temporaries and labels.
     pub fn new(
         names: &'s Names<'t>,
         declarations: &'s [IndexedDeclarations<'t>],
         block: &'t RawBlock,
         temps: &'s IndexedDeclarations<'t>,
+        labels: &'s Labels<'t>,
     ) -> OperandScope<'s, 't>
         requires data { declarations.now ≡ map own_of names.now.dbs }
         requires temps { temps.now ≡ (most_local, block.now.temps ∷ []) }
+        requires labels { labels.now ≡ block.now.body }
         ensures { result ≡ record { text = names.now; block = block.now } }
     {
         OperandScope {
@@ -113,6 +120,7 @@ impl<'s, 't> OperandScope<'s, 't> {
             declarations,
             block,
             temps,
+            labels,
         }
     }
 
@@ -210,6 +218,13 @@ impl<'s, 't> OperandScope<'s, 't> {
         self.temps.resolved_operand(alloc, None, AreaName::L, path)
     }
 
+    /// The position of a label.
+    fn given_label(&self, label: &[u8]) -> ResolvedOperand
+        ensures { result ≡ behind.Target (target_in self.now.block.body label.now) }
+    {
+        ResolvedOperand::Target(self.labels.target(label))
+    }
+
     /// The operand of a mnemonic, from a raw operand.
     #[tactic(auto, unfolding(stl_rules::specs::Raw::resolved_operand))]
     pub fn resolved_operand(
@@ -243,7 +258,8 @@ impl<'s, 't> OperandScope<'s, 't> {
             RawOperand::OpenDi(name) => self.given_open_di(alloc, name),
             RawOperand::OpenDbBy(place) => Ok(given_db_by(*place)),
             RawOperand::OpenDiBy(place) => Ok(given_di_by(*place)),
-            RawOperand::Label(_) | RawOperand::Call(_) => Ok(ResolvedOperand::Unfit),
+            RawOperand::Label(label) => Ok(self.given_label(label.as_slice())),
+            RawOperand::Call(_) => Ok(ResolvedOperand::Unfit),
         }
     }
 }

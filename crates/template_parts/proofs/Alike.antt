@@ -11,7 +11,7 @@ use Rattle.s7_base.specs.declared.register.Reg.{Reg}
 use Rattle.s7_base.specs.declared.register.Reg.TheVariants as reg
 use Rattle.stl_tree.specs.Now.{Activation, Now, depth}
 use Rattle.stl_tree.specs.Registers.{RegisterValues}
-use Rattle.stl_tree.specs.StlRun.{going_on}
+use Rattle.stl_tree.specs.StlRun.{going_on, going_on_at}
 pub use Rattle.instruction_laws.proofs.RangeEffects.{any_status}
 use Rattle.instruction_laws.specs.Ranges.{AreInRange}
 use Rattle.st_tree.specs.State.{Activation as Running, State, db_number, di_number, depth as depth_of_state, place_of, with_local}
@@ -173,6 +173,14 @@ on_length : (blocks : List Activation) → length (going_on blocks) ≡ length b
 on_length [] = refl
 on_length (a ∷ waiting) = refl
 
+at_formals : (to : ℕ) (blocks : List Activation) → formals_of_block (going_on_at to blocks) ≡ formals_of_block blocks
+at_formals to [] = refl
+at_formals to (a ∷ waiting) = refl
+
+at_length : (to : ℕ) (blocks : List Activation) → length (going_on_at to blocks) ≡ length blocks
+at_length to [] = refl
+at_length to (a ∷ waiting) = refl
+
 -- the running activation goes on behind its instruction
 pub keep_position : (frames : Frames) (now : Now) (s : State) → Related frames now s
     → Related (frames_on frames) (record now { activations = going_on now.activations }) s
@@ -189,6 +197,24 @@ keep_position frames now s related =
       formals =
           subst (λ (places : List (Option Place)). AreFormals now.memory frames.waiting places related.running.formals)
           (sym (on_formals frames.blocks)) related.formals;
+    }
+
+-- or at another position
+pub keep_position_at : (to : ℕ) (frames : Frames) (now : Now) (s : State) → Related frames now s
+    → Related (record frames { blocks = going_on_at to frames.blocks }) (record now { activations = going_on_at to now.activations }) s
+keep_position_at to frames now s related =
+    record {
+      registers = related.registers;
+      range = related.range;
+      memory = related.memory;
+      bytes = related.bytes;
+      blocks = ap (going_on_at to) related.blocks;
+      running = related.running;
+      units = related.units;
+      depth = related.depth ∙ sym (at_length to frames.blocks);
+      formals =
+          subst (λ (places : List (Option Place)). AreFormals now.memory frames.waiting places related.running.formals)
+          (sym (at_formals to frames.blocks)) related.formals;
     }
 
 -- Places

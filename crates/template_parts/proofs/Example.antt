@@ -7,7 +7,7 @@ use Rattle.s7_base.specs.declared.register.Reg.TheVariants as reg
 use Rattle.stl_tree.specs.Now.{Now, next}
 use Rattle.stl_tree.specs.Registers.{RegisterValues}
 use Rattle.st_tree.specs.Meaning.{Calls, body_meaning}
-use Rattle.st_tree.specs.State.{State, type_of_register}
+use Rattle.st_tree.specs.State.{State, own_of, type_of_register}
 use Rattle.st_tree.specs.WellTyped.{UnitScope, variable_type}
 use Rattle.st_tree.specs.Values.{flag}
 use Rattle.st_tree.specs.declared.state.Value.{Value}
@@ -21,7 +21,7 @@ use Rattle.template_parts.specs.Builders.{and_of, binary_of, constant_of, conver
 use Rattle.template_parts.specs.Nodes.{nodes_in}
 use Rattle.template_parts.specs.Related.{AreAlike, Frames, Related}
 use Rattle.instruction_laws.specs.Ranges.{AreInRange}
-use Rattle.template_parts.specs.DoesInstruction.{DoesInstruction, own_of}
+use Rattle.template_parts.specs.DoesInstruction.{DoesInstruction}
 use Rattle.template_parts.proofs.Numbers.{or_numbers, over_word, pattern_below, put_low, same_pattern, wide_low, wide_sum}
 use Rattle.template_parts.proofs.ReadRegisters.{AllRead, Has, variables_read}
 use Rattle.template_parts.proofs.RegisterEffects.{HasRegisterEffect, registers_after, does_effect}

@@ -26,7 +26,7 @@ use Rattle.st_tree.specs.declared.expr.StType.TheVariants as type
 use Rattle.st_tree.specs.declared.expr.Var.TheVariants as var
 use Rattle.st_tree.specs.declared.program.Stmt.{Stmt}
 use Rattle.st_tree.specs.declared.program.Stmt.TheVariants as stmt
-use Rattle.template_parts.specs.Writes.{AreWrites}
+use Rattle.graph_rules.specs.Writes.{AreWrites}
 use Rattle.template_parts.specs.Builders.{and_of, binary_of, constant_of, convert_of, local_of, read_of, set_local_of}
 use Rattle.template_parts.specs.Fetching.{fetch_of, fetched_value_of, may_fault, reach_of, reading_of, types_fetched, types_reached, writing_of}
 use Rattle.template_parts.specs.Nodes.{nodes, nodes_in}

@@ -24,7 +24,7 @@ use Rattle.stl_tree.specs.Now.{Effect, Now, enter, fault, go, leave, next, with_
 use Rattle.stl_tree.specs.Operands.{OperandPlace, place_of_operand, with_place}
 use Rattle.stl_tree.specs.declared.program.Operand.{Operand}
 use Rattle.st_tree.specs.Meaning.{Calls, Out, body_meaning}
-use Rattle.st_tree.specs.State.{Activation as StActivation, State, depth, read_place, write_place}
+use Rattle.st_tree.specs.State.{Activation as StActivation, State, depth, own_of, read_place, write_place}
 use Rattle.st_tree.specs.Value.{value}
 use Rattle.st_tree.specs.Values.{flag, type_of_width, typed}
 use Rattle.st_tree.specs.declared.expr.Expr.{Expr}
@@ -39,8 +39,8 @@ use Rattle.template_parts.specs.Fetching.{fetch_of, fetched_value_of, may_fault,
 use Rattle.template_parts.specs.Related.{Frames, IsInMemory, Related, without_cells}
 use Rattle.template_parts.proofs.Alike.{keep_local, keep_memory, same_areas}
 use Rattle.template_parts.proofs.Cells.{LiesInMemory, read_alike, write_alike, write_keeps_cells}
-use Rattle.template_parts.specs.DoesInstruction.{DoesInstruction, Leads, Stops, own_of}
-use Rattle.template_parts.proofs.Locals.{as_deep, local_read, local_wrote, own_length, own_other, own_same, with_own}
+use Rattle.template_parts.specs.DoesInstruction.{DoesInstruction, Leads, Stops}
+use Rattle.st_tree.proofs.Locals.{as_deep, local_read, local_wrote, own_length, own_other, own_same, with_own}
 use Rattle.template_parts.proofs.MemoryEffects.{KeepsWay, Writes, keeps_itself, write_goes_on, write_misses, write_stops_at_place, written_holds}
 use Rattle.template_parts.proofs.Reaching.{LeadsTo, Misses, Reaches, StopsBefore, found_with, reaches}
 

@@ -4,7 +4,6 @@ pub mod Example
 pub mod FetchBounds
 pub mod FetchOrder
 pub mod Fetching
-pub mod Locals
 pub mod MemoryEffects
 pub mod Numbers
 pub mod Obligations
@@ -16,6 +15,5 @@ pub mod RegisterEffects
 pub mod Sizes
 pub mod Stages
 pub mod Truths
-pub mod TwoParts
 pub mod Typing
 pub mod Units

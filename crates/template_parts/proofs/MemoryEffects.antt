@@ -10,7 +10,7 @@ use Rattle.s7_base.specs.declared.register.Reg.TheVariants as reg
 use Rattle.s7_base.specs.declared.word.Width.{Width}
 use Rattle.stl_tree.specs.Now.{Effect, Now, depth, with_value}
 use Rattle.st_tree.specs.Meaning.{Calls, Faults, Out, body_meaning, state_or_fault, then_do}
-use Rattle.st_tree.specs.State.{State, area_read, area_write, place_of, pointed_at, read_place, write_at, write_place}
+use Rattle.st_tree.specs.State.{State, area_read, area_write, own_of, place_of, pointed_at, read_place, write_at, write_place}
 use Rattle.st_tree.specs.Value.{value}
 use Rattle.st_tree.specs.Values.{pattern, type_of_width}
 use Rattle.st_tree.specs.declared.expr.Expr.{Expr}
@@ -27,8 +27,8 @@ use Rattle.st_tree.proofs.Equations.{meaning_area_write, meaning_assign, value_a
 use Rattle.template_parts.specs.Builders.{local_of}
 use Rattle.template_parts.specs.Related.{Frames, Related}
 use Rattle.template_parts.proofs.Alike.{as_deep_as, place_now, same_db, same_di, same_place}
-use Rattle.template_parts.specs.DoesInstruction.{DoesInstruction, Stops, own_of}
-use Rattle.template_parts.proofs.Locals.{local_read}
+use Rattle.template_parts.specs.DoesInstruction.{DoesInstruction, Stops}
+use Rattle.st_tree.proofs.Locals.{local_read}
 use Rattle.template_parts.proofs.Pointers.{dword}
 
 -- a row by a value that a fault may stand in the place of

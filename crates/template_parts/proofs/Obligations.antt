@@ -16,13 +16,13 @@ use Rattle.st_tree.specs.declared.expr.StType.{StType}
 use Rattle.st_tree.specs.declared.expr.Var.{Var}
 use Rattle.st_tree.specs.declared.program.Stmt.{Stmt, out-Stmt}
 use Rattle.graph_rules.proofs.Divisors as division
-use Rattle.graph_rules.proofs.Runs.{disorder, in_order, locals_set, run_in_parts, written_in_parts}
+use Rattle.graph_rules.proofs.Runs.{disorder, in_order, locals_set, lower_start, run_in_parts, written_in_parts}
 use Rattle.graph_rules.specs.Divisors.{IsSureDivisor, divisors_in}
 use Rattle.graph_rules.specs.Runs.{IsWritten, written_by_more}
 use Rattle.template_parts.specs.Nodes.{nodes_in}
 use Rattle.template_parts.specs.Reading.{IsAmong}
 use Rattle.template_parts.specs.Templates.{AreInOrder, AreTyped, Do, IsLow, IsPlainBody, IsTemplate, Serves}
-use Rattle.template_parts.specs.Writes.{AreWrites}
+use Rattle.graph_rules.specs.Writes.{AreWrites}
 use Rattle.template_parts.proofs.ReadRegisters.{AllRead, Has}
 
 -- what holds of statements with none behind them holds of them
@@ -32,31 +32,41 @@ alone P xs h = subst P (append-nil xs) h
 -- Locals
 
 -- statements without disorder are in order
-pub ordered : (first count : ℕ) (body : List Stmt) → disorder first body ≡ 0 → locals_set body ≡ count → AreInOrder first count body
-ordered first count body h sets =
+pub ordered : (low first count : ℕ) (body : List Stmt) → disorder low first body ≡ 0 → locals_set body ≡ count → AreInOrder low first count body
+ordered low first count body h sets =
     record {
-      run = λ written there. (in_order first written body h there).run;
-      more = λ written there i less. (in_order first written body h there).more i (omega (arith, less, sets));
+      run = λ from written below there. (in_order from first written body (lower_start from low first body below h) there).run;
+      more = λ from written below there i above less.
+          (in_order from first written body (lower_start from low first body below h) there).more i above (omega (arith, less, sets));
+    }
+
+-- those that read no local below one read none below a lower one
+pub lower_order : (from low first count : ℕ) (body : List Stmt) → from ≤ low → AreInOrder low first count body → AreInOrder from first count body
+lower_order from low first count body below h =
+    record {
+      run = λ start written less there. h.run start written (omega (arith, less, below)) there;
+      more = λ start written less there. h.more start written (omega (arith, less, below)) there;
     }
 
 -- those of two bodies
-pub order_in_parts : (first middle one two : ℕ) (xs ys : List Stmt) → middle ≡ first + one → AreInOrder first one xs → AreInOrder middle two ys
-    → AreInOrder first (one + two) (xs ++ ys)
-order_in_parts first middle one two xs ys e h k =
+pub order_in_parts : (low first middle one two : ℕ) (xs ys : List Stmt) → middle ≡ first + one → AreInOrder low first one xs → AreInOrder low middle two ys
+    → AreInOrder low first (one + two) (xs ++ ys)
+order_in_parts low first middle one two xs ys e h k =
     record {
       run =
-          λ written there. run_in_parts written xs ys (h.run written there)
-          (k.run (written_by_more written xs) (λ i less. h.more written there i (omega (arith, less, e))));
-      more = λ written there i less.
+          λ from written below there. run_in_parts written xs ys (h.run from written below there)
+          (k.run from (written_by_more written xs) below (λ i above less. h.more from written below there i above (omega (arith, less, e))));
+      more = λ from written below there i above less.
           subst (λ (now : List ℕ). IsWritten now i) (sym (written_in_parts written xs ys))
-          (k.more (written_by_more written xs) (λ j small. h.more written there j (omega (arith, small, e))) i (omega (arith, less, e)));
+          (k.more from (written_by_more written xs) below (λ j over small. h.more from written below there j over (omega (arith, small, e))) i above
+          (omega (arith, less, e)));
     }
 
 -- Templates
 
 -- a template, by what is shown of its statements one thing at a time
 pub is_template : (registers : List Reg) (first : ℕ) (types : List StType) (body : List Stmt) → AreWrites body → length body ≤ 11 → nodes_in body ≤ 91
-    → ((P : Reg → Type 0) → Has P registers → AllRead P (body ++ [])) → disorder first body ≡ 0 → locals_set body ≡ length types
+    → ((P : Reg → Type 0) → Has P registers → AllRead P (body ++ [])) → disorder first first body ≡ 0 → locals_set body ≡ length types
     → ((sight : UnitScope) → AreTyped sight first types → IsPlainBody sight (body ++ [])) → IsTemplate registers first types body
 is_template registers first types body writes few small reads order sets plain =
     record {
@@ -64,7 +74,7 @@ is_template registers first types body writes few small reads order sets plain =
       few = few;
       small = small;
       reads = alone (AllRead (λ (r : Reg). IsAmong r registers)) body (reads (λ (r : Reg). IsAmong r registers) (λ r h. h));
-      locals = ordered first (length types) body order sets;
+      locals = ordered first first (length types) body order sets;
       plain = λ sight typed. alone (IsPlainBody sight) body (plain sight typed);
     }
 
@@ -74,12 +84,12 @@ pub record HasSizes (first : ℕ) (types : List StType) (body : List Stmt) : Typ
   pub writes : AreWrites body
   pub few : length body ≤ 11
   pub small : nodes_in body ≤ 91
-  pub order : disorder first body ≡ 0
+  pub order : disorder first first body ≡ 0
   pub sets : locals_set body ≡ length types
 
 -- by their exact numbers
 pub with_sizes : {first : ℕ} {types : List StType} (body : List Stmt) (m n : ℕ) → AreWrites body → length body ≡ m → nodes_in body ≡ n → m ≤ 11 → n ≤ 91
-    → disorder first body ≡ 0 → locals_set body ≡ length types → HasSizes first types body
+    → disorder first first body ≡ 0 → locals_set body ≡ length types → HasSizes first types body
 with_sizes body m n writes e f few small order sets =
     record { writes = writes; few = omega arith; small = omega arith; order = order; sets = sets }
 

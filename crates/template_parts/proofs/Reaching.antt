@@ -22,7 +22,7 @@ use Rattle.stl_tree.specs.declared.program.Ar.{Ar}
 use Rattle.stl_tree.specs.declared.program.Operand.{Operand}
 use Rattle.stl_tree.specs.declared.program.Operand.TheVariants as operand
 use Rattle.st_tree.specs.Meaning.{Calls, body_meaning}
-use Rattle.st_tree.specs.State.{State, depth as depth_of_state, with_register}
+use Rattle.st_tree.specs.State.{State, depth as depth_of_state, own_of, with_register}
 use Rattle.st_tree.specs.Value.{value}
 use Rattle.st_tree.specs.Values.{type_of_width, typed}
 use Rattle.st_tree.specs.declared.expr.Expr.{Expr}
@@ -40,8 +40,8 @@ use Rattle.instruction_laws.proofs.RangeEffects.{db_kept}
 use Rattle.template_parts.specs.Related.{AreAlike, Frames, Related}
 use Rattle.template_parts.proofs.Alike.{keep_local, keep_registers, place_now, same_areas}
 use Rattle.template_parts.proofs.Cells.{LiesInMemory, aimed_in_memory, named_in_memory, read_alike}
-use Rattle.template_parts.specs.DoesInstruction.{Stops, own_of}
-use Rattle.template_parts.proofs.Locals.{local_read, local_wrote, own_length, own_other, own_same, with_own}
+use Rattle.template_parts.specs.DoesInstruction.{Stops}
+use Rattle.st_tree.proofs.Locals.{local_read, local_wrote, own_length, own_other, own_same, with_own}
 use Rattle.template_parts.proofs.MemoryEffects.{IsReadAt, KeepsWay, Writes, direct_reads, direct_writes, keeps_itself, pointer_reads, pointer_writes}
 use Rattle.template_parts.proofs.Pointers.{crossing_worth, dword, in_area_resolved, in_area_small, in_area_worth, offset_small, place_pointed, pointer_small, same_offset, sum_worth}
 

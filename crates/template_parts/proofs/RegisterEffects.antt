@@ -6,7 +6,7 @@ use Rattle.s7_base.specs.declared.register.Reg.TheVariants as reg
 use Rattle.stl_tree.specs.Now.{Now, next}
 use Rattle.stl_tree.specs.Registers.{RegisterValues}
 use Rattle.st_tree.specs.Meaning.{Calls, Normal, body_meaning}
-use Rattle.st_tree.specs.State.{State, with_register}
+use Rattle.st_tree.specs.State.{State, own_of, with_register}
 use Rattle.st_tree.specs.Value.{value}
 use Rattle.st_tree.specs.declared.state.Value.{Value}
 use Rattle.st_tree.specs.declared.expr.Var.TheVariants as var
@@ -17,7 +17,7 @@ use Rattle.st_tree.proofs.Equations.{assign_goes_on}
 pub use Rattle.graph_rules.proofs.Runs.{locals_set}
 use Rattle.template_parts.specs.Related.{AreAlike, Frames, Related}
 use Rattle.instruction_laws.specs.Ranges.{AreInRange}
-use Rattle.template_parts.specs.DoesInstruction.{DoesInstruction, own_of}
+use Rattle.template_parts.specs.DoesInstruction.{DoesInstruction}
 use Rattle.template_parts.proofs.Alike.{keep_locals, keep_registers}
 use Rattle.template_parts.proofs.Stages.{known, laid, stage, stage_begins, stage_below, stage_keeps, stage_own_length, stage_sets}
 use Rattle.template_parts.proofs.Units.{with_locals}

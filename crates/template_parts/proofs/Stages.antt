@@ -6,7 +6,7 @@ use Rattle.std.proofs.Math.Path.{fun_ext}
 use Rattle.s7_base.specs.declared.register.Reg.{Reg}
 use Rattle.s7_base.specs.declared.register.Reg.TheVariants as reg
 use Rattle.stl_tree.specs.Registers.{RegisterValues}
-use Rattle.st_tree.specs.State.{Activation, State, locals_of, there, type_of_register, with_local, with_register, write}
+use Rattle.st_tree.specs.State.{Activation, State, locals_of, own_of, there, type_of_register, with_local, with_register, write}
 use Rattle.st_tree.specs.Value.{value}
 use Rattle.st_tree.specs.Values.{flag}
 use Rattle.st_tree.specs.declared.state.Value.{Value}
@@ -14,9 +14,8 @@ use Rattle.st_tree.specs.declared.expr.Var.TheVariants as var
 use Rattle.st_tree.specs.declared.program.Located.{Located}
 use Rattle.st_tree.proofs.Equations.{value_binary, value_convert, value_literal, value_read, value_select, value_shift, value_unary}
 use Rattle.template_parts.specs.Builders.{local_of, read_of}
-use Rattle.template_parts.specs.DoesInstruction.{own_of}
 use Rattle.template_parts.specs.Related.{AreAlike, number_in}
-use Rattle.template_parts.proofs.Locals.{local_wrote}
+use Rattle.st_tree.proofs.Locals.{local_wrote}
 use Rattle.template_parts.proofs.Units.{with_locals}
 use Rattle.std.specs.Prelude.{false}
 

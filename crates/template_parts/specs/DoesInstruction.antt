@@ -4,13 +4,8 @@ use Rattle.memory_areas.specs.Areas.{Contents}
 use Rattle.s7_base.specs.declared.outcome.Fault.{Fault}
 use Rattle.stl_tree.specs.Now.{Effect, Now, enter, fault, go, leave, next}
 use Rattle.st_tree.specs.Meaning.{Out, Faults, Normal}
-use Rattle.st_tree.specs.State.{Activation, State, locals_of}
-use Rattle.st_tree.specs.declared.state.Value.{Value}
+use Rattle.st_tree.specs.State.{State, own_of}
 use Rattle.template_parts.specs.Related.{Frames, Related}
-
--- the locals of the running unit, which is the last one
-abbrev pub own_of : List Activation → List Value
-own_of running = locals_of (slice_get running (length running - 1))
 
 -- statements ended that began in the state s with these units: in a state that is related to the one after the
 -- instruction, with no unit taken and as many locals; the locals below `used` are as they were, so that they keep

@@ -6,4 +6,3 @@ pub mod Pointing
 pub mod Reading
 pub mod Related
 pub mod Templates
-pub mod Writes

@@ -10,7 +10,7 @@ use Rattle.st_tree.specs.Depth.{deepest}
 use Rattle.st_tree.specs.Meaning.{Calls, body_meaning}
 use Rattle.st_tree.specs.Nesting.{body_nesting}
 use Rattle.st_tree.specs.BodyParts.{calls_in, expressions_in, height, reads_in}
-use Rattle.st_tree.specs.State.{State}
+use Rattle.st_tree.specs.State.{State, own_of}
 use Rattle.st_tree.specs.WellTyped.{UnitScope, are_well_typed, variable_type}
 use Rattle.st_tree.specs.declared.expr.Expr.{Expr}
 use Rattle.st_tree.specs.declared.expr.StType.{StType}
@@ -19,11 +19,11 @@ use Rattle.st_tree.specs.declared.program.Located.{Located}
 use Rattle.st_tree.specs.declared.program.Stmt.{Stmt}
 use Rattle.graph_rules.specs.Divisors.{IsSureDivisor, divisors_in}
 use Rattle.graph_rules.specs.Runs.{AreOfRun, IsWritten, written_by_more}
-use Rattle.template_parts.specs.DoesInstruction.{DoesInstruction, own_of}
+use Rattle.template_parts.specs.DoesInstruction.{DoesInstruction}
 use Rattle.template_parts.specs.Nodes.{nodes_in}
 use Rattle.template_parts.specs.Reading.{EachRegister, IsAmong}
 use Rattle.template_parts.specs.Related.{Frames, Related}
-use Rattle.template_parts.specs.Writes.{AreWrites}
+use Rattle.graph_rules.specs.Writes.{AreWrites}
 
 -- Types
 
@@ -47,26 +47,27 @@ AreTyped sight first types =
 
 -- Locals
 
--- the locals with numbers below `count` are written
-abbrev pub AreThere : List ℕ → ℕ → Type 0
-AreThere written count = (i : ℕ) → i < count → IsWritten written i
+-- the locals from one on, with numbers below `count`, are written
+abbrev pub AreThere : List ℕ → ℕ → ℕ → Type 0
+AreThere written from count = (i : ℕ) → from ≤ i → i < count → IsWritten written i
 
--- statements after others that have written the locals before the first one: each local that they read is written by
--- then, and at the end `count` more are written
-pub record AreInOrder (first count : ℕ) (body : List Stmt) : Type 0 where
-  pub run : (written : List ℕ) → AreThere written first → AreOfRun written body
-  pub more : (written : List ℕ) → AreThere written first → AreThere (written_by_more written body) (first + count)
+-- statements after others that have written the locals from the lowest one on, or from one before it, to the first:
+-- each local that they read is written by then, and at the end `count` more are written
+pub record AreInOrder (low first count : ℕ) (body : List Stmt) : Type 0 where
+  pub run : (from : ℕ) (written : List ℕ) → from ≤ low → AreThere written from first → AreOfRun written body
+  pub more : (from : ℕ) (written : List ℕ) → from ≤ low → AreThere written from first
+      → AreThere (written_by_more written body) from (first + count)
 
 -- Templates
 
 -- statements that may be the template of an instruction which reads these registers, with locals of these types from
--- the first one on: at most eleven, which write one thing each, and at most 91 nodes of expressions
+-- the first one on, and no others: at most eleven, which write one thing each, and at most 91 nodes of expressions
 pub record IsTemplate (registers : List Reg) (first : ℕ) (types : List StType) (body : List Stmt) : Type 0 where
   pub writes : AreWrites body
   pub few : length body ≤ 11
   pub small : nodes_in body ≤ 91
   pub reads : EachRegister (λ (r : Reg). IsAmong r registers) (reads_in body)
-  pub locals : AreInOrder first (length types) body
+  pub locals : AreInOrder first first (length types) body
   pub plain : (sight : UnitScope) → AreTyped sight first types → IsPlainBody sight body
 
 -- statements do what the instruction does, in each pair of related states in which the unit has their locals

@@ -26,9 +26,11 @@ use Rattle.stl_rules.specs.Accepting.{IsKept}
 use Rattle.stl_rules.specs.DeclarationRules.{is_named, key_of, with_name}
 use Rattle.stl_rules.specs.Layouts.{breaks_in}
 use Rattle.stl_rules.specs.Names.{block_number, may_have}
-use Rattle.stl_rules.specs.Programs.{block_name, block_of, block_with, body_of, instr_of, program_of, symbol_area, symbol_at, symbol_in, symbol_of}
+use Rattle.stl_rules.specs.BodyRules.{body_breaks, brackets_at, brackets_from, broken_if, instruction_too_many, label_closed, labels_from, most_instructions, none_open, open_then}
+use Rattle.stl_rules.specs.Labels.{label_of, listed_in}
+use Rattle.stl_rules.specs.Programs.{block_name, block_of, block_with, body_of, instr_of, instrs_of, op_of, or_any, program_of, symbol_area, symbol_at, symbol_in, symbol_of}
 use Rattle.stl_rules.specs.Raw.{OperandScope, are_refused, most_in_block, most_local}
-use Rattle.stl_rules.specs.Stages.{blocks_behind, bodies, body_breaks, brackets_at, brackets_from, broken_if, content_breaks, dbs_behind, first_broken, heading_breaks, initial_breaks, instr_breaks, is_address, is_among, names, no_blocks, none_among, one_too_many, open_at_end, open_then, stages, symbols_behind, with_block_number}
+use Rattle.stl_rules.specs.Stages.{blocks_behind, bodies, content_breaks, dbs_behind, first_broken, heading_breaks, initial_breaks, instr_breaks, is_address, is_among, names, no_blocks, none_among, one_too_many, stages, symbols_behind, with_block_number}
 use Rattle.stl_rules.specs.Verdict.{checked_program, judged_by, verdict}
 use Rattle.verdict_laws.specs.VerdictLaws.{VerdictIsAccepted}
 use Rattle.stl_tree.specs.declared.program.Block.{Block}
@@ -53,11 +55,12 @@ use Rattle.verdict_laws.proofs.StageLaws.{accepts, kept as stages_kept}
 use Rattle.verdict_laws.proofs.CodeBlocks.{HoldsCode, IsCode, of_text}
 use Rattle.verdict_laws.proofs.DataBlockLaws.{are_blocks, comes_among, not_broken, numbers, stays_among}
 use Rattle.stl_rules.proofs.Lists.{all_made, no_parts, none_of_all}
-use Rattle.verdict_laws.proofs.ProgramLaws.{IsClear, IsLaidOut, behind_instr, has_operand, lies_in, opened}
+use Rattle.verdict_laws.proofs.JumpLaws.{are_jumps, few, list_some}
+use Rattle.verdict_laws.proofs.ProgramLaws.{IsClear, IsLaidOut, behind_instr, has_operand, lies_in, lists, opened, turn_by}
 
 -- Brackets
 
-end_nested : (line : Line) (n : ℕ) → open_at_end line n ≡ [] → AreNested (record { line = line; op = op.BlockEnd } ∷ []) n
+end_nested : (line : Line) (n : ℕ) → none_open line n ≡ [] → AreNested (record { line = line; op = op.BlockEnd } ∷ []) n
 end_nested line zero e = tt
 end_nested line (suc n) e = absurd cc
 
@@ -67,14 +70,16 @@ nested_from P o n e h = subst (λ x. WithNumber x P) (sym e) h
 -- instructions that break no rule of names and of brackets are nested
 nested : (scope : OperandScope) (n : ℕ) (raws : List RawInstr) → IsClear scope → All (λ raw. instr_breaks scope raw ≡ []) raws
     → brackets_from scope.block.end_line n raws ≡ []
-    → AreNested (map (instr_of scope) raws ++ (record { line = scope.block.end_line; op = op.BlockEnd } ∷ [])) n
+    → AreNested (instrs_of scope raws ++ (record { line = scope.block.end_line; op = op.BlockEnd } ∷ [])) n
 nested scope n [] clear all e = end_nested scope.block.end_line n e
 nested scope n (raw ∷ rest) clear all e =
     let what = mnemonic_named raw.op.mnemonic in
-    let parts = no_parts (brackets_at raw.line what n) (brackets_from scope.block.end_line (open_then what n) rest) e in
-    nested_from (AreNested (map (instr_of scope) rest ++ (record { line = scope.block.end_line; op = op.BlockEnd } ∷ [])))
-    (open_behind (instr_of scope raw).op n) (open_then what n)
-    (behind_instr scope raw n clear (All-head (λ x. instr_breaks scope x ≡ []) raw rest all) parts.0)
+    let parts =
+    no_parts (label_closed raw.line raw.label n ++ brackets_at raw.line what n) (brackets_from scope.block.end_line (open_then what n) rest) e in
+    let own = no_parts (label_closed raw.line raw.label n) (brackets_at raw.line what n) parts.0 in
+    nested_from (AreNested (instrs_of scope rest ++ (record { line = scope.block.end_line; op = op.BlockEnd } ∷ [])))
+    (open_behind (instr_of scope raw rest).op n) (open_then what n)
+    (behind_instr scope raw rest n clear (All-head (λ x. instr_breaks scope x ≡ []) raw rest all) own.1)
     (nested scope (open_then what n) rest clear (All-tail (λ x. instr_breaks scope x ≡ []) raw rest all) parts.1)
 
 -- Bodies
@@ -90,17 +95,20 @@ ended (i ∷ rest) line = ends_behind i (rest ++ (record { line = line; op = op.
 abbrev Holds : Instr → Type 0
 Holds i = HasOperand i.op
 
-operands : (scope : OperandScope) (raws : List RawInstr) → IsClear scope → All (λ raw. instr_breaks scope raw ≡ []) raws → All Holds (map (instr_of scope) raws)
-operands scope [] clear all = All-nil Holds
-operands scope (raw ∷ rest) clear all =
-    All-cons Holds (instr_of scope raw) (map (instr_of scope) rest)
-    (has_operand scope raw clear (All-head (λ x. instr_breaks scope x ≡ []) raw rest all))
-    (operands scope rest clear (All-tail (λ x. instr_breaks scope x ≡ []) raw rest all))
+operands : (scope : OperandScope) (at : ℕ) (raws : List RawInstr) → IsClear scope → All (λ raw. instr_breaks scope raw ≡ []) raws
+    → labels_from scope.block.body at raws ≡ [] → All Holds (instrs_of scope raws)
+operands scope at [] clear all e = All-nil Holds
+operands scope at (raw ∷ rest) clear all e =
+    let own = All-head (λ x. instr_breaks scope x ≡ []) raw rest all in
+    let l = list_some scope clear at raw rest own e in
+    All-cons Holds (instr_of scope raw rest) (instrs_of scope rest) (has_operand scope raw rest clear own l.0)
+    (operands scope (at + 1) rest clear (All-tail (λ x. instr_breaks scope x ≡ []) raw rest all) l.1)
 
-operands_of : (scope : OperandScope) → IsClear scope → All (λ raw. instr_breaks scope raw ≡ []) scope.block.body → HaveOperands (body_of scope)
-operands_of scope clear all =
-    All-append Holds (map (instr_of scope) scope.block.body) (record { line = scope.block.end_line; op = op.BlockEnd } ∷ [])
-    (operands scope scope.block.body clear all)
+operands_of : (scope : OperandScope) → IsClear scope → All (λ raw. instr_breaks scope raw ≡ []) scope.block.body
+    → labels_from scope.block.body 0 scope.block.body ≡ [] → HaveOperands (body_of scope)
+operands_of scope clear all e =
+    All-append Holds (instrs_of scope scope.block.body) (record { line = scope.block.end_line; op = op.BlockEnd } ∷ [])
+    (operands scope 0 scope.block.body clear all e)
     (All-cons Holds (record { line = scope.block.end_line; op = op.BlockEnd }) [] tt (All-nil Holds))
 
 -- Blocks
@@ -166,20 +174,26 @@ number_is block.Db n e = opened n e
 number_is block.Fc n e = leb-true n 65535 (and_parts (nat_le 0 n) (nat_le n 65535) e).1
 number_is block.Fb n e = leb-true n 65535 (and_parts (nat_le 0 n) (nat_le n 65535) e).1
 
--- a block whose names and brackets break no rule
+-- a block whose names and body break no rule
 made : (scope : OperandScope) (kind : BlockKind) (n : ℕ) → IsClear scope → may_have kind n ≡ true
     → All (λ raw. instr_breaks scope raw ≡ []) scope.block.body → body_breaks scope.block ≡ []
     → IsMade kind n (block_with scope (block_name kind (Ok n)))
-made scope kind n clear e all closed = (
-  refl,
-  record {
-    operands = operands_of scope clear all;
-    brackets = nested scope 0 scope.block.body clear all closed;
-    ends = ended (map (instr_of scope) scope.block.body) scope.block.end_line;
-    number = number_is kind n e;
-    formals = refl;
-  },
-)
+made scope kind n clear e all kept =
+    let raws = scope.block.body in
+    let both = brackets_from scope.block.end_line 0 raws ++ labels_from raws 0 raws in
+    let parts = no_parts both (instruction_too_many (slice_get raws most_instructions)) kept in
+    let own = no_parts (brackets_from scope.block.end_line 0 raws) (labels_from raws 0 raws) parts.0 in (
+      refl,
+      record {
+        operands = operands_of scope clear all own.1;
+        brackets = nested scope 0 raws clear all own.0;
+        jumps = are_jumps scope clear all own.1 own.0;
+        few = few scope parts.1;
+        ends = ended (instrs_of scope raws) scope.block.end_line;
+        number = number_is kind n e;
+        formals = refl;
+      },
+    )
 
 with_one : (kind : BlockKind) (n : ℕ) (before : List (BlockKind × ℕ)) (b : Block) (rest : List Block) → is_data kind ≡ false → is_among kind n before ≡ false
     → IsMade kind n b → AreKept (with_block_number kind before (Ok n)) rest → AreKept before (b ∷ rest)

@@ -34,7 +34,8 @@ use Rattle.stl_rules.specs.Layouts.{breaks_in, initial_of}
 use Rattle.stl_rules.specs.Names.{block_number, is_same_kind, may_have}
 use Rattle.stl_rules.specs.Paths.{Placed, component_at, named_by_path}
 use Rattle.stl_rules.specs.Raw.{are_refused, most_in_block}
-use Rattle.stl_rules.specs.Stages.{broken_if, content_breaks, dbs_behind, heading_breaks, initial_breaks, is_among, one_too_many, with_block_number}
+use Rattle.stl_rules.specs.BodyRules.{broken_if}
+use Rattle.stl_rules.specs.Stages.{content_breaks, dbs_behind, heading_breaks, initial_breaks, is_among, one_too_many, with_block_number}
 use Rattle.stl_rules.specs.TooLarge.{length_to}
 use Rattle.stl_rules.specs.declared.layout.Component.{Component}
 use Rattle.stl_rules.proofs.Components.{LiesIn, found_inside}

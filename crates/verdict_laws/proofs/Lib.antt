@@ -1,5 +1,6 @@
-pub mod AcceptedLaws
 mod CodeBlocks
 mod DataBlockLaws
 mod ProgramLaws
+pub mod AcceptedLaws
+pub mod JumpLaws
 pub mod StageLaws

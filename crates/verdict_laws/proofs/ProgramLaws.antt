@@ -1,8 +1,9 @@
 -- The instructions of a program have their operands, and its blocks their numbers.
-use Rattle.std.proofs.Common.{◌≡◌, ℕ, zero, suc, ◌<◌, ◌+◌, ◌^◌, List, [], ◌∷◌, Bool, true, false, not, if◌then◌else◌, Option, Some, None, Result, Ok, Err, refl, ap, ◌∙◌, arith}
-use Rattle.std.specs.List.{find}
+use Rattle.std.proofs.Common.{◌≡◌, ℕ, zero, suc, ◌<◌, ◌+◌, ◌^◌, List, [], ◌∷◌, Bool, true, false, not, if◌then◌else◌, Option, Some, None, Result, Ok, Err, refl, sym, ap, ◌∙◌, arith}
+use Rattle.std.specs.List.{find, list_all}
 use Rattle.std.proofs.lemmas.List.Elements.{All-head, All-tail}
-use Rattle.std.specs.Prelude.{All, IfOk, IfSome, nat_le, nat_lt, option_map}
+use Rattle.std.specs.Prelude.{All, IfOk, IfSome, ◌≤◌, ◌&&◌, min, nat_le, nat_lt, option_map}
+use Rattle.std.proofs.Math.Nat.{le-min, min-le_right}
 use Rattle.std.proofs.lemmas.Int.{ints}
 use Rattle.std.proofs.lemmas.Bool.{and_parts, le-leb, leb-true, ltb-true, not-true}
 use Rattle.memory_areas.specs.Access.{bits_wide, bytes_wide, is_byte_in, is_unaligned}
@@ -20,20 +21,22 @@ use Rattle.s7_base.specs.declared.check.Check.TheVariants as check
 use Rattle.s7_base.specs.declared.word.Width.{Width}
 use Rattle.s7_base.specs.declared.word.Width.TheVariants as width
 use Rattle.status_word.specs.declared.test.Test.{Test}
-use Rattle.stl_tree.specs.Accepted.{HasOperand, IsBlockOpened, IsComparison, IsNumberHolder, IsNumberWidth, IsOffset, IsOperand, MayHoldPointer, is_of_pointers, may_hold_pointers}
+use Rattle.stl_tree.specs.Accepted.{HasOperand, IsBlockOpened, IsComparison, IsJumpTest, IsNumberHolder, IsNumberWidth, IsOffset, IsOperand, MayHoldPointer, is_of_pointers, is_of_result, may_hold_pointers}
 use Rattle.stl_tree.specs.Accumulators.{signed_part}
 use Rattle.stl_statement_grammar.specs.Constants.{constant, fits, value_in}
 use Rattle.stl_statement_grammar.specs.Pointers.{is_in_reach, offset_of, value_of}
-use Rattle.stl_statement_grammar.specs.Mnemonics.{mnemonic_named}
-use Rattle.stl_rules.specs.Programs.{adding, alone, check_op, combining, comparing, instr_of, is_compared, loading, loading_pointer, moving_pointer, on_bit, on_number, op_by, op_of, op_or_rule, op_with, or_any, or_bad_operand, opening, other_by, pointer_op, shifting, storing, storing_pointer, check_alone, with_number, within}
+use Rattle.stl_statement_grammar.specs.Mnemonics.{Row, has_name, mnemonic_named, rows}
+use Rattle.stl_rules.specs.Programs.{adding, alone, check_op, combining, comparing, instr_of, is_compared, jumping, loading, loading_pointer, moving_pointer, on_bit, on_number, op_by, op_of, op_or_rule, op_with, or_any, or_bad_operand, opening, other_by, pointer_op, shifting, storing, storing_pointer, check_alone, with_list, with_number, within}
 use Rattle.stl_rules.specs.Extents.{width_of}
 use Rattle.stl_rules.specs.Names.{block_number, db_numbered, is_number, may_have, symbol_named}
 use Rattle.stl_rules.specs.Paths.{component_in}
 use Rattle.stl_rules.specs.Raw.{OperandScope, are_refused, resolved_operand, given_component, given_held, given_if, given_in, given_in_data, given_in_kind, given_number, given_open, given_path, given_place, given_pointer, given_symbol, is_placed, may_stand, most_in_block, most_local, operand_at, place_of_kind}
 use Rattle.stl_rules.specs.declared.resolved_operand.ResolvedOperand.{ResolvedOperand}
 use Rattle.stl_rules.specs.declared.resolved_operand.ResolvedOperand.TheVariants as behind
-use Rattle.stl_rules.specs.Stages.{brackets_at, broken_by, instr_breaks, open_then}
-use Rattle.stl_tree.specs.Brackets.{open_behind}
+use Rattle.stl_rules.specs.BodyRules.{brackets_at, none_open, open_then}
+use Rattle.stl_rules.specs.Labels.{label_in, label_of, listed_in, most_listed, target_in}
+use Rattle.stl_rules.specs.Stages.{broken_by, instr_breaks}
+use Rattle.stl_tree.specs.Brackets.{none_open as none_behind, open_behind}
 use Rattle.stl_tree.specs.Shifts.{most_steps}
 use Rattle.stl_statement_grammar.specs.Statements.{is_in_area}
 use Rattle.stl_tree.specs.WordLogic.{width_of as logic_width}
@@ -46,6 +49,8 @@ use Rattle.stl_tree.specs.declared.program.Ar.TheVariants as ar
 use Rattle.stl_tree.specs.declared.program.ArLoad.TheVariants as ar_load
 use Rattle.stl_tree.specs.declared.program.ArStore.TheVariants as ar_store
 use Rattle.stl_tree.specs.declared.raw.RawPointer.{RawPointer}
+use Rattle.stl_tree.specs.declared.program.JumpTest.{JumpTest}
+use Rattle.stl_tree.specs.declared.program.JumpTest.TheVariants as jump
 use Rattle.stl_tree.specs.declared.program.LoadArg.TheVariants as load
 use Rattle.stl_tree.specs.declared.program.Op.{Op}
 use Rattle.stl_tree.specs.declared.program.Op.TheVariants as op
@@ -70,16 +75,7 @@ use Rattle.stl_tree.specs.declared.raw.RawPlace.{RawPlace}
 use Rattle.stl_tree.specs.declared.raw.SymbolAddress.{SymbolAddress}
 use Rattle.stl_tree.specs.declared.raw.SymbolAddress.TheVariants as address
 
--- Operands
-
-abbrev IsGiven : ResolvedOperand → Type 0
-IsGiven behind.Unjudged = ⊥
-IsGiven (behind.At o w) = IsOperand w o
-IsGiven (behind.Db n) = IsBlockOpened n
-IsGiven (behind.Di n) = IsBlockOpened n
-IsGiven (behind.DbBy o) = IsNumberHolder o
-IsGiven (behind.DiBy o) = IsNumberHolder o
-IsGiven more = Unit {0}
+-- Numbers and places
 
 -- a number that a data block may have
 pub opened : (n : ℕ) → may_have block.Db n ≡ true → IsBlockOpened n
@@ -99,93 +95,18 @@ lies_in place e =
     let p = and_parts (is_byte_in place.area place.width place.byte) (not (is_unaligned place.width place.bit)) e in
     (p.0, not-true (is_unaligned place.width place.bit) p.1)
 
-placed_is : (place : RawPlace) (number : Option ℕ) → is_placed place number ≡ true → IsGiven (operand_at place number)
-placed_is place None e = lies_in place e
-placed_is place (Some n) e =
-    let p = and_parts (is_in_area place) (may_have block.Db n) e in
-    let there = lies_in place p.0 in
-    (opened n p.1, in_block place.area place.width place.byte there.0, there.1)
-
-place_is : (place : RawPlace) → IsGiven (given_place place)
-place_is place = by (is_placed place place.block) refl
-  where
-    by : (b : Bool) → is_placed place place.block ≡ b → IsGiven (if b then operand_at place place.block else behind.Outside place.area place.width)
-    by true e = placed_is place place.block e
-    by false e = tt
-
--- pointers
-
 in_reach : (p : RawPointer) → is_in_reach p ≡ true → IsOffset (offset_of p)
 in_reach p e =
     let parts = and_parts (nat_le p.byte 65535) (nat_le p.bit 7) e in
     omega (arith, leb-true p.byte 65535 parts.0, leb-true p.bit 7 parts.1)
 
-if_is : (b : Bool) (name : AreaName) (w : Width) (o : Operand) → (b ≡ true → IsOperand w o) → IsGiven (given_if b name w o)
-if_is true name w o h = h refl
-if_is false name w o h = tt
-
 stands : (w : Width) (place : RawPlace) → may_stand w place ≡ true → (may_hold_pointers place.area ≡ true) × (is_byte_in place.area w place.byte ≡ true)
 stands w place e = and_parts (may_hold_pointers place.area) (is_byte_in place.area w place.byte) e
-
-pointer_is : (p : RawPointer) → IsGiven (given_pointer p)
-pointer_is p = by (is_in_reach p)
-  where
-    by : (b : Bool) → IsGiven (if b then behind.Constant (constant width.Dword (value_of p)) else behind.NoPointer)
-    by true = tt
-    by false = tt
-
-held_is : (make : Operand → ResolvedOperand) → ((o : Operand) → IsNumberHolder o → IsGiven (make o)) → (place : RawPlace) → IsGiven (given_held make place)
-held_is make h place = by (may_stand width.Word place) refl
-  where
-    by : (b : Bool) → may_stand width.Word place ≡ b → IsGiven (if b then make (Direct place.area place.byte 0) else behind.NoNumber)
-    by true e = let there = stands width.Word place e in h (Direct place.area place.byte 0) (there.0, (there.1, refl))
-    by false e = tt
-
-symbol_is : (o : Option SymbolAddress) → IsGiven (given_symbol o)
-symbol_is (Some (address.At place)) = place_is place
-symbol_is other = tt
-
-kind_is : (number : Option ℕ) (name : AreaName) (at : Component) (o : Option ElemType) → IsGiven (place_of_kind number name at o)
-kind_is number name at None = tt
-kind_is number name at (Some e) =
-    place_is (record { block = number; area = name; width = width_of e; byte = at.byte; bit = at.bit })
-
-component_is : (number : Option ℕ) (name : AreaName) (o : Option Component) → IsGiven (given_component number name o)
-component_is number name None = tt
-component_is number name (Some at) = kind_is number name at at.kind
-
-path_is : (limit : ℕ) (number : Option ℕ) (name : AreaName) (decls : List Declaration) (path : List PathStep)
-    → are_refused limit (decls ∷ []) ≡ false → IsGiven (given_path limit number name (decls ∷ []) path)
-path_is limit number name decls path kept = by (are_refused limit (decls ∷ [])) kept
-  where
-    by : (b : Bool) → b ≡ false → IsGiven (if b then behind.Unjudged else given_component number name (component_in (decls ∷ []) path))
-    by true e = absurd cc
-    by false e = component_is number name (component_in (decls ∷ []) path)
 
 -- declarations of a data block that break no rule
 abbrev pub IsLaidOut : RawDataKind → Type 0
 IsLaidOut (data_kind.Own decls) = are_refused most_in_block (decls ∷ []) ≡ false
 IsLaidOut (data_kind.Instance name) = Unit {0}
-
-in_kind_is : (n : ℕ) (path : List PathStep) (kind : RawDataKind) → IsLaidOut kind → IsGiven (given_in_kind n path kind)
-in_kind_is n path (data_kind.Own decls) h = path_is most_in_block (Some n) area.Db decls path h
-in_kind_is n path (data_kind.Instance name) h = tt
-
-in_data_is : (n : ℕ) (path : List PathStep) (o : Option RawData) → IfSome o (λ (d : RawData). IsLaidOut d.kind) → IsGiven (given_in_data n path o)
-in_data_is n path None h = tt
-in_data_is n path (Some d) h = in_kind_is n path d.kind h
-
-number_is : (make : ℕ → ResolvedOperand) → ((n : ℕ) → IsGiven (make n)) → (r : Result ℕ Reason) → IsGiven (given_number make r)
-number_is make h (Ok n) = h n
-number_is make h (Err UnknownName) = tt
-number_is make h (Err reason) = tt
-
-open_is : (make : ℕ → ResolvedOperand) → ((n : ℕ) → IsBlockOpened n → IsGiven (make n)) → (n : ℕ) → IsGiven (given_open make n)
-open_is make h n = by (may_have block.Db n) refl
-  where
-    by : (b : Bool) → may_have block.Db n ≡ b → IsGiven (if b then make n else behind.NoNumber)
-    by true e = h n (opened n e)
-    by false e = tt
 
 -- where a block stands whose temporaries, and the data blocks of whose text, break no rule
 pub record IsClear (scope : OperandScope) : Type 0 where
@@ -201,112 +122,62 @@ found_is P test (x ∷ xs) all = by (test x) (All-head P x xs all) (found_is P t
     by true h more = h
     by false h more = more
 
-layer_is : (scope : OperandScope) (o : RawOperand-F RawOperand RawActual RawCall) → IsClear scope → IsGiven (given_in scope o)
-layer_is scope (layer.At place) clear = place_is place
-layer_is scope (layer.Named name) clear = symbol_is (symbol_named scope.text.symbols name)
-layer_is scope (layer.InBlock name path) clear =
-    number_is (λ n. given_in_data n path (db_numbered scope.text.symbols scope.text.dbs n))
-    (λ n. in_data_is n path (db_numbered scope.text.symbols scope.text.dbs n)
-    (found_is (λ (d : RawData). IsLaidOut d.kind) (λ (d : RawData). is_number n (block_number scope.text.symbols block.Db d.name)) scope.text.dbs clear.dbs))
-    (block_number scope.text.symbols block.Db (raw_name.Name name))
-layer_is scope (layer.Local path) clear = path_is most_local None area.L scope.block.temps path clear.temps
-layer_is scope (layer.OpenDb name) clear =
-    number_is (given_open (λ n. behind.Db n)) (open_is (λ n. behind.Db n) (λ n h. h)) (block_number scope.text.symbols block.Db name)
-layer_is scope (layer.OpenDi name) clear =
-    number_is (given_open (λ n. behind.Di n)) (open_is (λ n. behind.Di n) (λ n h. h)) (block_number scope.text.symbols block.Db name)
-layer_is scope (layer.Pointer p) clear = pointer_is p
-layer_is scope (layer.ByMemory name w place) clear =
-    if_is (may_stand width.Dword place) name w (ByMemory name place.area place.byte) (λ e. stands width.Dword place e)
-layer_is scope (layer.ByRegister name w r p) clear =
-    if_is (is_in_reach p) name w (ByRegister name r (offset_of p)) (λ e. in_reach p e)
-layer_is scope (layer.Crossing w r p) clear = if_is (is_in_reach p) area.M w (Crossing r (offset_of p)) (λ e. in_reach p e)
-layer_is scope (layer.OpenDbBy place) clear = held_is (λ o. behind.DbBy o) (λ o h. h) place
-layer_is scope (layer.OpenDiBy place) clear = held_is (λ o. behind.DiBy o) (λ o h. h) place
-layer_is scope more clear = tt
+-- Kinds of instructions
 
-given_is : (scope : OperandScope) (o : RawOperand) → IsClear scope → IsGiven (resolved_operand scope o)
-unfolding resolved_operand
-given_is scope o clear = layer_is scope (out-RawOperand o) clear
-
--- Instructions
-
--- what an instruction does to the open brackets
-data Turn : Type 0 where
+-- what an instruction asks of the open brackets; JU and jump lists are apart
+pub data Turn : Type 0 where
   opens : Turn
   closes : Turn
   keeps : Turn
   ends : Turn
+  always : Turn
+  lists : Turn
 
-abbrev turn_of : Op → Turn
+abbrev pub turn_of : Op → Turn
 turn_of (op.Bracket c) = opens
 turn_of op.Close = closes
+turn_of (op.Jump jump.Always to) = always
+turn_of (op.Jump t to) = ends
+turn_of (op.Loop to) = ends
+turn_of (op.JumpList count to) = lists
 turn_of op.BlockEnd = ends
+turn_of op.BlockEndIf = ends
 turn_of other = keeps
 
-abbrev turn_by : Option Mnemonic → Turn
+abbrev pub turn_by : Option Mnemonic → Turn
 turn_by (Some (is.Bracket c)) = opens
 turn_by (Some is.Close) = closes
+turn_by (Some (is.Jump jump.Always)) = always
+turn_by (Some (is.Jump t)) = ends
+turn_by (Some is.Loop) = ends
+turn_by (Some is.JumpList) = lists
+turn_by (Some is.BlockEnd) = ends
+turn_by (Some is.BlockEndIf) = ends
 turn_by other = keeps
 
--- an instruction has its operand, and does this to the open brackets
-abbrev Is : Turn → Op → Type 0
-Is turn o = HasOperand o × (turn_of o ≡ turn)
+-- a jump of the table that tests CC1 and CC0 does so for a result
+abbrev is_of_results : Mnemonic → Bool
+is_of_results (is.Jump (jump.Result t)) = is_of_result t
+is_of_results other = true
 
--- one that keeps them
-abbrev Fits : Op → Type 0
-Fits o = Is keeps o
+abbrev IsOfResults : Mnemonic → Type 0
+IsOfResults what = is_of_results what ≡ true
 
-abbrev MayBe : Option Op → Type 0
-MayBe o = IfSome o Fits
-
-alone_by : (turn : Turn) (o : Op) → Is turn o → (g : ResolvedOperand) → IfSome (alone o g) (Is turn)
-alone_by turn o h behind.Nothing = h
-alone_by turn o h more = tt
-
-alone_is : (o : Op) → Fits o → (g : ResolvedOperand) → MayBe (alone o g)
-alone_is o h g = alone_by keeps o h g
-
-on_bit_is : (o : Operand → Op) → ((x : Operand) → IsOperand width.Bit x → Fits (o x)) → (g : ResolvedOperand) → IsGiven g → MayBe (on_bit o g)
-on_bit_is o h (behind.At x width.Bit) k = h x k
-on_bit_is o h more k = tt
-
-unchecked_is : (c : Check) → MayBe (check_alone c)
-unchecked_is check.O = (tt, refl)
-unchecked_is more = tt
-
-checked_is : (c : Check) (g : ResolvedOperand) → IsGiven g → MayBe (check_op c g)
-checked_is c behind.Nothing h = unchecked_is c
-checked_is c (behind.At x width.Bit) h = (h, refl)
-checked_is c (behind.Flag t) h = (tt, refl)
-checked_is c more h = tt
-
--- a width that is one of a number, or is not
-on_number_is : (o : Operand → Width → Op) → ((x : Operand) (w : Width) → IsNumberWidth w → IsOperand w x → Fits (o x w))
-    → (x : Operand) (w : Width) → IsOperand w x → MayBe (on_number o x w)
-on_number_is o h x width.Bit k = tt
-on_number_is o h x width.Byte k = h x width.Byte tt k
-on_number_is o h x width.Word k = h x width.Word tt k
-on_number_is o h x width.Dword k = h x width.Dword tt k
-
-within_is : (bits value : ℕ) (o : ℕ → Op) → (value < 2 ^ bits → Fits (o value)) → MayBe (option_map o (within bits value))
-within_is bits value o h = by (nat_lt value (2 ^ bits)) refl
+results_found : (test : Row → Bool) (table : List Row) → list_all (λ (row : Row). is_of_results row.what) table ≡ true
+    → IfSome (option_map (λ (row : Row). row.what) (find test table)) IsOfResults
+results_found test [] e = tt
+results_found test (row ∷ table) e =
+    let parts = and_parts (is_of_results row.what) (list_all (λ (other : Row). is_of_results other.what) table) e in
+    by (test row) parts.0 (results_found test table parts.1)
   where
-    by : (b : Bool) → nat_lt value (2 ^ bits) ≡ b → MayBe (option_map o (if b then Some value else None))
-    by true e = h (ltb-true value (2 ^ bits) e)
-    by false e = tt
+    by : (b : Bool) → is_of_results row.what ≡ true → IfSome (option_map (λ (other : Row). other.what) (find test table)) IsOfResults
+        → IfSome (option_map (λ (other : Row). other.what) (if b then Some row else find test table)) IsOfResults
+    by true h more = h
+    by false h more = more
 
-loading_is : (g : ResolvedOperand) → IsGiven g → MayBe (loading g)
-loading_is (behind.At x w) k = on_number_is (λ y u. op.Load (load.At y u)) (λ y u n i. ((n, i), refl)) x w k
-loading_is behind.Stw k = (tt, refl)
-loading_is behind.DbNo k = (tt, refl)
-loading_is behind.DiNo k = (tt, refl)
-loading_is (behind.Constant c) k = within_is 32 c.value (λ value. op.Load (load.Constant value)) (λ h. (h, refl))
-loading_is more k = tt
-
-storing_is : (g : ResolvedOperand) → IsGiven g → MayBe (storing g)
-storing_is (behind.At x w) k = on_number_is op.Transfer (λ y u n i. ((n, i), refl)) x w k
-storing_is behind.Stw k = (tt, refl)
-storing_is more k = tt
+named_results : (name : List ℕ) → IfSome (mnemonic_named name) IsOfResults
+unfolding mnemonic_named
+named_results name = results_found (has_name name) rows refl
 
 -- a part is in its range
 word_fits : (n : ℕ) → is_over 16 (signed_part width.Word n) ≡ false
@@ -315,200 +186,440 @@ word_fits n = grind (arith, ints)
 dword_fits : (n : ℕ) → is_over 32 (signed_part width.Dword n) ≡ false
 dword_fits n = grind (arith, ints)
 
-adding_is : (g : ResolvedOperand) → MayBe (adding g)
-adding_is (behind.Constant c) = by c.signed
-  where
-    by : (b : Bool) → Fits (if b then op.AddWord (signed_part width.Word c.value) else op.AddDword (signed_part width.Dword c.value))
-    by true = (word_fits c.value, refl)
-    by false = (dword_fits c.value, refl)
-adding_is more = tt
-
 compared_is : (t : Test) (w : Width) → is_compared t w ≡ true → IsComparison t w
 compared_is t width.Word e = e
 compared_is t width.Dword e = e
 compared_is t width.Bit e = absurd cc
 compared_is t width.Byte e = absurd cc
 
-comparing_is : (t : Test) (w : Width) (g : ResolvedOperand) → MayBe (comparing t w g)
-comparing_is t w behind.Nothing = by (is_compared t w) refl
-  where
-    by : (b : Bool) → is_compared t w ≡ b → MayBe (if b then Some (op.Compare t w) else None)
-    by true e = (compared_is t w e, refl)
-    by false e = tt
-comparing_is t w more = tt
+-- Operands and instructions, where jumps aim at such positions
 
-with_number_is : (o : ℕ → Op) → ((n : ℕ) → n < 2 ^ 8 → Fits (o n)) → (g : ResolvedOperand) → MayBe (with_number o g)
-with_number_is o h (behind.Constant c) = within_is 8 c.value o (λ k. h c.value k)
-with_number_is o h more = tt
+module _ (aim : ℕ → Type 0) where
+  abbrev pub IsGiven : ResolvedOperand → Type 0
+  IsGiven behind.Unjudged = ⊥
+  IsGiven (behind.At o w) = IsOperand w o
+  IsGiven (behind.Db n) = IsBlockOpened n
+  IsGiven (behind.Di n) = IsBlockOpened n
+  IsGiven (behind.DbBy o) = IsNumberHolder o
+  IsGiven (behind.DiBy o) = IsNumberHolder o
+  IsGiven (behind.Target to) = aim to
+  IsGiven more = Unit {0}
 
-shifting_is : (row : ShiftRow) (g : ResolvedOperand) → MayBe (shifting row g)
-shifting_is row behind.Nothing = (tt, refl)
-shifting_is row (behind.Constant c) = by (nat_le c.value (most_steps row)) refl
-  where
-    by : (b : Bool) → nat_le c.value (most_steps row) ≡ b → MayBe (if b then Some (op.Shift row (Some c.value)) else None)
-    by true e = (leb-true c.value (most_steps row) e, refl)
-    by false e = tt
-shifting_is row more = tt
+  placed_is : (place : RawPlace) (number : Option ℕ) → is_placed place number ≡ true → IsGiven (operand_at place number)
+  placed_is place None e = lies_in place e
+  placed_is place (Some n) e =
+      let p = and_parts (is_in_area place) (may_have block.Db n) e in
+      let there = lies_in place p.0 in
+      (opened n p.1, in_block place.area place.width place.byte there.0, there.1)
 
-pointed_is : (o : Operand → Op) → ((x : Operand) → MayHoldPointer width.Dword x → Fits (o x))
-    → (x : Operand) (w : Width) → IsOperand w x → MayBe (pointer_op o x w)
-pointed_is o h x width.Dword k = by (is_of_pointers x) refl
-  where
-    by : (b : Bool) → is_of_pointers x ≡ b → MayBe (if b then Some (o x) else None)
-    by true e = h x (e, k)
-    by false e = tt
-pointed_is o h x width.Bit k = tt
-pointed_is o h x width.Byte k = tt
-pointed_is o h x width.Word k = tt
+  place_is : (place : RawPlace) → IsGiven (given_place place)
+  place_is place = by (is_placed place place.block) refl
+    where
+      by : (b : Bool) → is_placed place place.block ≡ b → IsGiven (if b then operand_at place place.block else behind.Outside place.area place.width)
+      by true e = placed_is place place.block e
+      by false e = tt
 
-other_is : (o : Ar → Op) → Fits (o ar.One) → (r : Ar) → MayBe (other_by o r)
-other_is o h ar.One = h
-other_is o h ar.Two = tt
+  if_is : (b : Bool) (name : AreaName) (w : Width) (o : Operand) → (b ≡ true → IsOperand w o) → IsGiven (given_if b name w o)
+  if_is true name w o h = h refl
+  if_is false name w o h = tt
 
-loading_pointer_is : (r : Ar) (g : ResolvedOperand) → IsGiven g → MayBe (loading_pointer r g)
-loading_pointer_is r behind.Nothing k = (tt, refl)
-loading_pointer_is r (behind.Constant c) k = within_is 32 c.value (λ p. op.LoadAr r (ar_load.Constant p)) (λ h. (h, refl))
-loading_pointer_is r (behind.At x w) k = pointed_is (λ y. op.LoadAr r (ar_load.At y)) (λ y h. (h, refl)) x w k
-loading_pointer_is r behind.OtherAr k = other_is (λ a. op.LoadAr a ar_load.OtherAr) (refl, refl) r
-loading_pointer_is r more k = tt
+  pointer_is : (p : RawPointer) → IsGiven (given_pointer p)
+  pointer_is p = by (is_in_reach p)
+    where
+      by : (b : Bool) → IsGiven (if b then behind.Constant (constant width.Dword (value_of p)) else behind.NoPointer)
+      by true = tt
+      by false = tt
 
-storing_pointer_is : (r : Ar) (g : ResolvedOperand) → IsGiven g → MayBe (storing_pointer r g)
-storing_pointer_is r behind.Nothing k = (tt, refl)
-storing_pointer_is r (behind.At x w) k = pointed_is (λ y. op.StoreAr r (ar_store.At y)) (λ y h. (h, refl)) x w k
-storing_pointer_is r behind.OtherAr k = other_is (λ a. op.StoreAr a ar_store.OtherAr) (refl, refl) r
-storing_pointer_is r more k = tt
+  held_is : (make : Operand → ResolvedOperand) → ((o : Operand) → IsNumberHolder o → IsGiven (make o)) → (place : RawPlace) → IsGiven (given_held make place)
+  held_is make h place = by (may_stand width.Word place) refl
+    where
+      by : (b : Bool) → may_stand width.Word place ≡ b → IsGiven (if b then make (Direct place.area place.byte 0) else behind.NoNumber)
+      by true e = let there = stands width.Word place e in h (Direct place.area place.byte 0) (there.0, (there.1, refl))
+      by false e = tt
 
-moving_pointer_is : (r : Ar) (g : ResolvedOperand) → MayBe (moving_pointer r g)
-moving_pointer_is r behind.Nothing = (tt, refl)
-moving_pointer_is r (behind.Constant c) = within_is 19 c.value (λ offset. op.AddAr r (Some offset)) (λ h. (h, refl))
-moving_pointer_is r more = tt
+  symbol_is : (o : Option SymbolAddress) → IsGiven (given_symbol o)
+  symbol_is (Some (address.At place)) = place_is place
+  symbol_is other = tt
 
-opening_is : (g : ResolvedOperand) → IsGiven g → MayBe (opening g)
-opening_is (behind.Db n) h = (h, refl)
-opening_is (behind.Di n) h = (h, refl)
-opening_is (behind.DbBy o) h = (h, refl)
-opening_is (behind.DiBy o) h = (h, refl)
-opening_is more h = tt
+  kind_is : (number : Option ℕ) (name : AreaName) (at : Component) (o : Option ElemType) → IsGiven (place_of_kind number name at o)
+  kind_is number name at None = tt
+  kind_is number name at (Some e) =
+      place_is (record { block = number; area = name; width = width_of e; byte = at.byte; bit = at.bit })
 
-combining_is : (row : LogicRow) (g : ResolvedOperand) → MayBe (combining row g)
-combining_is row behind.Nothing = (tt, refl)
-combining_is row (behind.Constant c) = by (fits (logic_width row) c)
-  where
-    value : ℕ
-    value = value_in (logic_width row) c
+  component_is : (number : Option ℕ) (name : AreaName) (o : Option Component) → IsGiven (given_component number name o)
+  component_is number name None = tt
+  component_is number name (Some at) = kind_is number name at at.kind
 
-    by : (b : Bool) → MayBe (if b then option_map (λ v. op.Logic row (Some v)) (within (bits_wide (logic_width row)) value) else None)
-    by true = within_is (bits_wide (logic_width row)) value (λ v. op.Logic row (Some v)) (λ h. (h, refl))
-    by false = tt
-combining_is row more = tt
+  path_is : (limit : ℕ) (number : Option ℕ) (name : AreaName) (decls : List Declaration) (path : List PathStep)
+      → are_refused limit (decls ∷ []) ≡ false → IsGiven (given_path limit number name (decls ∷ []) path)
+  path_is limit number name decls path kept = by (are_refused limit (decls ∷ [])) kept
+    where
+      by : (b : Bool) → b ≡ false → IsGiven (if b then behind.Unjudged else given_component number name (component_in (decls ∷ []) path))
+      by true e = absurd cc
+      by false e = component_is number name (component_in (decls ∷ []) path)
 
-with_is : (what : Mnemonic) (g : ResolvedOperand) → IsGiven g → IfSome (op_with what g) (Is (turn_by (Some what)))
-with_is (is.Check c) g h = checked_is c g h
-with_is (is.Bracket c) g h = alone_by opens (op.Bracket c) (tt, refl) g
-with_is is.Close g h = alone_by closes op.Close (tt, refl) g
-with_is is.Assign g h = on_bit_is op.Assign (λ x k. (k, refl)) g h
-with_is is.Set g h = on_bit_is op.Set (λ x k. (k, refl)) g h
-with_is is.Reset g h = on_bit_is op.Reset (λ x k. (k, refl)) g h
-with_is is.SetRlo g h = alone_is op.SetRlo (tt, refl) g
-with_is is.ClearRlo g h = alone_is op.ClearRlo (tt, refl) g
-with_is is.NotRlo g h = alone_is op.NotRlo (tt, refl) g
-with_is is.Save g h = alone_is op.Save (tt, refl) g
-with_is is.EdgeUp g h = on_bit_is op.EdgeUp (λ x k. (k, refl)) g h
-with_is is.EdgeDown g h = on_bit_is op.EdgeDown (λ x k. (k, refl)) g h
-with_is is.Load g h = loading_is g h
-with_is is.Transfer g h = storing_is g h
-with_is (is.Arith row) g h = alone_is (op.Arith row) (tt, refl) g
-with_is (is.Compare t w) g h = comparing_is t w g
-with_is is.Plus g h = adding_is g
-with_is is.Inc g h = with_number_is op.Inc (λ n k. (k, refl)) g
-with_is is.Dec g h = with_number_is op.Dec (λ n k. (k, refl)) g
-with_is (is.Shift row) g h = shifting_is row g
-with_is is.Rlda g h = alone_is op.Rlda (tt, refl) g
-with_is is.Rrda g h = alone_is op.Rrda (tt, refl) g
-with_is (is.Logic row) g h = combining_is row g
-with_is (is.Unary row) g h = alone_is (op.Unary row) (tt, refl) g
-with_is is.Tak g h = alone_is op.Tak (tt, refl) g
-with_is is.Push g h = alone_is op.Push (tt, refl) g
-with_is is.Pop g h = alone_is op.Pop (tt, refl) g
-with_is (is.LoadAr r) g h = loading_pointer_is r g h
-with_is (is.StoreAr r) g h = storing_pointer_is r g h
-with_is is.ExchangeAr g h = alone_is op.ExchangeAr (tt, refl) g
-with_is (is.AddAr r) g h = moving_pointer_is r g
-with_is is.Open g h = opening_is g h
-with_is is.ExchangeDb g h = alone_is op.ExchangeDb (tt, refl) g
-with_is is.Nop g h = with_number_is (λ n. op.Nop) (λ n k. (tt, refl)) g
-with_is is.TimerOrCounter g h = tt
-with_is is.Later g h = tt
-with_is (is.LeftOut kind) g h = tt
+  in_kind_is : (n : ℕ) (path : List PathStep) (kind : RawDataKind) → IsLaidOut kind → IsGiven (given_in_kind n path kind)
+  in_kind_is n path (data_kind.Own decls) h = path_is most_in_block (Some n) area.Db decls path h
+  in_kind_is n path (data_kind.Instance name) h = tt
 
-by_is : (what : Option Mnemonic) (g : ResolvedOperand) → IsGiven g → IfSome (op_by what g) (Is (turn_by what))
-by_is None g h = tt
-by_is (Some what) g h = with_is what g h
+  in_data_is : (n : ℕ) (path : List PathStep) (o : Option RawData) → IfSome o (λ (d : RawData). IsLaidOut d.kind) → IsGiven (given_in_data n path o)
+  in_data_is n path None h = tt
+  in_data_is n path (Some d) h = in_kind_is n path d.kind h
 
-or_bad_is : (turn : Turn) (o : Option Op) → IfSome o (Is turn) → IfOk (or_bad_operand o) (Is turn)
-or_bad_is turn None h = tt
-or_bad_is turn (Some o) h = h
+  number_is : (make : ℕ → ResolvedOperand) → ((n : ℕ) → IsGiven (make n)) → (r : Result ℕ Reason) → IsGiven (given_number make r)
+  number_is make h (Ok n) = h n
+  number_is make h (Err UnknownName) = tt
+  number_is make h (Err reason) = tt
 
-or_rule_is : (what : Option Mnemonic) (g : ResolvedOperand) → IsGiven g → IfOk (op_or_rule what g) (Is (turn_by what))
-or_rule_is what behind.Unknown h = tt
-or_rule_is what behind.Unfit h = tt
-or_rule_is what behind.NoNumber h = tt
-or_rule_is what behind.Unjudged h = absurd h
-or_rule_is what (behind.Outside name w) h = tt
-or_rule_is what behind.NoPointer h = tt
-or_rule_is what g h = or_bad_is (turn_by what) (op_by what g) (by_is what g h)
+  open_is : (make : ℕ → ResolvedOperand) → ((n : ℕ) → IsBlockOpened n → IsGiven (make n)) → (n : ℕ) → IsGiven (given_open make n)
+  open_is make h n = by (may_have block.Db n) refl
+    where
+      by : (b : Bool) → may_have block.Db n ≡ b → IsGiven (if b then make n else behind.NoNumber)
+      by true e = h n (opened n e)
+      by false e = tt
 
-op_is : (scope : OperandScope) (raw : RawOp) → IsClear scope → IfOk (op_of scope raw) (Is (turn_by (mnemonic_named raw.mnemonic)))
+  -- an instruction has its operand, and a jump aims so; how many JU a jump list has is not part of it
+  abbrev pub HasPart : Op → Type 0
+  HasPart (op.Jump t to) = IsJumpTest t × aim to
+  HasPart (op.Loop to) = aim to
+  HasPart (op.JumpList count to) = aim to
+  HasPart other = HasOperand other
+
+  -- an instruction has its operand, and is of this kind
+  abbrev pub Is : Turn → Op → Type 0
+  Is turn o = HasPart o × (turn_of o ≡ turn)
+
+  -- one that keeps them
+  abbrev Fits : Op → Type 0
+  Fits o = Is keeps o
+
+  abbrev MayBe : Option Op → Type 0
+  MayBe o = IfSome o Fits
+
+  alone_by : (turn : Turn) (o : Op) → Is turn o → (g : ResolvedOperand) → IfSome (alone o g) (Is turn)
+  alone_by turn o h behind.Nothing = h
+  alone_by turn o h more = tt
+
+  alone_is : (o : Op) → Fits o → (g : ResolvedOperand) → MayBe (alone o g)
+  alone_is o h g = alone_by keeps o h g
+
+  on_bit_is : (o : Operand → Op) → ((x : Operand) → IsOperand width.Bit x → Fits (o x)) → (g : ResolvedOperand) → IsGiven g → MayBe (on_bit o g)
+  on_bit_is o h (behind.At x width.Bit) k = h x k
+  on_bit_is o h more k = tt
+
+  unchecked_is : (c : Check) → MayBe (check_alone c)
+  unchecked_is check.O = (tt, refl)
+  unchecked_is more = tt
+
+  checked_is : (c : Check) (g : ResolvedOperand) → IsGiven g → MayBe (check_op c g)
+  checked_is c behind.Nothing h = unchecked_is c
+  checked_is c (behind.At x width.Bit) h = (h, refl)
+  checked_is c (behind.Flag t) h = (tt, refl)
+  checked_is c more h = tt
+
+  -- a width that is one of a number, or is not
+  on_number_is : (o : Operand → Width → Op) → ((x : Operand) (w : Width) → IsNumberWidth w → IsOperand w x → Fits (o x w))
+      → (x : Operand) (w : Width) → IsOperand w x → MayBe (on_number o x w)
+  on_number_is o h x width.Bit k = tt
+  on_number_is o h x width.Byte k = h x width.Byte tt k
+  on_number_is o h x width.Word k = h x width.Word tt k
+  on_number_is o h x width.Dword k = h x width.Dword tt k
+
+  within_is : (bits value : ℕ) (o : ℕ → Op) → (value < 2 ^ bits → Fits (o value)) → MayBe (option_map o (within bits value))
+  within_is bits value o h = by (nat_lt value (2 ^ bits)) refl
+    where
+      by : (b : Bool) → nat_lt value (2 ^ bits) ≡ b → MayBe (option_map o (if b then Some value else None))
+      by true e = h (ltb-true value (2 ^ bits) e)
+      by false e = tt
+
+  loading_is : (g : ResolvedOperand) → IsGiven g → MayBe (loading g)
+  loading_is (behind.At x w) k = on_number_is (λ y u. op.Load (load.At y u)) (λ y u n i. ((n, i), refl)) x w k
+  loading_is behind.Stw k = (tt, refl)
+  loading_is behind.DbNo k = (tt, refl)
+  loading_is behind.DiNo k = (tt, refl)
+  loading_is (behind.Constant c) k = within_is 32 c.value (λ value. op.Load (load.Constant value)) (λ h. (h, refl))
+  loading_is more k = tt
+
+  storing_is : (g : ResolvedOperand) → IsGiven g → MayBe (storing g)
+  storing_is (behind.At x w) k = on_number_is op.Transfer (λ y u n i. ((n, i), refl)) x w k
+  storing_is behind.Stw k = (tt, refl)
+  storing_is more k = tt
+
+  adding_is : (g : ResolvedOperand) → MayBe (adding g)
+  adding_is (behind.Constant c) = by c.signed
+    where
+      by : (b : Bool) → Fits (if b then op.AddWord (signed_part width.Word c.value) else op.AddDword (signed_part width.Dword c.value))
+      by true = (word_fits c.value, refl)
+      by false = (dword_fits c.value, refl)
+  adding_is more = tt
+
+  comparing_is : (t : Test) (w : Width) (g : ResolvedOperand) → MayBe (comparing t w g)
+  comparing_is t w behind.Nothing = by (is_compared t w) refl
+    where
+      by : (b : Bool) → is_compared t w ≡ b → MayBe (if b then Some (op.Compare t w) else None)
+      by true e = (compared_is t w e, refl)
+      by false e = tt
+  comparing_is t w more = tt
+
+  with_number_is : (o : ℕ → Op) → ((n : ℕ) → n < 2 ^ 8 → Fits (o n)) → (g : ResolvedOperand) → MayBe (with_number o g)
+  with_number_is o h (behind.Constant c) = within_is 8 c.value o (λ k. h c.value k)
+  with_number_is o h more = tt
+
+  shifting_is : (row : ShiftRow) (g : ResolvedOperand) → MayBe (shifting row g)
+  shifting_is row behind.Nothing = (tt, refl)
+  shifting_is row (behind.Constant c) = by (nat_le c.value (most_steps row)) refl
+    where
+      by : (b : Bool) → nat_le c.value (most_steps row) ≡ b → MayBe (if b then Some (op.Shift row (Some c.value)) else None)
+      by true e = (leb-true c.value (most_steps row) e, refl)
+      by false e = tt
+  shifting_is row more = tt
+
+  pointed_is : (o : Operand → Op) → ((x : Operand) → MayHoldPointer width.Dword x → Fits (o x))
+      → (x : Operand) (w : Width) → IsOperand w x → MayBe (pointer_op o x w)
+  pointed_is o h x width.Dword k = by (is_of_pointers x) refl
+    where
+      by : (b : Bool) → is_of_pointers x ≡ b → MayBe (if b then Some (o x) else None)
+      by true e = h x (e, k)
+      by false e = tt
+  pointed_is o h x width.Bit k = tt
+  pointed_is o h x width.Byte k = tt
+  pointed_is o h x width.Word k = tt
+
+  other_is : (o : Ar → Op) → Fits (o ar.One) → (r : Ar) → MayBe (other_by o r)
+  other_is o h ar.One = h
+  other_is o h ar.Two = tt
+
+  loading_pointer_is : (r : Ar) (g : ResolvedOperand) → IsGiven g → MayBe (loading_pointer r g)
+  loading_pointer_is r behind.Nothing k = (tt, refl)
+  loading_pointer_is r (behind.Constant c) k = within_is 32 c.value (λ p. op.LoadAr r (ar_load.Constant p)) (λ h. (h, refl))
+  loading_pointer_is r (behind.At x w) k = pointed_is (λ y. op.LoadAr r (ar_load.At y)) (λ y h. (h, refl)) x w k
+  loading_pointer_is r behind.OtherAr k = other_is (λ a. op.LoadAr a ar_load.OtherAr) (refl, refl) r
+  loading_pointer_is r more k = tt
+
+  storing_pointer_is : (r : Ar) (g : ResolvedOperand) → IsGiven g → MayBe (storing_pointer r g)
+  storing_pointer_is r behind.Nothing k = (tt, refl)
+  storing_pointer_is r (behind.At x w) k = pointed_is (λ y. op.StoreAr r (ar_store.At y)) (λ y h. (h, refl)) x w k
+  storing_pointer_is r behind.OtherAr k = other_is (λ a. op.StoreAr a ar_store.OtherAr) (refl, refl) r
+  storing_pointer_is r more k = tt
+
+  moving_pointer_is : (r : Ar) (g : ResolvedOperand) → MayBe (moving_pointer r g)
+  moving_pointer_is r behind.Nothing = (tt, refl)
+  moving_pointer_is r (behind.Constant c) = within_is 19 c.value (λ offset. op.AddAr r (Some offset)) (λ h. (h, refl))
+  moving_pointer_is r more = tt
+
+  opening_is : (g : ResolvedOperand) → IsGiven g → MayBe (opening g)
+  opening_is (behind.Db n) h = (h, refl)
+  opening_is (behind.Di n) h = (h, refl)
+  opening_is (behind.DbBy o) h = (h, refl)
+  opening_is (behind.DiBy o) h = (h, refl)
+  opening_is more h = tt
+
+  combining_is : (row : LogicRow) (g : ResolvedOperand) → MayBe (combining row g)
+  combining_is row behind.Nothing = (tt, refl)
+  combining_is row (behind.Constant c) = by (fits (logic_width row) c)
+    where
+      value : ℕ
+      value = value_in (logic_width row) c
+
+      by : (b : Bool) → MayBe (if b then option_map (λ v. op.Logic row (Some v)) (within (bits_wide (logic_width row)) value) else None)
+      by true = within_is (bits_wide (logic_width row)) value (λ v. op.Logic row (Some v)) (λ h. (h, refl))
+      by false = tt
+  combining_is row more = tt
+
+  jumping_is : (turn : Turn) (o : ℕ → Op) → ((to : ℕ) → aim to → Is turn (o to)) → (g : ResolvedOperand) → IsGiven g → IfSome (jumping o g) (Is turn)
+  jumping_is turn o k (behind.Target to) h = k to h
+  jumping_is turn o k more h = tt
+
+  with_is : (what : Mnemonic) (g : ResolvedOperand) → IsGiven g → is_of_results what ≡ true → IfSome (op_with what g) (Is (turn_by (Some what)))
+  with_is (is.Check c) g h good = checked_is c g h
+  with_is (is.Bracket c) g h good = alone_by opens (op.Bracket c) (tt, refl) g
+  with_is is.Close g h good = alone_by closes op.Close (tt, refl) g
+  with_is is.Assign g h good = on_bit_is op.Assign (λ x k. (k, refl)) g h
+  with_is is.Set g h good = on_bit_is op.Set (λ x k. (k, refl)) g h
+  with_is is.Reset g h good = on_bit_is op.Reset (λ x k. (k, refl)) g h
+  with_is is.SetRlo g h good = alone_is op.SetRlo (tt, refl) g
+  with_is is.ClearRlo g h good = alone_is op.ClearRlo (tt, refl) g
+  with_is is.NotRlo g h good = alone_is op.NotRlo (tt, refl) g
+  with_is is.Save g h good = alone_is op.Save (tt, refl) g
+  with_is is.EdgeUp g h good = on_bit_is op.EdgeUp (λ x k. (k, refl)) g h
+  with_is is.EdgeDown g h good = on_bit_is op.EdgeDown (λ x k. (k, refl)) g h
+  with_is is.Load g h good = loading_is g h
+  with_is is.Transfer g h good = storing_is g h
+  with_is (is.Arith row) g h good = alone_is (op.Arith row) (tt, refl) g
+  with_is (is.Compare t w) g h good = comparing_is t w g
+  with_is is.Plus g h good = adding_is g
+  with_is is.Inc g h good = with_number_is op.Inc (λ n k. (k, refl)) g
+  with_is is.Dec g h good = with_number_is op.Dec (λ n k. (k, refl)) g
+  with_is (is.Shift row) g h good = shifting_is row g
+  with_is is.Rlda g h good = alone_is op.Rlda (tt, refl) g
+  with_is is.Rrda g h good = alone_is op.Rrda (tt, refl) g
+  with_is (is.Logic row) g h good = combining_is row g
+  with_is (is.Unary row) g h good = alone_is (op.Unary row) (tt, refl) g
+  with_is is.Tak g h good = alone_is op.Tak (tt, refl) g
+  with_is is.Push g h good = alone_is op.Push (tt, refl) g
+  with_is is.Pop g h good = alone_is op.Pop (tt, refl) g
+  with_is (is.LoadAr r) g h good = loading_pointer_is r g h
+  with_is (is.StoreAr r) g h good = storing_pointer_is r g h
+  with_is is.ExchangeAr g h good = alone_is op.ExchangeAr (tt, refl) g
+  with_is (is.AddAr r) g h good = moving_pointer_is r g
+  with_is is.Open g h good = opening_is g h
+  with_is is.ExchangeDb g h good = alone_is op.ExchangeDb (tt, refl) g
+  with_is is.Nop g h good = with_number_is (λ n. op.Nop) (λ n k. (tt, refl)) g
+  with_is (is.Jump jump.Always) g h good = jumping_is always (op.Jump jump.Always) (λ to k. ((tt, k), refl)) g h
+  with_is (is.Jump (jump.Rlo b)) g h good = jumping_is ends (op.Jump (jump.Rlo b)) (λ to k. ((tt, k), refl)) g h
+  with_is (is.Jump (jump.RloSaved b)) g h good = jumping_is ends (op.Jump (jump.RloSaved b)) (λ to k. ((tt, k), refl)) g h
+  with_is (is.Jump (jump.Br b)) g h good = jumping_is ends (op.Jump (jump.Br b)) (λ to k. ((tt, k), refl)) g h
+  with_is (is.Jump jump.Overflow) g h good = jumping_is ends (op.Jump jump.Overflow) (λ to k. ((tt, k), refl)) g h
+  with_is (is.Jump jump.StoredOverflow) g h good = jumping_is ends (op.Jump jump.StoredOverflow) (λ to k. ((tt, k), refl)) g h
+  with_is (is.Jump (jump.Result t)) g h good = jumping_is ends (op.Jump (jump.Result t)) (λ to k. ((good, k), refl)) g h
+  with_is is.Loop g h good = jumping_is ends op.Loop (λ to k. (k, refl)) g h
+  with_is is.JumpList g h good = jumping_is lists (op.JumpList 0) (λ to k. (k, refl)) g h
+  with_is is.BlockEnd g h good = alone_by ends op.BlockEnd (tt, refl) g
+  with_is is.BlockEndIf g h good = alone_by ends op.BlockEndIf (tt, refl) g
+  with_is is.TimerOrCounter g h good = tt
+  with_is is.Later g h good = tt
+  with_is (is.LeftOut kind) g h good = tt
+
+  by_is : (what : Option Mnemonic) (g : ResolvedOperand) → IsGiven g → IfSome what IsOfResults → IfSome (op_by what g) (Is (turn_by what))
+  by_is None g h good = tt
+  by_is (Some what) g h good = with_is what g h good
+
+  or_bad_is : (turn : Turn) (o : Option Op) → IfSome o (Is turn) → IfOk (or_bad_operand o) (Is turn)
+  or_bad_is turn None h = tt
+  or_bad_is turn (Some o) h = h
+
+  pub or_rule_is : (what : Option Mnemonic) (g : ResolvedOperand) → IsGiven g → IfSome what IsOfResults → IfOk (op_or_rule what g) (Is (turn_by what))
+  or_rule_is what behind.Unknown h good = tt
+  or_rule_is what behind.Unfit h good = tt
+  or_rule_is what behind.NoNumber h good = tt
+  or_rule_is what behind.Unjudged h good = absurd h
+  or_rule_is what (behind.Outside name w) h good = tt
+  or_rule_is what behind.NoPointer h good = tt
+  or_rule_is what g h good = or_bad_is (turn_by what) (op_by what g) (by_is what g h good)
+
+-- Instructions of a text
+
+-- the position of a label, at which jumps to it aim
+abbrev pub AimsAt : OperandScope → Option (List ℕ) → ℕ → Type 0
+AimsAt scope None to = ⊥
+AimsAt scope (Some label) to = to ≡ target_in scope.block.body label
+
+layer_is : (scope : OperandScope) (o : RawOperand-F RawOperand RawActual RawCall) → IsClear scope → IsGiven (AimsAt scope (label_in o)) (given_in scope o)
+layer_is scope (layer.At place) clear = place_is (AimsAt scope None) place
+layer_is scope (layer.Named name) clear = symbol_is (AimsAt scope None) (symbol_named scope.text.symbols name)
+layer_is scope (layer.InBlock name path) clear =
+    number_is (AimsAt scope None) (λ n. given_in_data n path (db_numbered scope.text.symbols scope.text.dbs n))
+    (λ n. in_data_is (AimsAt scope None) n path (db_numbered scope.text.symbols scope.text.dbs n)
+    (found_is (λ (d : RawData). IsLaidOut d.kind) (λ (d : RawData). is_number n (block_number scope.text.symbols block.Db d.name)) scope.text.dbs clear.dbs))
+    (block_number scope.text.symbols block.Db (raw_name.Name name))
+layer_is scope (layer.Local path) clear = path_is (AimsAt scope None) most_local None area.L scope.block.temps path clear.temps
+layer_is scope (layer.OpenDb name) clear =
+    number_is (AimsAt scope None) (given_open (λ n. behind.Db n))
+    (open_is (AimsAt scope None) (λ n. behind.Db n) (λ n h. h)) (block_number scope.text.symbols block.Db name)
+layer_is scope (layer.OpenDi name) clear =
+    number_is (AimsAt scope None) (given_open (λ n. behind.Di n))
+    (open_is (AimsAt scope None) (λ n. behind.Di n) (λ n h. h)) (block_number scope.text.symbols block.Db name)
+layer_is scope (layer.Pointer p) clear = pointer_is (AimsAt scope None) p
+layer_is scope (layer.ByMemory name w place) clear =
+    if_is (AimsAt scope None) (may_stand width.Dword place) name w (ByMemory name place.area place.byte) (λ e. stands width.Dword place e)
+layer_is scope (layer.ByRegister name w r p) clear =
+    if_is (AimsAt scope None) (is_in_reach p) name w (ByRegister name r (offset_of p)) (λ e. in_reach p e)
+layer_is scope (layer.Crossing w r p) clear = if_is (AimsAt scope None) (is_in_reach p) area.M w (Crossing r (offset_of p)) (λ e. in_reach p e)
+layer_is scope (layer.OpenDbBy place) clear = held_is (AimsAt scope None) (λ o. behind.DbBy o) (λ o h. h) place
+layer_is scope (layer.OpenDiBy place) clear = held_is (AimsAt scope None) (λ o. behind.DiBy o) (λ o h. h) place
+layer_is scope (layer.Label label) clear = refl
+layer_is scope more clear = tt
+
+given_is : (scope : OperandScope) (o : RawOperand) → IsClear scope → IsGiven (AimsAt scope (label_of o)) (resolved_operand scope o)
+unfolding resolved_operand label_of
+given_is scope o clear = layer_is scope (out-RawOperand o) clear
+
+op_is : (scope : OperandScope) (raw : RawOp) → IsClear scope
+    → IfOk (op_of scope raw) (Is (AimsAt scope (label_of raw.operand)) (turn_by (mnemonic_named raw.mnemonic)))
 unfolding op_of
-op_is scope raw clear = or_rule_is (mnemonic_named raw.mnemonic) (resolved_operand scope raw.operand) (given_is scope raw.operand clear)
+op_is scope raw clear =
+    or_rule_is (AimsAt scope (label_of raw.operand)) (mnemonic_named raw.mnemonic) (resolved_operand scope raw.operand)
+    (given_is scope raw.operand clear) (named_results raw.mnemonic)
 
 -- an instruction that breaks no rule is one of a program
 any_is : (P : Op → Type 0) (line : Line) (r : Result Op Reason) → IfOk r P → broken_by line r ≡ [] → P (or_any r)
 any_is P line (Ok o) h e = h
 any_is P line (Err rule) h e = absurd cc
 
-instr_is : (scope : OperandScope) (raw : RawInstr) → IsClear scope → instr_breaks scope raw ≡ []
-    → Is (turn_by (mnemonic_named raw.op.mnemonic)) (instr_of scope raw).op
-instr_is scope raw clear e = any_is (Is (turn_by (mnemonic_named raw.op.mnemonic))) raw.line (op_of scope raw.op) (op_is scope raw.op clear) e
+pub instr_is : (scope : OperandScope) (raw : RawInstr) → IsClear scope → instr_breaks scope raw ≡ []
+    → Is (AimsAt scope (label_of raw.op.operand)) (turn_by (mnemonic_named raw.op.mnemonic)) (or_any (op_of scope raw.op))
+instr_is scope raw clear e =
+    any_is (Is (AimsAt scope (label_of raw.op.operand)) (turn_by (mnemonic_named raw.op.mnemonic))) raw.line (op_of scope raw.op) (op_is scope raw.op clear) e
 
--- it has its operand
-pub has_operand : (scope : OperandScope) (raw : RawInstr) → IsClear scope → instr_breaks scope raw ≡ [] → HasOperand (instr_of scope raw).op
-has_operand scope raw clear e = (instr_is scope raw clear e).0
+-- it has its operand, and a jump list the number of its JU
+operand_listed : (aim : ℕ → Type 0) (rest : List RawInstr) (o : Op) → HasPart aim o → (turn_of o ≡ lists → 1 ≤ listed_in rest) → HasOperand (with_list rest o)
+operand_listed aim rest (op.Jump t to) h k = h.0
+operand_listed aim rest (op.Loop to) h k = tt
+operand_listed aim rest (op.JumpList count to) h k =
+    let some : 1 ≤ listed_in rest = k refl in
+    (min_some (listed_in rest) some, min-le_right (listed_in rest) most_listed)
+  where
+    min_some : (n : ℕ) → 1 ≤ n → 1 ≤ min n most_listed
+    min_some n h = le-min h (omega arith)
+operand_listed aim rest other h k = h
+
+pub has_operand : (scope : OperandScope) (raw : RawInstr) (rest : List RawInstr) → IsClear scope → instr_breaks scope raw ≡ []
+    → (turn_by (mnemonic_named raw.op.mnemonic) ≡ lists → 1 ≤ listed_in rest) → HasOperand (instr_of scope raw rest).op
+has_operand scope raw rest clear e k =
+    let is = instr_is scope raw clear e in
+    operand_listed (AimsAt scope (label_of raw.op.operand)) rest (or_any (op_of scope raw.op)) is.0 (λ t. k (sym is.1 ∙ t))
 
 -- Brackets
 
--- how many are open behind a turn, if it may stand there
+-- how many are open behind an instruction of a kind, if it may be there
 abbrev open_by : Turn → ℕ → Option ℕ
 open_by opens n = if nat_lt n most_open then Some (suc n) else None
 open_by closes zero = None
 open_by closes (suc n) = Some n
 open_by keeps n = Some n
-open_by ends zero = Some 0
-open_by ends (suc n) = None
+open_by ends n = none_behind n
+open_by always n = none_behind n
+open_by lists n = none_behind n
 
 behind_op : (o : Op) (n : ℕ) → open_behind o n ≡ open_by (turn_of o) n
 behind_op (op.Bracket c) n = refl
 behind_op op.Close zero = refl
 behind_op op.Close (suc n) = refl
-behind_op op.BlockEnd zero = refl
-behind_op op.BlockEnd (suc n) = refl
+behind_op (op.Jump jump.Always to) n = refl
 behind_op other n = refl
+
+turn_listed : (rest : List RawInstr) (o : Op) → turn_of (with_list rest o) ≡ turn_of o
+turn_listed rest (op.JumpList count to) = refl
+turn_listed rest other = refl
 
 room : (b : Bool) (line : Line) (n : ℕ) → (if b then [] else rule_break line TooManyBrackets) ≡ [] → (if b then Some (suc n) else None) ≡ Some (suc n)
 room true line n e = refl
 room false line n e = absurd cc
 
+no_open : (line : Line) (n : ℕ) → none_open line n ≡ [] → none_behind n ≡ Some n
+no_open line zero e = refl
+no_open line (suc n) e = absurd cc
+
+behind_jump : (t : JumpTest) (n : ℕ) → open_by (turn_by (Some (is.Jump t))) n ≡ none_behind n
+behind_jump jump.Always n = refl
+behind_jump other n = refl
+
 behind_turn : (line : Line) (what : Option Mnemonic) (n : ℕ) → brackets_at line what n ≡ [] → open_by (turn_by what) n ≡ Some (open_then what n)
 behind_turn line (Some (is.Bracket c)) n e = room (nat_lt n most_open) line n e
 behind_turn line (Some is.Close) zero e = absurd cc
 behind_turn line (Some is.Close) (suc n) e = refl
+behind_turn line (Some (is.Jump t)) n e = behind_jump t n ∙ no_open line n e
+behind_turn line (Some is.Loop) n e = no_open line n e
+behind_turn line (Some is.JumpList) n e = no_open line n e
+behind_turn line (Some is.BlockEnd) n e = no_open line n e
+behind_turn line (Some is.BlockEndIf) n e = no_open line n e
 behind_turn line other n e = refl
 
 -- and does to brackets what its mnemonic says
-pub behind_instr : (scope : OperandScope) (raw : RawInstr) (n : ℕ) → IsClear scope → instr_breaks scope raw ≡ []
+pub behind_instr : (scope : OperandScope) (raw : RawInstr) (rest : List RawInstr) (n : ℕ) → IsClear scope → instr_breaks scope raw ≡ []
     → brackets_at raw.line (mnemonic_named raw.op.mnemonic) n ≡ []
-    → open_behind (instr_of scope raw).op n ≡ Some (open_then (mnemonic_named raw.op.mnemonic) n)
-behind_instr scope raw n clear e f =
-    behind_op (instr_of scope raw).op n
-    ∙ ap (λ t. open_by t n) (instr_is scope raw clear e).1
+    → open_behind (instr_of scope raw rest).op n ≡ Some (open_then (mnemonic_named raw.op.mnemonic) n)
+behind_instr scope raw rest n clear e f =
+    behind_op (instr_of scope raw rest).op n
+    ∙ ap (λ t. open_by t n) (turn_listed rest (or_any (op_of scope raw.op)) ∙ (instr_is scope raw clear e).1)
     ∙ behind_turn raw.line (mnemonic_named raw.op.mnemonic) n f

@@ -9,6 +9,7 @@ use Rattle.arithmetic_templates.specs.Calculations.{calculated_of, negated_of}
 use Rattle.arithmetic_templates.specs.Comparisons.{compared_of}
 use Rattle.digit_templates.specs.FromDigits.{bti_of, btd_of}
 use Rattle.digit_templates.specs.ToDigits.{itb_of, dtb_of}
+use Rattle.jump_templates.specs.Jumps.{end_if_of, jump_of, list_of, loop_of}
 use Rattle.pointer_templates.specs.Pointers.{pointer_exchange_of, pointer_load_of, pointer_move_of, pointer_store_of}
 use Rattle.shift_templates.specs.ShiftTemplates.{rlda_template, rrda_template, shift_template}
 use Rattle.instruction_lowering.specs.inner.Temporaries.{types_of}
@@ -29,9 +30,9 @@ use Rattle.template_parts.specs.Builders.{clear_or, literal_of, set_of}
 
 -- Spots
 
--- the spot at the start of a body
-abbrev pub first_context : LoweringContext
-first_context = record { used = 0; brackets = [] }
+-- the spot at the start of a block, where so many locals are used; no bracket is open there
+abbrev pub context_from : ℕ → LoweringContext
+context_from used = record { used = used; brackets = [] }
 
 -- the spot after a bracket is opened whose chain is kept by the locals from one on
 abbrev pub with_bracket : ℕ → Check → LoweringContext → LoweringContext
@@ -120,4 +121,8 @@ statements_of p (op.OpenDb d) = block_open_of p.used reg.DbNo d
 statements_of p (op.OpenDi d) = block_open_of p.used reg.DiNo d
 statements_of p op.ExchangeDb = block_exchange_of p.used
 statements_of p op.Nop = []
+statements_of p (op.Jump t to) = jump_of p.used t
+statements_of p (op.Loop to) = loop_of p.used
+statements_of p (op.JumpList count label) = list_of p.used
 statements_of p op.BlockEnd = end_word_of
+statements_of p op.BlockEndIf = end_if_of p.used

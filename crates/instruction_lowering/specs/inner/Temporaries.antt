@@ -9,6 +9,7 @@ use Rattle.arithmetic_templates.specs.Calculations.{types_of_calculated, types_o
 use Rattle.arithmetic_templates.specs.Comparisons.{types_of_compared}
 use Rattle.digit_templates.specs.FromDigits.{types_of_bti, types_of_btd}
 use Rattle.digit_templates.specs.ToDigits.{types_of_itb, types_of_dtb}
+use Rattle.jump_templates.specs.Jumps.{types_of_jump, types_of_list, types_of_test}
 use Rattle.pointer_templates.specs.Pointers.{types_of_pointer_exchange, types_of_pointer_load, types_of_pointer_store}
 use Rattle.template_parts.specs.Fetching.{types_fetched, types_reached}
 use Rattle.s7_base.specs.declared.word.Width.TheVariants as width
@@ -36,7 +37,7 @@ types_of_unary unary.Caw = []
 types_of_unary unary.Cad = []
 
 -- the types of the temporaries of an instruction: an opened bracket keeps RLO, OR and NFC, and an edge the RLO; a
--- pointer, what may fault, and what an instruction on the accumulators uses twice, has one
+-- pointer, what may fault, what an instruction on the accumulators uses twice, and the test of a jump, has one
 abbrev pub types_of : Op → List StType
 types_of (op.Check c b) = types_checked b
 types_of (op.Assign o) = types_reached o
@@ -61,6 +62,10 @@ types_of op.Rrda = types_through_cc1
 types_of (op.Logic l c) = types_of_logic l c
 types_of (op.Unary u) = types_of_unary u
 types_of op.Tak = types_of_exchange
+types_of (op.Jump t to) = types_of_jump t
+types_of (op.Loop to) = types_of_test
+types_of (op.JumpList count label) = types_of_list
+types_of op.BlockEndIf = types_of_test
 types_of other = []
 
 -- the types of the temporaries of the instructions of a body

@@ -12,4 +12,5 @@ IsPlainForm shape.Stored = ⊥
 IsPlainForm (shape.PointerLoaded r) = ⊥
 IsPlainForm (shape.PointerStored r) = ⊥
 IsPlainForm shape.Opened = ⊥
+IsPlainForm shape.Label = ⊥
 IsPlainForm other = Unit {0}

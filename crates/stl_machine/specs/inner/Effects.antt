@@ -2,16 +2,17 @@
 use Rattle.std.specs.Prelude.{◌≡◌, Option, None, Result, Ok, Err}
 use Rattle.s7_base.specs.declared.outcome.Fault.{Fault}
 use Rattle.stl_machine.specs.declared.effect.Effect.{Effect as Found}
-use Rattle.stl_machine.specs.declared.effect.Effect.TheVariants.{Next, Leave}
+use Rattle.stl_machine.specs.declared.effect.Effect.TheVariants.{Go, Leave, Next}
 use Rattle.stl_machine.specs.declared.state.State.{State}
 use Rattle.stl_machine.specs.inner.Views.{now_of}
-use Rattle.stl_tree.specs.Now.{Effect, next, leave, fault}
+use Rattle.stl_tree.specs.Now.{Effect, next, go, leave, fault}
 use Rattle.stl_tree.specs.StlRun.{Standing, running, over, instruction}
 use Rattle.stl_tree.specs.declared.program.Instr.{Instr}
 
 -- an instruction had its defined effect, with the state after it; a fault leaves the memory as it was
 abbrev pub HasEffect : Effect → Result Found Fault → State → State → Type 0
 HasEffect defined (Ok Next) before after = defined ≡ next (now_of after)
+HasEffect defined (Ok (Go to)) before after = defined ≡ go to (now_of after)
 HasEffect defined (Ok Leave) before after = defined ≡ leave (now_of after)
 HasEffect defined (Err f) before after = (defined ≡ fault f) × (after.memory ≡ before.memory)
 

@@ -14,7 +14,8 @@ use Rattle.stl_rules.specs.Names.{block_number, may_have}
 use Rattle.stl_rules.specs.Programs.{block_name, block_with, symbol_of}
 use Rattle.stl_rules.specs.Raw.{OperandScope, most_local}
 use Rattle.stl_rules.specs.DeclarationRules.{is_named, key_of}
-use Rattle.stl_rules.specs.Stages.{broken_if, heading_breaks, instr_breaks, is_address, valued_breaks, content_breaks}
+use Rattle.stl_rules.specs.BodyRules.{broken_if}
+use Rattle.stl_rules.specs.Stages.{heading_breaks, instr_breaks, is_address, valued_breaks, content_breaks}
 use Rattle.stl_tree.specs.declared.program.Block.{Block}
 use Rattle.stl_tree.specs.declared.program.Symbol.{Symbol}
 use Rattle.stl_tree.specs.declared.raw.BlockKind.{BlockKind}

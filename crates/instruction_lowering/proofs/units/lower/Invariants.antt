@@ -1,6 +1,6 @@
-use Rattle.std.proofs.Common.{◌≡◌, map, take}
-use Rattle.instruction_lowering.specs.inner.Lowering.{AreFew, unit_of}
+use Rattle.std.proofs.Common.{take}
+use Rattle.instruction_lowering.specs.inner.Lowering.{AreFew, AreMadeOf}
 use Rattle.instruction_lowering.proofs.units.lower.Given as goal
 
 abbrev pub invariant-loop-block : goal.invariant-loop-block
-invariant-loop-block l = (l.pous ≡ map unit_of (take l.block-index l.program.blocks)) × AreFew (take l.block-index l.program.blocks)
+invariant-loop-block l = AreMadeOf (take l.block-index l.program.blocks) l.pous × AreFew (take l.block-index l.program.blocks)

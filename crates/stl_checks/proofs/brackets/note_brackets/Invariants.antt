@@ -1,5 +1,5 @@
 use Rattle.std.proofs.Common.{◌≡◌, ◌++◌, length}
-use Rattle.stl_rules.specs.Stages.{brackets_from}
+use Rattle.stl_rules.specs.BodyRules.{brackets_from}
 use Rattle.stl_checks.proofs.brackets.note_brackets.Given as goal
 
 -- what is noted and what the rest breaks are what the body breaks

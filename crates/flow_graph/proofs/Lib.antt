@@ -1,0 +1,6 @@
+mod Making
+mod Marks
+mod Passing
+mod Reaching
+mod Whole
+mod BodyCases

@@ -1,0 +1,4 @@
+pub mod Beginnings
+pub mod Making
+pub mod Reaching
+pub mod Spans

@@ -1,0 +1,15 @@
+//! The graph of a body: its blocks, how each goes on, and where the body can be cut.
+//!
+//! What blocks and cuts are is defined in `stl_tree`. Everything here takes time in proportion to the body: where
+//! blocks begin and the nodes from there in one pass each, which nodes are reached by a search that looks at each
+//! node once, and the cuts by one pass over the nodes that are reached and one over all.
+#![tactic(auto)]
+
+pub use graph::{Exit, Graph, Node, graph_of};
+
+mod beginnings;
+mod cuts;
+mod exits;
+mod graph;
+mod nodes;
+mod search;

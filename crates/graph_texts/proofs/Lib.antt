@@ -1,0 +1,15 @@
+mod Arms
+mod Chains
+mod Exits
+mod LoopCases
+mod LoopNesting
+mod LoopTypes
+mod Matches
+mod Near
+mod NextName
+mod ProperText
+mod Runs
+mod Same
+mod Starts
+mod Tests
+mod Turns

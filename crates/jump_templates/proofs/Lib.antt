@@ -1,0 +1,2 @@
+mod JumpEffects
+pub mod Serving

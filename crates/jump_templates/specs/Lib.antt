@@ -1,0 +1,2 @@
+pub mod JumpLaw
+pub mod Jumps

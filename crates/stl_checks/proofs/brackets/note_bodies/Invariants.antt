@@ -1,7 +1,0 @@
-use Rattle.std.proofs.Common.{◌≡◌, ◌++◌, take}
-use Rattle.std.specs.List.{flat_map}
-use Rattle.stl_rules.specs.Stages.{body_breaks}
-use Rattle.stl_checks.proofs.brackets.note_bodies.Given as goal
-
-abbrev pub invariant-loop-block : goal.invariant-loop-block
-invariant-loop-block l = l.breaks ≡ l.initial.breaks ++ flat_map body_breaks (take l.block-index l.blocks)
