@@ -11,7 +11,7 @@ use stl_instructions::instruction;
 use stl_lexer::tokens;
 use stl_mnemonics::mnemonic_named;
 use stl_statement_grammar::Mnemonic;
-use stl_tree::{Ar, Constant, RawInstr, RawName, RawOp, RawOperand, RawPlace};
+use stl_tree::{Ar, Constant, JumpTest, RawInstr, RawName, RawOp, RawOperand, RawPlace};
 
 /// The operand that a case wants.
 #[derive(Clone, Copy, PartialEq)]
@@ -324,6 +324,101 @@ fn want_checks(rt: &impl Abort, alloc: Global, checks: &[(&[u8], Check)]) -> Res
 #[test]
 fn reads_status_operands(rt: HostRuntime) -> Result<(), Fail> {
     want_checks(&rt, rt.alloc(), &CHECKS)?;
+    Ok(())
+}
+
+/// A jump: the name of its mnemonic, and what that is.
+type Jump = (&'static [u8], Mnemonic);
+
+static JUMPS: [Jump; 18] = [
+    (b"JU", Mnemonic::Jump(JumpTest::Always)),
+    (b"JC", Mnemonic::Jump(JumpTest::Rlo(true))),
+    (b"JCN", Mnemonic::Jump(JumpTest::Rlo(false))),
+    (b"JCB", Mnemonic::Jump(JumpTest::RloSaved(true))),
+    (b"JNB", Mnemonic::Jump(JumpTest::RloSaved(false))),
+    (b"JBI", Mnemonic::Jump(JumpTest::Br(true))),
+    (b"JNBI", Mnemonic::Jump(JumpTest::Br(false))),
+    (b"JO", Mnemonic::Jump(JumpTest::Overflow)),
+    (b"JOS", Mnemonic::Jump(JumpTest::StoredOverflow)),
+    (b"JZ", Mnemonic::Jump(JumpTest::Result(Test::Eq))),
+    (b"JN", Mnemonic::Jump(JumpTest::Result(Test::Ne))),
+    (b"JP", Mnemonic::Jump(JumpTest::Result(Test::Gt))),
+    (b"JM", Mnemonic::Jump(JumpTest::Result(Test::Lt))),
+    (b"JPZ", Mnemonic::Jump(JumpTest::Result(Test::Ge))),
+    (b"JMZ", Mnemonic::Jump(JumpTest::Result(Test::Le))),
+    (b"JUO", Mnemonic::Jump(JumpTest::Result(Test::Uo))),
+    (b"LOOP", Mnemonic::Loop),
+    (b"JL", Mnemonic::JumpList),
+];
+
+/// The label that each of these jumps has.
+const TARGET: &[u8] = b"Ju_1";
+
+static BLOCK_ENDS: [Case; 3] = [
+    (b"BE", b"BE", Mnemonic::BlockEnd, Nothing),
+    (b"BEU", b"BEU", Mnemonic::BlockEnd, Nothing),
+    (b"bec", b"BEC", Mnemonic::BlockEndIf, Nothing),
+];
+
+/// A statement with a label, the label, and the name of its mnemonic.
+type Labelled = (&'static [u8], &'static [u8], &'static [u8]);
+
+static LABELS: [Labelled; 6] = [
+    (b"a: SET", b"a", b"SET"),
+    (b"A1_z :jc a", b"A1_z", b"JC"),
+    (b"_\n:\nBE", b"_", b"BE"),
+    (b"A: A I 0.0", b"A", b"A"),
+    (b"loop: LOOP loop", b"loop", b"LOOP"),
+    (b"x: = Q 4.0", b"x", b"="),
+];
+
+/// The label that an operand is.
+fn label_in(operand: &RawOperand) -> &[u8] {
+    match operand {
+        RawOperand::Label(label) => label.as_slice(),
+        _ => b"",
+    }
+}
+
+/// The label before an instruction.
+fn label_before(raw: &RawInstr) -> &[u8] {
+    match &raw.label {
+        Some(label) => label.as_slice(),
+        None => b"",
+    }
+}
+
+fn wants_jump(rt: &impl Abort, alloc: Global, jump: &Jump) -> Result<(), Rejection> {
+    let (name, what) = jump;
+    let text = statement(alloc, name, TARGET)?;
+    let found = read(alloc, text.as_slice())?;
+    wants_text(rt, name, found.op.mnemonic.as_slice(), name);
+    wants_text(rt, name, label_in(&found.op.operand), TARGET);
+    wants(rt, name, &mnemonic_named(name), &Some(*what));
+    Ok(())
+}
+
+fn want_jumps(rt: &impl Abort, alloc: Global, rows: &[Jump]) -> Result<(), Rejection> {
+    for jump in rows {
+        wants_jump(rt, alloc, jump)?;
+    }
+    Ok(())
+}
+
+fn want_labels(rt: &impl Abort, alloc: Global, rows: &[Labelled]) -> Result<(), Rejection> {
+    for (text, label, name) in rows {
+        let found = read(alloc, text)?;
+        wants_text(rt, text, label_before(&found), label);
+        wants_text(rt, text, found.op.mnemonic.as_slice(), name);
+    }
+    Ok(())
+}
+
+#[test]
+fn reads_jumps_and_labels(rt: HostRuntime) -> Result<(), Fail> {
+    want_jumps(&rt, rt.alloc(), &JUMPS)?;
+    want_instructions(&rt, rt.alloc(), &BLOCK_ENDS)?;
+    want_labels(&rt, rt.alloc(), &LABELS)?;
     Ok(())
 }
 

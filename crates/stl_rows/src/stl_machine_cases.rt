@@ -10,7 +10,7 @@ use std::alloc::Global;
 use std::process::Abort;
 use std::test::Fail;
 use stl_machine::{Machine, MachineRefusal};
-use stl_tree::{BitArg, Block, BlockName, LoadArg, Op, OpenArg, Operand, Program};
+use stl_tree::{BitArg, Block, BlockName, JumpTest, LoadArg, Op, OpenArg, Operand, Program};
 
 const ENDED: Outcome = Outcome::Ended(None);
 
@@ -103,6 +103,53 @@ fn the_end_word_is_a_step(rt: HostRuntime) -> Result<(), Fail> {
     let alloc = rt.alloc();
     let program = program(alloc, Vec::new(alloc))?;
     wants_portions(&rt, alloc, &program, &END_WORD)
+}
+
+const L_1: Op = Op::Load(LoadArg::Constant(1));
+
+const L_2: Op = Op::Load(LoadArg::Constant(2));
+
+/// Portions of a run that makes two turns of a LOOP before it sets the output.
+static TURNS: [&[Portion]; 3] = [
+    &[(5, GOING, 1), (1, ENDED, 1)],
+    &[(1, GOING, 0), (1, GOING, 0), (1, GOING, 0), (3, ENDED, 1)],
+    &[(2, GOING, 0), (0, GOING, 0), (u64::MAX, ENDED, 1)],
+];
+
+/// Portions of a run that goes on at the second JU of a list, and that JU is a step.
+static CHOICES: [&[Portion]; 2] = [
+    &[(2, GOING, 0), (1, GOING, 0), (2, GOING, 1), (1, ENDED, 1)],
+    &[(6, ENDED, 1)],
+];
+
+/// Portions of a run that a block end under a condition ends.
+static END_IF: [&[Portion]; 2] = [
+    &[(2, GOING, 1), (1, ENDED, 1), (1, ENDED, 1)],
+    &[(u64::MAX, ENDED, 1)],
+];
+
+/// Portions of a run that is a jump to itself.
+static ENDLESS: [&[Portion]; 1] = [&[(0, GOING, 0), (1, GOING, 0), (100_000, GOING, 0)]];
+
+#[test]
+fn jumps_go_on_where_they_lead_in_any_portions(rt: HostRuntime) -> Result<(), Fail> {
+    let alloc = rt.alloc();
+    let counted = program(alloc, vec![in alloc; L_2, Op::Loop(1), AN, STORE]?)?;
+    want_portions(&rt, alloc, &counted, &TURNS)?;
+    let (to_end, to_label) = (Op::Jump(JumpTest::Always, 5), Op::Jump(JumpTest::Always, 4));
+    let list = Op::JumpList(2, 4);
+    let chosen = program(
+        alloc,
+        vec![in alloc; L_1, list, to_end, to_label, AN, STORE]?,
+    )?;
+    want_portions(&rt, alloc, &chosen, &CHOICES)?;
+    let ended = program(
+        alloc,
+        vec![in alloc; AN, STORE, Op::BlockEndIf, STORE_NEXT]?,
+    )?;
+    want_portions(&rt, alloc, &ended, &END_IF)?;
+    let endless = program(alloc, vec![in alloc; Op::Jump(JumpTest::Always, 0)]?)?;
+    want_portions(&rt, alloc, &endless, &ENDLESS)
 }
 
 /// Blocks with two OB 1 among them, which do not do the same.
