@@ -117,7 +117,7 @@ note_row() {
 
 # Counts the first word of what is not supported: of several statements on a line that of the one that is it.
 count_word() {
-    local statement word form='^([A-Za-z_][A-Za-z0-9_]*) ?:[^=](.*)' statements parts
+    local statement word form='^[[:blank:]]*([A-Za-z_][A-Za-z0-9_]*)[[:blank:]]*:[^=](.*)' statements parts
     statement=${1%%//*}
     statement=${statement%"${statement##*[! ]}"}
     IFS=';' read -r -a statements <<< "$statement"
@@ -127,15 +127,11 @@ count_word() {
             statement=${statements[0]}
         done
     fi
-    if [[ "$statement " =~ $form ]]; then
-        word=label
-        [[ $reason == *NotBuilt* ]] || word=${BASH_REMATCH[2]##* OF }
-    else
-        word=$statement
-    fi
-    read -r -a parts <<< "${word//[(;]/ }"
+    # (behind a label, or the name of a declaration)
+    [[ ! "$statement " =~ $form ]] || statement=${BASH_REMATCH[2]##* OF }
+    read -r -a parts <<< "${statement//[(;]/ }"
     word=${parts[0]-nothing}
-    [[ $word == label ]] || word=${word^^}
+    word=${word^^}
     words[$word]=$((${words[$word]-0} + 1))
 }
 

@@ -138,6 +138,10 @@ look_in_body() {
     stands_before BEGIN 'ORGANIZATION_BLOCK|DATA_BLOCK|FUNCTION|END_|VAR|STRUCT|SYMBOL_TABLE'
 }
 
+look_in_code() {
+    look_in_body && ! look_in_data
+}
+
 look_before_begin() {
     stands_before 'ORGANIZATION_BLOCK|FUNCTION|VAR|END_VAR' 'BEGIN|END_[OFD]'
 }

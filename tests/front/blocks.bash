@@ -40,7 +40,7 @@ ORGANIZATION_BLOCK OB 3
 OPN "Recipe";
 END_ORGANIZATION_BLOCK
 ORGANIZATION_BLOCK OB 4
-m1: A I 0.0; // REFUSE Unsupported(NotBuilt)
+m1: UC FC 99; // REFUSE Unsupported(NotBuilt)
 ORGANIZATION_BLOCK OB 5
 BEGIN A I 0.0;
 END
@@ -56,7 +56,7 @@ code.awl:13: OB 2: Unsupported(NotBuilt): CALL "Sub"; // REFUSE Unsupported(NotB
 code.awl:16: OB 3, where DB 11 "Bad" is not accepted: UnknownName: L "Bad".x; // REFUSE UnknownName
 code.awl:18: text outside the blocks: BadStatement: A I 0.0; // REFUSE BadStatement
 code.awl:19: OB 3: DuplicateBlock: ORGANIZATION_BLOCK OB 3
-code.awl:23: OB 4: Unsupported(NotBuilt): m1: A I 0.0; // REFUSE Unsupported(NotBuilt)
+code.awl:23: OB 4: Unsupported(NotBuilt): m1: UC FC 99; // REFUSE Unsupported(NotBuilt)
 code.awl:24: OB 5: accepted
 OB: 1 of 6 are accepted
 FB: 1 of 1 are accepted
@@ -73,7 +73,7 @@ not supported, by the first word:
 2 A
 1 CALL
 1 REAL
-1 label'
+1 UC'
 says "where more is said" "explain NAME' says what to change"
 
 # What a block takes along stands in its text.

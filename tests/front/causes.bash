@@ -68,6 +68,7 @@ silent_of BadToken '@A I 0.0; // \xC3\xA4 U E 0.0 %I0.0' "a comment is no cause"
 silent_of BadToken '@A "\xC3\xA4\xA0"; // "' "what stands in quotes is no cause"
 silent_of BadOperand '@A MW 0;' "an operand without a name has no symbol"
 silent_of 'Unsupported(NotBuilt)' '@SLW 16;' "a number that is too great is left to the page"
+silent_of BadStatement 'END_ORGANIZATION_BLOCK\nDATA_BLOCK DB 1\nSTRUCT\n x : INT;\nEND_STRUCT;\nBEGIN\n@x := y;\nEND_DATA_BLOCK' "an initial value is no label"
 said_of BadToken '@A \xE2\x80\x9EF\xC3\xB6\xE2\x80\x9C;' 'the bytes E2 80 9E at column 3 are a typographic quote: put the plain " or '"'"' there: A <E2 80 9E>Fö“;'
 said_of BadToken '@\tA "F\xC3\xB6";\xC2\xA0= M 0.0;' 'the bytes C2 A0 at column 9 are a no-break space: put a plain blank there: A "Fö";<C2 A0>= M 0.0;'
 said_of BadToken '@A I\0 0.0;' 'the byte at column 4 is a NUL: delete it, or save the file as plain text: A I<00> 0.0;'
