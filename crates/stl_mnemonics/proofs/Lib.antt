@@ -1,1 +1,2 @@
+mod LowBitsLaws
 mod TableLaws

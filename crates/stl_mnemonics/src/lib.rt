@@ -2,13 +2,14 @@
 //! is.
 //!
 //! Uses `stl_constants` for tests of words and signs, and `stl_statement_grammar`, which has the table as its
-//! definition. One look-up serves all lines of the table, and the code's table is proved to be the defined
-//! one as a whole; `mnemonics_are_longest` is the law that of two mnemonics that begin a statement the longer
-//! one is found.
+//! definition. The code keeps the table by the first byte of a line, so that a look-up walks few lines; each
+//! part is proved to be that of the defined table. `mnemonics_are_longest` is the law that of two mnemonics
+//! that begin a statement the longer one is found.
 #![tactic(auto)]
 
 pub use laws::mnemonics_are_longest;
 pub use table::{Row, begins_with_mnemonic, goes_on, mnemonic_at, mnemonic_named};
 
 mod laws;
+mod rows;
 mod table;
