@@ -171,7 +171,7 @@ module _ (g : List Located) (frames : Frames) (now : Now) (s : State) (related :
 
 -- L of an operand, which is fetched before ACCU1 moves to ACCU2
 pub load_does : (g : List Located) (frames : Frames) (now : Now) (s : State) → Related frames now s
-    → (calls : Calls) (units used : ℕ) (o : Operand) (w : Width) → IsOperand w o
+    → (calls : Calls) (units used : ℕ) (o : Operand) (w : Width) → IsOperand frames.formals w o
     → used + length (types_fetched o w) ≤ length (own_of s.activations)
     → DoesInstruction (body_meaning g calls (load_of used (arg.At o w)) units s) units used frames s now.memory (loaded_from (arg.At o w) now)
 load_does g frames now s related calls units used o w lies room =

@@ -78,7 +78,7 @@ module _ (g : List Located) (frames : Frames) (calls : Calls) (units : ℕ) (q :
           }
 
   pub word_does : (now : Now) (s : State) → Related frames now s → (used : ℕ) (o : Operand)
-      → IsOperand width.Word o → used + length (types_fetched o width.Word) ≤ length (own_of s.activations)
+      → IsOperand frames.formals width.Word o → used + length (types_fetched o width.Word) ≤ length (own_of s.activations)
       → DoesInstruction (body_meaning g calls (block_open_of used q (arg.At o)) units s) units used frames s now.memory (block_opened row (arg.At o) now)
   word_does now s related used o lies room =
       fetch_effect g calls units frames now s related used o width.Word lies (read_number width.Word) (number_value width.Word) (number_shown width.Word)

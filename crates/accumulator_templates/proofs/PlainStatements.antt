@@ -10,7 +10,7 @@ use Rattle.s7_base.specs.declared.register.Reg.TheVariants as reg
 use Rattle.s7_base.specs.declared.word.Width.{Width}
 use Rattle.s7_base.specs.declared.word.Width.TheVariants as width
 use Rattle.memory_areas.specs.Access.{bits_wide}
-use Rattle.stl_tree.specs.Accepted.{HasOperand, IsOfWidth, IsOpenArg}
+use Rattle.stl_tree.specs.Accepted.{HasOperand, IsOfWidth, IsOpenArg, Widths}
 use Rattle.stl_tree.specs.Reads.{is_fixed}
 use Rattle.stl_tree.specs.WordLogic.{width_of}
 use Rattle.stl_tree.specs.declared.accumulator.LogicRow.{LogicRow}
@@ -42,7 +42,7 @@ use Rattle.accumulator_templates.specs.Sums.{add_dword_of, add_word_of, dec_of, 
 use Rattle.template_parts.specs.Builders.{constant_of, convert_of, read_of, set_of}
 use Rattle.template_parts.specs.Fetching.{fetched_value_of, types_reached, writing_of}
 use Rattle.template_parts.proofs.FetchBounds.{fetch_plain, fetched_is, reach_plain, writing_plain}
-use Rattle.template_parts.specs.Templates.{AreTyped, IsPlainBody}
+use Rattle.template_parts.specs.Templates.{AreTyped, HasFormals, IsPlainBody}
 use Rattle.template_parts.proofs.Typing.{IsOf, binary_is, constant_is, convert_is, first_typed, literal_is, local_is, local_plain, more, register_is, select_is, set_plain, shift_is, unary_is}
 
 -- constants of their types
@@ -167,19 +167,21 @@ module _ (sight : UnitScope) where
     taken_plain : {n : ℕ} (e : Expr) → n ≤ 32 → IsOf sight type.Dword n e → IsPlainBody sight (taken_of e ++ rest)
     taken_plain e small h = set_plain sight reg.Accu2 (read_of reg.Accu1) (set_of reg.Accu1 e ∷ rest) (omega arith) one_is (one_plain e small h)
 
-    pub load_plain : (first : ℕ) (a : LoadArg) → HasOperand (op.Load a) → AreTyped sight first (types_of_load a) → IsPlainBody sight (load_of first a ++ rest)
-    load_plain first (arg.At o w) h own =
+    pub load_plain : (formals : Widths) → HasFormals sight formals → (first : ℕ) (a : LoadArg)
+        → HasOperand formals (op.Load a) → AreTyped sight first (types_of_load a) → IsPlainBody sight (load_of first a ++ rest)
+    load_plain formals named first (arg.At o w) h own =
         let e : Expr = fetched_value_of first o w in
-        fetch_plain sight first o w (taken_of (zero_extension_of w e)) rest h.1 own
-        (taken_plain (zero_extension_of w e) (omega arith) (extended_is w (fetched_is sight first o w h.1 own)))
-    load_plain first (arg.Constant c) h own = taken_plain (dword_of c) (omega arith) (constant_is sight (dword_value c h))
+        fetch_plain sight formals named first o w (taken_of (zero_extension_of w e)) rest h.1 own
+        (taken_plain (zero_extension_of w e) (omega arith) (extended_is w (fetched_is sight formals named first o w h.1 own)))
+    load_plain formals named first (arg.Constant c) h own = taken_plain (dword_of c) (omega arith) (constant_is sight (dword_value c h))
 
-    pub transfer_plain : (first : ℕ) (o : Operand) (w : Width) → HasOperand (op.Transfer o w) → AreTyped sight first (types_reached o)
+    pub transfer_plain : (formals : Widths) → HasFormals sight formals → (first : ℕ) (o : Operand) (w : Width)
+        → HasOperand formals (op.Transfer o w) → AreTyped sight first (types_reached o)
         → IsPlainBody sight (transfer_of first o w ++ rest)
-    transfer_plain first o w h own =
+    transfer_plain formals named first o w h own =
         let e : Expr = lowest_bits_of w (read_of reg.Accu1) in
-        reach_plain sight first o w (writing_of first o w e ∷ []) rest h.1 own
-        (writing_plain sight first o w e rest (omega arith) h.1 own (cut_is w one_is) plain)
+        reach_plain sight formals named first o w (writing_of first o w e ∷ []) rest h.1 own
+        (writing_plain sight formals named first o w e rest (omega arith) h.1 own (cut_is w one_is) plain)
 
     pub status_load_plain : IsPlainBody sight (status_load_of ++ rest)
     status_load_plain =
@@ -213,27 +215,30 @@ module _ (sight : UnitScope) where
     -- Numbers of data blocks
 
     -- OPN, of a register that is a WORD
-    block_open_plain : (r : Reg) → type_of_register r ≡ type.Word → (first : ℕ) (d : OpenArg) → IsOpenArg d → AreTyped sight first (types_of_block_open d)
+    block_open_plain : (formals : Widths) → HasFormals sight formals → (r : Reg) → type_of_register r ≡ type.Word
+        → (first : ℕ) (d : OpenArg) → IsOpenArg formals d → AreTyped sight first (types_of_block_open d)
         → IsPlainBody sight (block_open_of first r d ++ rest)
-    block_open_plain r t first d h own = by d h own
+    block_open_plain formals named r t first d h own = by d h own
       where
         takes : (e : Expr) → IsOf sight type.Word 1 e → IsPlainBody sight (set_of r e ∷ rest)
         takes e k = set_plain sight r e rest (omega arith) (subst (λ (ty : StType). IsOf sight ty 1 e) (sym t) k) plain
 
-        by : (d : OpenArg) → IsOpenArg d → AreTyped sight first (types_of_block_open d) → IsPlainBody sight (block_open_of first r d ++ rest)
+        by : (d : OpenArg) → IsOpenArg formals d → AreTyped sight first (types_of_block_open d) → IsPlainBody sight (block_open_of first r d ++ rest)
         by (open_arg.Number n) h own =
             let most : n ≤ 65535 = h.1 in takes (constant_of type.Word (pos n)) (constant_is sight (word_value n (omega arith)))
         by (open_arg.At o) h own =
-            fetch_plain sight first o width.Word (set_of r (fetched_value_of first o width.Word) ∷ []) rest h.1 own
-            (takes (fetched_value_of first o width.Word) (fetched_is sight first o width.Word h.1 own))
+            fetch_plain sight formals named first o width.Word (set_of r (fetched_value_of first o width.Word) ∷ []) rest h.1 own
+            (takes (fetched_value_of first o width.Word) (fetched_is sight formals named first o width.Word h.1 own))
 
-    pub open_db_plain : (first : ℕ) (d : OpenArg) → IsOpenArg d → AreTyped sight first (types_of_block_open d)
+    pub open_db_plain : (formals : Widths) → HasFormals sight formals → (first : ℕ) (d : OpenArg)
+        → IsOpenArg formals d → AreTyped sight first (types_of_block_open d)
         → IsPlainBody sight (block_open_of first reg.DbNo d ++ rest)
-    open_db_plain first d h own = block_open_plain reg.DbNo refl first d h own
+    open_db_plain formals named first d h own = block_open_plain formals named reg.DbNo refl first d h own
 
-    pub open_di_plain : (first : ℕ) (d : OpenArg) → IsOpenArg d → AreTyped sight first (types_of_block_open d)
+    pub open_di_plain : (formals : Widths) → HasFormals sight formals → (first : ℕ) (d : OpenArg)
+        → IsOpenArg formals d → AreTyped sight first (types_of_block_open d)
         → IsPlainBody sight (block_open_of first reg.DiNo d ++ rest)
-    open_di_plain first d h own = block_open_plain reg.DiNo refl first d h own
+    open_di_plain formals named first d h own = block_open_plain formals named reg.DiNo refl first d h own
 
     pub block_exchange_plain : (first : ℕ) → AreTyped sight first types_of_block_exchange → IsPlainBody sight (block_exchange_of first ++ rest)
     block_exchange_plain first own =
@@ -295,7 +300,7 @@ module _ (sight : UnitScope) where
         (result_plain _ _ (omega arith) (omega arith)
         (binary_is sight binary.Ne tt refl (local_is sight own) (zero_is (width_of l))) (placed_is l _ (local_is sight own)))
 
-    pub logic_plain : (first : ℕ) (l : LogicRow) (c : Option ℕ) → HasOperand (op.Logic l c) → AreTyped sight first (types_of_logic l c)
+    pub logic_plain : (first : ℕ) (l : LogicRow) (c : Option ℕ) → HasOperand [] (op.Logic l c) → AreTyped sight first (types_of_logic l c)
         → IsPlainBody sight (logic_of first l c ++ rest)
     logic_plain first l None h own = computed_plain first l None h (first_typed sight first (type_of_logic l) [] own)
     logic_plain first l (Some c) h own = by (is_fixed l c) own

@@ -1,9 +1,9 @@
 -- The statements of each instruction serve it: they do its row of the instruction table, and are a template.
-use Rattle.std.proofs.Common.{◌≡◌, ℕ, ◌≤◌, List, [], ◌++◌, length, refl, sym, subst, arith}
+use Rattle.std.proofs.Common.{◌≡◌, ℕ, ◌+◌, ◌^◌, ◌<◌, ◌≤◌, List, [], ◌++◌, length, refl, sym, subst, arith}
 use Rattle.std.specs.Prelude.{ℤ}
 use Rattle.s7_base.specs.declared.register.Reg.{Reg}
 use Rattle.s7_base.specs.declared.register.Reg.TheVariants as reg
-use Rattle.stl_tree.specs.Accepted.{HasOperand}
+use Rattle.stl_tree.specs.Accepted.{HasOperand, Widths}
 use Rattle.stl_tree.specs.DataBlocks.{db_opened, di_opened}
 use Rattle.stl_tree.specs.Instructions.{effect_of, on_registers}
 use Rattle.stl_tree.specs.Now.{Now}
@@ -16,8 +16,8 @@ use Rattle.stl_tree.specs.declared.program.Op.{Op}
 use Rattle.stl_tree.specs.declared.program.Op.TheVariants as op
 use Rattle.stl_tree.specs.declared.program.OpenArg.{OpenArg}
 use Rattle.stl_tree.specs.declared.program.OpenArg.TheVariants as open_arg
-use Rattle.st_tree.specs.Meaning.{body_meaning}
-use Rattle.st_tree.specs.State.{State}
+use Rattle.st_tree.specs.Meaning.{Calls, body_meaning}
+use Rattle.st_tree.specs.State.{State, own_of}
 use Rattle.st_tree.specs.WellTyped.{UnitScope}
 use Rattle.st_tree.specs.declared.expr.StType.{StType}
 use Rattle.st_tree.specs.declared.program.Located.{Located}
@@ -25,7 +25,8 @@ use Rattle.st_tree.specs.declared.program.Stmt.{Stmt}
 use Rattle.instruction_laws.specs.Ranges.{AreInRange}
 use Rattle.graph_rules.proofs.Runs.{locals_set}
 use Rattle.template_parts.specs.DoesInstruction.{DoesInstruction}
-use Rattle.template_parts.specs.Templates.{AreTyped, Do, IsPlainBody, Serves}
+use Rattle.template_parts.specs.Related.{Frames, Related}
+use Rattle.template_parts.specs.Templates.{AreTyped, Do, HasFormals, IsPlainBody, Serves}
 use Rattle.template_parts.proofs.Obligations.{HasSizes, by_sizes}
 use Rattle.template_parts.proofs.ReadRegisters.{AllRead, Has}
 use Rattle.template_parts.proofs.RegisterEffects.{HasRegisterEffect, does_effect}
@@ -50,34 +51,49 @@ use Rattle.accumulator_templates.proofs.TransferEffects.{transfer_does}
 by_effect : (o : Op) (first : ℕ) (types : List StType) (body : List Stmt) (row : RegisterValues → RegisterValues) → locals_set body ≡ length types
     → ((g : List Located) (s : State) (r : RegisterValues) (sta : ℤ) → AreInRange r → HasRegisterEffect g s first body r (row r) sta)
     → ((now : Now) → effect_of o now ≡ on_registers row now) → Do o first types body
-by_effect o first types body row sets is_effect effect g calls units frames now s related room =
+by_effect o first types body row sets is_effect effect g calls units frames now s operand related room =
     subst (DoesInstruction (body_meaning g calls body units s) units first frames s now.memory) (sym (effect now))
     (does_effect g s first calls units body frames now (row now.registers) related
     (is_effect g s now.registers (s.registers reg.Sta) related.range) (omega arith))
 
-load_does : (a : LoadArg) (first : ℕ) → HasOperand (op.Load a) → Do (op.Load a) first (types_of_load a) (load_of first a)
-load_does (arg.At o w) first h = λ g calls units frames now s related room. place_loaded g frames now s related calls units first o w h.1 room
-load_does (arg.Constant c) first h =
-    by_effect (op.Load (arg.Constant c)) first [] _ _ refl (λ g s r sta range. constant_effect g s first r sta range c h) (λ now. refl)
+-- the same where the constant of the instruction has a range
+by_given : (o : Op) (first : ℕ) (types : List StType) (body : List Stmt) (row : RegisterValues → RegisterValues) → locals_set body ≡ length types
+    → (Given : Type 0)
+    → (Given → (g : List Located) (s : State) (r : RegisterValues) (sta : ℤ) → AreInRange r → HasRegisterEffect g s first body r (row r) sta)
+    → ((now : Now) → effect_of o now ≡ on_registers row now) → Given
+    → (g : List Located) (calls : Calls) (units : ℕ) (frames : Frames) (now : Now) (s : State) → Related frames now s
+    → first + length types ≤ length (own_of s.activations)
+    → DoesInstruction (body_meaning g calls body units s) units first frames s now.memory (effect_of o now)
+by_given o first types body row sets Given is_effect effect given g calls units frames now s related room =
+    subst (DoesInstruction (body_meaning g calls body units s) units first frames s now.memory) (sym (effect now))
+    (does_effect g s first calls units body frames now (row now.registers) related
+    (is_effect given g s now.registers (s.registers reg.Sta) related.range) (omega arith))
 
-open_db_does : (d : OpenArg) (first : ℕ) → HasOperand (op.OpenDb d) → Do (op.OpenDb d) first (types_of_block_open d) (block_open_of first reg.DbNo d)
-open_db_does (open_arg.Number n) first h =
-    let most : n ≤ 65535 = h.1 in
-    by_effect (op.OpenDb (open_arg.Number n)) first [] _ _ refl (λ g s r sta range. open_db_effect g s first r sta range n (omega arith)) (λ now. refl)
-open_db_does (open_arg.At o) first h = λ g calls units frames now s related room.
-    word_does g frames calls units reg.DbNo db_opened db_effect now s related first o h.1 room
+load_does : (a : LoadArg) (first : ℕ) → Do (op.Load a) first (types_of_load a) (load_of first a)
+load_does (arg.At o w) first = λ g calls units frames now s operand related room. place_loaded g frames now s related calls units first o w operand.1 room
+load_does (arg.Constant c) first = λ g calls units frames now s operand related room.
+    by_given (op.Load (arg.Constant c)) first [] _ _ refl (c < 2 ^ 32) (λ small g s r sta range. constant_effect g s first r sta range c small) (λ now. refl)
+    operand g calls units frames now s related room
 
-open_di_does : (d : OpenArg) (first : ℕ) → HasOperand (op.OpenDi d) → Do (op.OpenDi d) first (types_of_block_open d) (block_open_of first reg.DiNo d)
-open_di_does (open_arg.Number n) first h =
-    let most : n ≤ 65535 = h.1 in
-    by_effect (op.OpenDi (open_arg.Number n)) first [] _ _ refl (λ g s r sta range. open_di_effect g s first r sta range n (omega arith)) (λ now. refl)
-open_di_does (open_arg.At o) first h = λ g calls units frames now s related room.
-    word_does g frames calls units reg.DiNo di_opened di_effect now s related first o h.1 room
+open_db_does : (d : OpenArg) (first : ℕ) → Do (op.OpenDb d) first (types_of_block_open d) (block_open_of first reg.DbNo d)
+open_db_does (open_arg.Number n) first = λ g calls units frames now s operand related room.
+    by_given (op.OpenDb (open_arg.Number n)) first [] _ _ refl (n < 2 ^ 16)
+    (λ small g s r sta range. open_db_effect g s first r sta range n small) (λ now. refl) (omega (arith, operand.1)) g calls units frames now s related room
+open_db_does (open_arg.At o) first = λ g calls units frames now s operand related room.
+    word_does g frames calls units reg.DbNo db_opened db_effect now s related first o operand.1 room
+
+open_di_does : (d : OpenArg) (first : ℕ) → Do (op.OpenDi d) first (types_of_block_open d) (block_open_of first reg.DiNo d)
+open_di_does (open_arg.Number n) first = λ g calls units frames now s operand related room.
+    by_given (op.OpenDi (open_arg.Number n)) first [] _ _ refl (n < 2 ^ 16)
+    (λ small g s r sta range. open_di_effect g s first r sta range n small) (λ now. refl) (omega (arith, operand.1)) g calls units frames now s related room
+open_di_does (open_arg.At o) first = λ g calls units frames now s operand related room.
+    word_does g frames calls units reg.DiNo di_opened di_effect now s related first o operand.1 room
 
 -- an instruction, by what is shown of its statements one thing at a time
 module _ (o : Op) (first : ℕ) (types : List StType) (body : List Stmt) (sizes : HasSizes first types body)
     (reads : (P : Reg → Type 0) → Has P (reads_of o) → AllRead P (body ++ []))
-    (plain : (sight : UnitScope) → AreTyped sight first types → IsPlainBody sight (body ++ [])) where
+    (plain : (sight : UnitScope) (formals : Widths) → HasFormals sight formals → HasOperand formals o → AreTyped sight first types
+    → IsPlainBody sight (body ++ [])) where
   serves : Do o first types body → Serves o first types body
   serves does = by_sizes o first types body sizes does reads plain
 
@@ -89,89 +105,89 @@ module _ (o : Op) (first : ℕ) (types : List StType) (body : List Stmt) (sizes 
 pub accumulator_serves : AccumulatorServes
 accumulator_serves =
     record {
-      load = λ a first h.
+      load = λ a first.
           serves (op.Load a) first _ _ (load_few first a) (λ P has. load_reads P [] tt first a has)
-          (λ sight typed. load_plain sight [] (no_statement sight) first a h typed) (load_does a first h);
-      transfer = λ o w first h.
+          (λ sight formals named operand typed. load_plain sight [] (no_statement sight) formals named first a operand typed) (load_does a first);
+      transfer = λ o w first.
           serves (op.Transfer o w) first _ _ (transfer_few first o w) (λ P has. transfer_reads P [] tt first o w has)
-          (λ sight typed. transfer_plain sight [] (no_statement sight) first o w h typed)
-          (λ g calls units frames now s related room. transfer_does g frames now s related calls units first o w h.1 room);
+          (λ sight formals named operand typed. transfer_plain sight [] (no_statement sight) formals named first o w operand typed)
+          (λ g calls units frames now s operand related room. transfer_does g frames now s related calls units first o w operand.1 room);
       status_load = λ first.
           effect_serves op.LoadStw first _ _ (status_load_few first) (λ P has. status_load_reads P [] tt has)
-          (λ sight typed. status_load_plain sight [] (no_statement sight))
+          (λ sight formals named operand typed. status_load_plain sight [] (no_statement sight))
           _ (λ g s r sta range. status_load_effect g s first r sta range) (λ now. refl);
       status_store = λ first.
           effect_serves op.TransferStw first _ _ (status_store_few first) (λ P has. status_store_reads P [] tt has)
-          (λ sight typed. status_store_plain sight [] (no_statement sight))
+          (λ sight formals named operand typed. status_store_plain sight [] (no_statement sight))
           _ (λ g s r sta range. status_store_effect g s first r sta range) (λ now. refl);
       exchange = λ first.
           effect_serves op.Tak first _ _ (exchange_few first) (λ P has. exchange_reads P [] tt first has)
-          (λ sight typed. exchange_plain sight [] (no_statement sight) first typed)
+          (λ sight formals named operand typed. exchange_plain sight [] (no_statement sight) first typed)
           _ (λ g s r sta range. exchange_effect g s first r sta range) (λ now. refl);
       push = λ first.
           effect_serves op.Push first _ _ (push_few first) (λ P has. push_reads P [] tt has)
-          (λ sight typed. push_plain sight [] (no_statement sight))
+          (λ sight formals named operand typed. push_plain sight [] (no_statement sight))
           _ (λ g s r sta range. push_effect g s first r sta range) (λ now. refl);
       pop = λ first.
           effect_serves op.Pop first _ _ (pop_few first) (λ P has. pop_reads P [] tt has)
-          (λ sight typed. pop_plain sight [] (no_statement sight))
+          (λ sight formals named operand typed. pop_plain sight [] (no_statement sight))
           _ (λ g s r sta range. pop_effect g s first r sta range) (λ now. refl);
-      open_db = λ d first h.
+      open_db = λ d first.
           serves (op.OpenDb d) first _ _ (block_open_few first reg.DbNo d) (λ P has. block_open_reads P [] tt first reg.DbNo d has)
-          (λ sight typed. open_db_plain sight [] (no_statement sight) first d h typed) (open_db_does d first h);
-      open_di = λ d first h.
+          (λ sight formals named operand typed. open_db_plain sight [] (no_statement sight) formals named first d operand typed) (open_db_does d first);
+      open_di = λ d first.
           serves (op.OpenDi d) first _ _ (block_open_few first reg.DiNo d) (λ P has. block_open_reads P [] tt first reg.DiNo d has)
-          (λ sight typed. open_di_plain sight [] (no_statement sight) first d h typed) (open_di_does d first h);
+          (λ sight formals named operand typed. open_di_plain sight [] (no_statement sight) formals named first d operand typed) (open_di_does d first);
       block_exchange = λ first.
           effect_serves op.ExchangeDb first _ _ (block_exchange_few first) (λ P has. block_exchange_reads P [] tt first has)
-          (λ sight typed. block_exchange_plain sight [] (no_statement sight) first typed)
+          (λ sight formals named operand typed. block_exchange_plain sight [] (no_statement sight) first typed)
           _ (λ g s r sta range. block_exchange_effect g s first r sta range) (λ now. refl);
       db_number_load = λ first.
           effect_serves op.LoadDbNo first _ _ (number_load_few first reg.DbNo) (λ P has. number_load_reads P [] tt reg.DbNo has)
-          (λ sight typed. db_number_load_plain sight [] (no_statement sight))
+          (λ sight formals named operand typed. db_number_load_plain sight [] (no_statement sight))
           _ (λ g s r sta range. db_number_effect g s first r sta range) (λ now. refl);
       di_number_load = λ first.
           effect_serves op.LoadDiNo first _ _ (number_load_few first reg.DiNo) (λ P has. number_load_reads P [] tt reg.DiNo has)
-          (λ sight typed. di_number_load_plain sight [] (no_statement sight))
+          (λ sight formals named operand typed. di_number_load_plain sight [] (no_statement sight))
           _ (λ g s r sta range. di_number_effect g s first r sta range) (λ now. refl);
-      add_word = λ n first h.
+      add_word = λ n first.
           effect_serves (op.AddWord n) first _ _ (add_word_few first n) (λ P has. add_word_reads P [] tt n has)
-          (λ sight typed. add_word_plain sight [] (no_statement sight) n h)
+          (λ sight formals named operand typed. add_word_plain sight [] (no_statement sight) n operand)
           _ (λ g s r sta range. add_word_effect g s first r sta range n) (λ now. refl);
-      add_dword = λ n first h.
+      add_dword = λ n first.
           effect_serves (op.AddDword n) first _ _ (add_dword_few first n) (λ P has. add_dword_reads P [] tt n has)
-          (λ sight typed. add_dword_plain sight [] (no_statement sight) n h)
+          (λ sight formals named operand typed. add_dword_plain sight [] (no_statement sight) n operand)
           _ (λ g s r sta range. add_dword_effect g s first r sta range n) (λ now. refl);
-      inc = λ n first h.
+      inc = λ n first.
           effect_serves (op.Inc n) first _ _ (inc_few first n) (λ P has. inc_reads P [] tt n has)
-          (λ sight typed. inc_plain sight [] (no_statement sight) n h)
+          (λ sight formals named operand typed. inc_plain sight [] (no_statement sight) n operand)
           _ (λ g s r sta range. inc_effect g s first r sta range n) (λ now. refl);
-      dec = λ n first h.
+      dec = λ n first.
           effect_serves (op.Dec n) first _ _ (dec_few first n) (λ P has. dec_reads P [] tt n has)
-          (λ sight typed. dec_plain sight [] (no_statement sight) n h)
+          (λ sight formals named operand typed. dec_plain sight [] (no_statement sight) n operand)
           _ (λ g s r sta range. dec_effect g s first r sta range n) (λ now. refl);
-      logic = λ l c first h.
+      logic = λ l c first.
           effect_serves (op.Logic l c) first _ _ (logic_few first l c) (λ P has. logic_reads P [] tt first l c has)
-          (λ sight typed. logic_plain sight [] (no_statement sight) first l c h typed)
+          (λ sight formals named operand typed. logic_plain sight [] (no_statement sight) first l c operand typed)
           _ (λ g s r sta range. logic_effect g s first r sta range l c) (λ now. refl);
       itd = λ first.
           effect_serves (op.Unary unary.Itd) first _ _ (itd_few first) (λ P has. itd_reads P [] tt has)
-          (λ sight typed. itd_plain sight [] (no_statement sight))
+          (λ sight formals named operand typed. itd_plain sight [] (no_statement sight))
           _ (λ g s r sta range. itd_effect g s first r sta range) (λ now. refl);
       invi = λ first.
           effect_serves (op.Unary unary.Invi) first _ _ (invi_few first) (λ P has. invi_reads P [] tt has)
-          (λ sight typed. invi_plain sight [] (no_statement sight))
+          (λ sight formals named operand typed. invi_plain sight [] (no_statement sight))
           _ (λ g s r sta range. invi_effect g s first r sta range) (λ now. refl);
       invd = λ first.
           effect_serves (op.Unary unary.Invd) first _ _ (invd_few first) (λ P has. invd_reads P [] tt has)
-          (λ sight typed. invd_plain sight [] (no_statement sight))
+          (λ sight formals named operand typed. invd_plain sight [] (no_statement sight))
           _ (λ g s r sta range. invd_effect g s first r sta range) (λ now. refl);
       caw = λ first.
           effect_serves (op.Unary unary.Caw) first _ _ (caw_few first) (λ P has. caw_reads P [] tt has)
-          (λ sight typed. caw_plain sight [] (no_statement sight))
+          (λ sight formals named operand typed. caw_plain sight [] (no_statement sight))
           _ (λ g s r sta range. caw_effect g s first r sta range) (λ now. refl);
       cad = λ first.
           effect_serves (op.Unary unary.Cad) first _ _ (cad_few first) (λ P has. cad_reads P [] tt has)
-          (λ sight typed. cad_plain sight [] (no_statement sight))
+          (λ sight formals named operand typed. cad_plain sight [] (no_statement sight))
           _ (λ g s r sta range. cad_effect g s first r sta range) (λ now. refl);
     }

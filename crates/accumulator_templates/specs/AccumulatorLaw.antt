@@ -20,27 +20,27 @@ use Rattle.accumulator_templates.specs.Sums.{add_dword_of, add_word_of, dec_of, 
 -- the statements of each instruction serve it, with their locals from any one on, where it has an operand and
 -- constants that an accepted program may give it
 pub record AccumulatorServes : Type 0 where
-  pub load : (a : LoadArg) (first : ℕ) → HasOperand (op.Load a)
+  pub load : (a : LoadArg) (first : ℕ)
       → Serves (op.Load a) first (types_of_load a) (load_of first a)
-  pub transfer : (o : Operand) (w : Width) (first : ℕ) → HasOperand (op.Transfer o w)
+  pub transfer : (o : Operand) (w : Width) (first : ℕ)
       → Serves (op.Transfer o w) first (types_reached o) (transfer_of first o w)
   pub status_load : (first : ℕ) → Serves op.LoadStw first [] status_load_of
   pub status_store : (first : ℕ) → Serves op.TransferStw first [] status_store_of
   pub exchange : (first : ℕ) → Serves op.Tak first types_of_exchange (exchange_of first)
   pub push : (first : ℕ) → Serves op.Push first [] push_of
   pub pop : (first : ℕ) → Serves op.Pop first [] pop_of
-  pub open_db : (d : OpenArg) (first : ℕ) → HasOperand (op.OpenDb d)
+  pub open_db : (d : OpenArg) (first : ℕ)
       → Serves (op.OpenDb d) first (types_of_block_open d) (block_open_of first reg.DbNo d)
-  pub open_di : (d : OpenArg) (first : ℕ) → HasOperand (op.OpenDi d)
+  pub open_di : (d : OpenArg) (first : ℕ)
       → Serves (op.OpenDi d) first (types_of_block_open d) (block_open_of first reg.DiNo d)
   pub block_exchange : (first : ℕ) → Serves op.ExchangeDb first types_of_block_exchange (block_exchange_of first)
   pub db_number_load : (first : ℕ) → Serves op.LoadDbNo first [] (number_load_of reg.DbNo)
   pub di_number_load : (first : ℕ) → Serves op.LoadDiNo first [] (number_load_of reg.DiNo)
-  pub add_word : (n : ℤ) (first : ℕ) → HasOperand (op.AddWord n) → Serves (op.AddWord n) first [] (add_word_of n)
-  pub add_dword : (n : ℤ) (first : ℕ) → HasOperand (op.AddDword n) → Serves (op.AddDword n) first [] (add_dword_of n)
-  pub inc : (n first : ℕ) → HasOperand (op.Inc n) → Serves (op.Inc n) first [] (inc_of n)
-  pub dec : (n first : ℕ) → HasOperand (op.Dec n) → Serves (op.Dec n) first [] (dec_of n)
-  pub logic : (l : LogicRow) (c : Option ℕ) (first : ℕ) → HasOperand (op.Logic l c)
+  pub add_word : (n : ℤ) (first : ℕ) → Serves (op.AddWord n) first [] (add_word_of n)
+  pub add_dword : (n : ℤ) (first : ℕ) → Serves (op.AddDword n) first [] (add_dword_of n)
+  pub inc : (n first : ℕ) → Serves (op.Inc n) first [] (inc_of n)
+  pub dec : (n first : ℕ) → Serves (op.Dec n) first [] (dec_of n)
+  pub logic : (l : LogicRow) (c : Option ℕ) (first : ℕ)
       → Serves (op.Logic l c) first (types_of_logic l c) (logic_of first l c)
   pub itd : (first : ℕ) → Serves (op.Unary unary.Itd) first [] itd_of
   pub invi : (first : ℕ) → Serves (op.Unary unary.Invi) first [] invi_of

@@ -19,5 +19,5 @@ pub record ArithmeticServes : Type 0 where
       → Serves (op.Unary unary.Negi) first (types_of_negated width.Word) (negated_of first width.Word)
   pub negd : (first : ℕ)
       → Serves (op.Unary unary.Negd) first (types_of_negated width.Dword) (negated_of first width.Dword)
-  pub compared : (t : Test) (w : Width) (first : ℕ) → HasOperand (op.Compare t w)
+  pub compared : (t : Test) (w : Width) (first : ℕ)
       → Serves (op.Compare t w) first (types_of_compared w) (compared_of first t w)

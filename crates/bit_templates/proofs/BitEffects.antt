@@ -1,7 +1,7 @@
 -- Checks, and what is stored in a bit: their statements do what their rows do. What they do once an operand was found
 -- is said of any bit at a place, in the state in which it was found.
-use Rattle.std.proofs.Common.{◌≡◌, ℕ, ◌+◌, ◌≤◌, pos, Bool, true, false, not, if◌then◌else◌, List, [], ◌∷◌, length, Result, Ok, Err, refl, sym, ap, ◌∙◌}
-use Rattle.std.specs.Prelude.{ℤ}
+use Rattle.std.proofs.Common.{◌≡◌, ℕ, ◌+◌, ◌≤◌, pos, Bool, true, false, not, if◌then◌else◌, List, [], ◌∷◌, length, Result, Ok, Err, refl, sym, ap, subst, ◌∙◌}
+use Rattle.std.specs.Prelude.{ℤ, slice_get}
 use Rattle.memory_areas.specs.Access.{and_then, read_bit, write_bit}
 use Rattle.memory_areas.specs.Areas.{Contents}
 use Rattle.memory_areas.specs.declared.place.Place.{Place}
@@ -29,17 +29,18 @@ use Rattle.st_tree.specs.declared.expr.StType.TheVariants as type
 use Rattle.st_tree.specs.declared.expr.Var.TheVariants as var
 use Rattle.st_tree.specs.declared.program.Located.{Located}
 use Rattle.st_tree.specs.declared.program.Stmt.{Stmt}
+use Rattle.st_tree.specs.declared.state.Value.{Value}
 use Rattle.st_tree.proofs.Equations.{assign_stops_at_value}
 use Rattle.bit_templates.specs.Bits.{assigned_of, behind_check, check_of, checked_bit_of, next_rlo, reset_value, running_chain, set_value, store_of, stored_of}
 use Rattle.template_parts.specs.Builders.{clear_or, literal_of, not_of, read_of}
 use Rattle.template_parts.specs.Fetching.{fetched_value_of, types_fetched, types_reached, writing_of}
-use Rattle.template_parts.specs.Related.{AreAlike, Frames, IsInMemory, Related, without_cells}
-use Rattle.template_parts.proofs.Cells.{write_alike, write_keeps_cells}
-use Rattle.template_parts.proofs.Alike.{keep_bits, keep_memory, same_areas}
+use Rattle.template_parts.specs.Related.{AreAlike, Frames, Related}
+use Rattle.template_parts.proofs.Alike.{keep_bits, same_areas}
 use Rattle.template_parts.specs.DoesInstruction.{DoesInstruction, Leads}
 use Rattle.template_parts.proofs.Fetching.{bit_shown, fetch_effect, reach_effect}
-use Rattle.template_parts.proofs.MemoryEffects.{Writes, keeps_itself, write_goes_on, write_stops_at_place, write_stops_at_value}
-use Rattle.template_parts.proofs.Operands.{bit_holds, cleared_registers, clears, rlo_worth, sets}
+use Rattle.template_parts.proofs.MemoryEffects.{keeps_itself}
+use Rattle.template_parts.proofs.Putting.{Puts, PutsAt, flag_fits}
+use Rattle.template_parts.proofs.Operands.{cleared_registers, clears, rlo_worth, sets}
 use Rattle.template_parts.proofs.Truths.{and_worth, left_stops, literal_worth, not_worth, or_worth}
 use Rattle.bit_templates.proofs.Chains.{chain_runs, checked_stops, checked_worth}
 
@@ -50,20 +51,6 @@ set_flag false = refl
 -- a bit is written at a place as a row writes it
 pub bit_written : (p : Place) (b : Bool) (m : Contents) → write_place type.Bool p (flag b) m ≡ write_bit p b m
 bit_written p b m = ap (λ (x : Bool). write_bit p x m) (set_flag b)
-
--- and so in the memory of a related state
-module _ (frames : Frames) (now : Now) (s : State) (related : Related frames now s) (p : Place) (lies : IsInMemory p.area) (b : Bool) where
-  pub bit_wrote : (memory : Result Contents Fault) → write_bit p b now.memory ≡ memory
-      → write_place type.Bool p (flag b) s.memory ≡ and_then memory (λ m. Ok (without_cells m))
-  bit_wrote memory w =
-      ap (write_place type.Bool p (flag b)) related.memory
-      ∙ write_alike p now.memory lies type.Bool (flag b)
-      ∙ ap (λ (r : Result Contents Fault). and_then r (λ m. Ok (without_cells m))) (bit_written p b now.memory ∙ w)
-
-  pub bit_kept : (m : Contents) → write_bit p b now.memory ≡ Ok m → Related frames (record now { memory = m }) (record s { memory = without_cells m })
-  bit_kept m w =
-      keep_memory frames now s related m (bit_holds p b now.memory (Ok m) related.bytes w)
-      (write_keeps_cells p now.memory lies type.Bool (flag b) m (bit_written p b now.memory ∙ w))
 
 -- Where the operand was found
 
@@ -170,48 +157,44 @@ module _ (g : List Located) (calls : Calls) (units : ℕ) (frames : Frames) (now
 -- A bit at a place takes a value, by statements that write it there
 
 module _ (g : List Located) (calls : Calls) (units : ℕ) (frames : Frames) (now : Now) (s : State) (related : Related frames now s) (used : ℕ)
-    (with_expression : Expr → Stmt) (p : Place) (lies : IsInMemory p.area) (writes : Writes g type.Bool (Ok p) s with_expression) where
+    (with_expression : Expr → Stmt) (p : Place) (writes : PutsAt g frames width.Bit (Ok p) now s with_expression) where
   abbrev rlo : Bool
   rlo = now.registers.status.rlo
 
   abbrev storing : Expr → List Stmt
   storing e = with_expression e ∷ clear_or false
 
-  wrote : (b : Bool) (memory : Result Contents Fault) → write_bit p b now.memory ≡ memory
-      → write_place type.Bool p (flag b) s.memory ≡ and_then memory (λ m. Ok (without_cells m))
-  wrote b memory w = bit_wrote frames now s related p lies b memory w
-
   -- by what was written
+  by_written : (e : Expr) (b : Bool) (memory : Result Contents Fault)
+      → Puts (body_meaning g calls (storing e) units s) (body_meaning g calls (clear_or false)) units frames now s memory
+      → DoesInstruction (body_meaning g calls (storing e) units s) units used frames s now.memory
+      (with_memory memory now (λ done. next (with_status (after_store b) done)))
+  by_written e b (Ok m) done =
+      let ended : Leads (body_meaning g calls (clear_or false) units done.to) units used frames done.to
+      (with_status (after_store b) (record now { memory = m })) =
+      ends_chain g calls units frames (record now { memory = m }) done.to done.related used b in
+      record {
+        to = ended.to;
+        goes = done.goes ∙ ended.goes;
+        related = ended.related;
+        as_many = ended.as_many ∙ ap length done.own;
+        below = λ i small. ended.below i small ∙ ap (λ (xs : List Value). slice_get xs i) done.own;
+      }
+  by_written e b (Err f) done = record { at = s; stops = done; areas = same_areas frames now s related }
+
   store_goes : (e : Expr) (b : Bool) → value g e s ≡ Ok (flag b) → (memory : Result Contents Fault) → write_bit p b now.memory ≡ memory
       → DoesInstruction (body_meaning g calls (storing e) units s) units used frames s now.memory
       (with_memory memory now (λ done. next (with_status (after_store b) done)))
-  store_goes e b h (Ok m) w =
-      let t : State = record s { memory = without_cells m } in
-      let relates : Related frames (record now { memory = m }) t = bit_kept frames now s related p lies b m w in
-      let ended : Leads (body_meaning g calls (clear_or false) units t) units used frames t (with_status (after_store b) (record now { memory = m })) =
-      ends_chain g calls units frames (record now { memory = m }) t relates used b in
-      record {
-        to = ended.to;
-        goes = write_goes_on g type.Bool p s with_expression writes calls units e (clear_or false) (flag b) (without_cells m) h (wrote b (Ok m) w) ∙ ended.goes;
-        related = ended.related;
-        as_many = ended.as_many;
-        below = ended.below;
-      }
-  store_goes e b h (Err f) w =
-      record {
-        at = s;
-        stops = write_stops_at_place g type.Bool p s with_expression writes calls units e (clear_or false) (flag b) f h (wrote b (Err f) w);
-        areas = same_areas frames now s related;
-      }
+  store_goes e b h memory w =
+      by_written e b memory
+      (subst (Puts (body_meaning g calls (storing e) units s) (body_meaning g calls (clear_or false)) units frames now s)
+      (bit_written p b now.memory ∙ w) (writes.puts calls units e (flag b) (clear_or false) (flag_fits b) h))
 
   -- the value faults
   store_stops : (e : Expr) (f : Fault) → value g e s ≡ Err f
       → DoesInstruction (body_meaning g calls (storing e) units s) units used frames s now.memory (fault f)
-  store_stops e f h = record {
-    at = s;
-    stops = write_stops_at_value g type.Bool p s with_expression writes calls units e (clear_or false) f h;
-    areas = same_areas frames now s related;
-  }
+  store_stops e f h =
+      record { at = s; stops = writes.stops calls units e f (clear_or false) h; areas = same_areas frames now s related }
 
   set_does : (e : Expr) (bit : Result Bool Fault) → value g e s ≡ and_then bit (λ b. Ok (flag b))
       → DoesInstruction (body_meaning g calls (storing (set_value e)) units s) units used frames s now.memory
@@ -237,7 +220,7 @@ module _ (g : List Located) (calls : Calls) (units : ℕ) (frames : Frames) (now
 -- Rows
 
 module _ (g : List Located) (calls : Calls) (units : ℕ) (frames : Frames) (now : Now) (s : State)
-    (related : Related frames now s) (first : ℕ) (o : Operand) (lies : IsOperand width.Bit o) where
+    (related : Related frames now s) (first : ℕ) (o : Operand) (lies : IsOperand frames.formals width.Bit o) where
   -- there is room for what is fetched
   abbrev HasRoom : Type 0
   HasRoom = first + length (types_fetched o width.Bit) ≤ length (own_of s.activations)
@@ -262,6 +245,7 @@ module _ (g : List Located) (calls : Calls) (units : ℕ) (frames : Frames) (now
   assign_effect room =
       reach_effect g calls units frames now s related first o width.Bit lies (read_of reg.Rlo)
       (λ after. flag after.registers.status.rlo) (λ after t relates. rlo_worth g frames after t relates)
+      (λ after t relates. flag_fits after.registers.status.rlo)
       (λ p after. write_bit p after.registers.status.rlo after.memory) (λ p after. bit_written p after.registers.status.rlo after.memory)
       (λ done. with_status (after_store done.registers.status.rlo) done) (clear_or false) room
       (λ after t relates. ends_chain g calls units frames after t relates (first + length (types_reached o)) after.registers.status.rlo)
@@ -274,8 +258,8 @@ module _ (g : List Located) (calls : Calls) (units : ℕ) (frames : Frames) (now
       (λ done. next (with_status (after_store (if after.registers.status.rlo then true else b)) done)))
       (store_of first o (set_value bit)) room
       (λ f is t done.
-      set_does g calls units frames f.after t done.related later (writing_of first o width.Bit) f.place done.in_memory
-      (done.writes t (keeps_itself later t)) bit (read_bit f.place f.after.memory) done.here)
+      set_does g calls units frames f.after t done.related later (writing_of first o width.Bit) f.place
+      (done.writes f.after t done.related (keeps_itself later t)) bit (read_bit f.place f.after.memory) done.here)
 
   pub reset_effect : HasRoom
       → DoesInstruction (body_meaning g calls (stored_of first o reset_value) units s) units first frames s now.memory (effect_of (op.Reset o) now)
@@ -285,5 +269,5 @@ module _ (g : List Located) (calls : Calls) (units : ℕ) (frames : Frames) (now
       (λ done. next (with_status (after_store (if after.registers.status.rlo then false else b)) done)))
       (store_of first o (reset_value bit)) room
       (λ f is t done.
-      reset_does g calls units frames f.after t done.related later (writing_of first o width.Bit) f.place done.in_memory
-      (done.writes t (keeps_itself later t)) bit (read_bit f.place f.after.memory) done.here)
+      reset_does g calls units frames f.after t done.related later (writing_of first o width.Bit) f.place
+      (done.writes f.after t done.related (keeps_itself later t)) bit (read_bit f.place f.after.memory) done.here)

@@ -1,13 +1,14 @@
 -- FP and FN: their statements do what their rows do. What they do once the edge bit was found is said of any bit at a
 -- place, in the state in which it was found.
-use Rattle.std.proofs.Common.{◌≡◌, ℕ, ◌+◌, ◌<◌, ◌≤◌, Bool, true, false, not, List, ◌∷◌, length, Result, Ok, Err, refl, ◌∙◌, arith}
-use Rattle.std.specs.Prelude.{slice_get}
+use Rattle.std.proofs.Common.{◌≡◌, ℕ, ◌+◌, ◌<◌, ◌≤◌, Bool, true, false, not, List, ◌∷◌, length, Result, Ok, Err, refl, ap, subst, ◌∙◌, arith}
+use Rattle.std.specs.Prelude.{ℤ, slice_get}
 use Rattle.st_tree.specs.declared.state.Value.{Value}
 use Rattle.memory_areas.specs.Access.{and_then, read_bit, write_bit}
 use Rattle.memory_areas.specs.Areas.{Contents}
 use Rattle.memory_areas.specs.declared.place.Place.{Place}
 use Rattle.status_word.specs.StatusBits.{StatusBits, after_edge, rlo_at_edge}
 use Rattle.s7_base.specs.declared.outcome.Fault.{Fault}
+use Rattle.s7_base.specs.declared.register.Reg.{Reg}
 use Rattle.s7_base.specs.declared.register.Reg.TheVariants as reg
 use Rattle.s7_base.specs.declared.word.Width.TheVariants as width
 use Rattle.stl_tree.specs.Accepted.{IsOperand}
@@ -31,33 +32,35 @@ use Rattle.st_tree.proofs.Equations.{assign_goes_on, assign_stops_at_value}
 use Rattle.bit_templates.specs.Bits.{edge_at, edge_of, falling, rising}
 use Rattle.template_parts.specs.Builders.{clear_or, not_of, read_of, set_of}
 use Rattle.template_parts.specs.Fetching.{fetched_value_of, types_fetched, writing_of}
-use Rattle.template_parts.specs.Related.{AreAlike, Frames, IsInMemory, Related, without_cells}
+use Rattle.template_parts.specs.Related.{AreAlike, Frames, Related}
 use Rattle.template_parts.proofs.Alike.{keep_bits, keep_local, same_areas}
 use Rattle.template_parts.specs.DoesInstruction.{DoesInstruction, Stops}
-use Rattle.template_parts.proofs.Fetching.{bit_shown, fetch_effect, local_kept}
+use Rattle.template_parts.proofs.Fetching.{bit_shown, fetch_effect}
 use Rattle.st_tree.proofs.Locals.{local_read, local_wrote, own_length, own_other, own_same, with_own}
-use Rattle.template_parts.proofs.MemoryEffects.{KeepsWay, Writes, write_goes_on, write_stops_at_place}
+use Rattle.template_parts.proofs.MemoryEffects.{KeepsWay, local_kept}
+use Rattle.template_parts.proofs.Putting.{Puts, PutsAt, flag_fits}
 use Rattle.template_parts.proofs.Operands.{cleared_registers, clears, rlo_worth, sets}
 use Rattle.template_parts.proofs.Truths.{and_worth, not_stops, not_worth, right_stops}
-use Rattle.bit_templates.proofs.BitEffects.{bit_kept, bit_wrote}
+use Rattle.bit_templates.proofs.BitEffects.{bit_written}
 
 module _ (g : List Located) (calls : Calls) (units : ℕ) (frames : Frames) (now : Now) (s : State)
     (related : Related frames now s) (used : ℕ) (room : used + 1 ≤ length (own_of s.activations))
-    (with_expression : Expr → Stmt) (p : Place) (lies : IsInMemory p.area)
-    (writes : (u : State) → KeepsWay used s u → Writes g type.Bool (Ok p) u with_expression) where
+    (with_expression : Expr → Stmt) (p : Place)
+    (writes : (then : Now) (u : State) → Related frames then u → KeepsWay used s u → PutsAt g frames width.Bit (Ok p) then u with_expression) where
   abbrev bits : StatusBits
   bits = now.registers.status
 
   abbrev own : List Value
   own = own_of s.activations
 
-  edge_alike : (rising old : Bool) → AreAlike (record now.registers { status = after_edge rising old bits })
-      (cleared_registers g calls units true (with_register reg.Rlo (number_of (rlo_at_edge rising old bits)) s.registers))
-  edge_alike rising old reg.Rlo asked = refl
-  edge_alike rising old reg.Nfc asked = refl
-  edge_alike rising old reg.Orb asked = refl
-  edge_alike rising old reg.Sta asked = elim asked [ ]
-  edge_alike rising old q asked = related.registers q asked
+  edge_alike : (rising old : Bool) (registers : Reg → ℤ) → AreAlike now.registers registers
+      → AreAlike (record now.registers { status = after_edge rising old bits })
+      (cleared_registers g calls units true (with_register reg.Rlo (number_of (rlo_at_edge rising old bits)) registers))
+  edge_alike rising old registers alike reg.Rlo asked = refl
+  edge_alike rising old registers alike reg.Nfc asked = refl
+  edge_alike rising old registers alike reg.Orb asked = refl
+  edge_alike rising old registers alike reg.Sta asked = elim asked [ ]
+  edge_alike rising old registers alike q asked = alike q asked
 
   -- what stands behind the first statement
   abbrev taken : List Stmt
@@ -80,50 +83,52 @@ module _ (g : List Located) (calls : Calls) (units : ℕ) (frames : Frames) (now
   kept_below : (edge : Bool) (i : ℕ) → i < used → slice_get (own_of (kept edge).activations) i ≡ slice_get own i
   kept_below edge i small = own_other used (flag edge) s i (λ e. absurd (omega arith))
 
-  kept_writes : (edge : Bool) → Writes g type.Bool (Ok p) (kept edge) with_expression
-  kept_writes edge = writes (kept edge) (local_kept used used (flag edge) s (omega arith))
-
-  wrote : (memory : Result Contents Fault) → write_bit p bits.rlo now.memory ≡ memory
-      → write_place type.Bool p (flag bits.rlo) s.memory ≡ and_then memory (λ m. Ok (without_cells m))
-  wrote memory w = bit_wrote frames now s related p lies bits.rlo memory w
-
   -- the edge bit takes the RLO, by what was written
-  edge_goes : (rising old : Bool) (e : Expr) → value g e s ≡ Ok (flag (rlo_at_edge rising old bits))
-      → (memory : Result Contents Fault) → write_bit p bits.rlo now.memory ≡ memory
+  by_written : (rising old : Bool) (e : Expr) → value g e s ≡ Ok (flag (rlo_at_edge rising old bits)) → (memory : Result Contents Fault)
+      → Puts (body_meaning g calls taken units (kept (rlo_at_edge rising old bits)))
+      (body_meaning g calls (set_of reg.Rlo (expr.Read (var.Local used)) ∷ clear_or true)) units frames now (kept (rlo_at_edge rising old bits)) memory
       → DoesInstruction (body_meaning g calls (keeping e) units s) units used frames s now.memory
       (with_memory memory now (λ done. next (with_status (after_edge rising old) done)))
-  edge_goes rising old e h (Ok m) w =
+  by_written rising old e h (Ok m) done =
       let edge : Bool = rlo_at_edge rising old bits in
       let t : State = kept edge in
-      let u : State = record t { memory = without_cells m } in
+      let u : State = done.to in
       let k : State = record u { registers = with_register reg.Rlo (number_of edge) u.registers } in
       let z : State = record k { registers = cleared_registers g calls units true k.registers } in
       record {
         to = z;
         goes = assign_goes_on g calls (var.Local used) e taken units s t (flag edge) h (local_wrote g used (flag edge) s less)
-            ∙ write_goes_on g type.Bool p t with_expression (kept_writes edge) calls units (read_of reg.Rlo)
-            (set_of reg.Rlo (expr.Read (var.Local used)) ∷ clear_or true) (flag bits.rlo) (without_cells m)
-            (rlo_worth g frames now t (kept_related edge)) (wrote (Ok m) w)
+            ∙ done.goes
             ∙ sets g calls units reg.Rlo (expr.Read (var.Local used)) edge (clear_or true) u
-            (local_read g used (flag edge) u (own_same used (flag edge) s less))
+            (local_read g used (flag edge) u (ap (λ (xs : List Value). slice_get xs used) done.own ∙ own_same used (flag edge) s less))
             ∙ clears g calls units true k;
         related =
-            keep_bits frames (record now { memory = m }) u (bit_kept frames now t (kept_related edge) p lies bits.rlo m w)
-            (after_edge rising old bits) z.registers (edge_alike rising old);
-        as_many = own_length used (flag edge) s;
-        below = kept_below edge;
+            keep_bits frames (record now { memory = m }) u done.related
+            (after_edge rising old bits) z.registers (edge_alike rising old u.registers done.related.registers);
+        as_many = ap length done.own ∙ own_length used (flag edge) s;
+        below = λ i small. ap (λ (xs : List Value). slice_get xs i) done.own ∙ kept_below edge i small;
       }
-  edge_goes rising old e h (Err f) w =
+  by_written rising old e h (Err f) done =
       let edge : Bool = rlo_at_edge rising old bits in
-      let t : State = kept edge in
       record {
-        at = t;
-        stops = assign_goes_on g calls (var.Local used) e taken units s t (flag edge) h (local_wrote g used (flag edge) s less)
-            ∙ write_stops_at_place g type.Bool p t with_expression (kept_writes edge) calls units
-            (read_of reg.Rlo) (set_of reg.Rlo (expr.Read (var.Local used)) ∷ clear_or true) (flag bits.rlo) f
-            (rlo_worth g frames now t (kept_related edge)) (wrote (Err f) w);
+        at = kept edge;
+        stops = assign_goes_on g calls (var.Local used) e taken units s (kept edge) (flag edge) h (local_wrote g used (flag edge) s less) ∙ done;
         areas = same_areas frames now s related;
       }
+
+  edge_goes : (rising old : Bool) (e : Expr) → value g e s ≡ Ok (flag (rlo_at_edge rising old bits))
+      → (memory : Result Contents Fault) → write_bit p bits.rlo now.memory ≡ memory
+      → DoesInstruction (body_meaning g calls (keeping e) units s) units used frames s now.memory
+      (with_memory memory now (λ done. next (with_status (after_edge rising old) done)))
+  edge_goes rising old e h memory w =
+      let edge : Bool = rlo_at_edge rising old bits in
+      by_written rising old e h memory
+      (subst
+      (Puts (body_meaning g calls taken units (kept edge)) (body_meaning g calls (set_of reg.Rlo (expr.Read (var.Local used)) ∷ clear_or true)) units
+      frames now (kept edge))
+      (bit_written p bits.rlo now.memory ∙ w)
+      ((writes now (kept edge) (kept_related edge) (local_kept used used (flag edge) s (omega arith))).puts calls units (read_of reg.Rlo) (flag bits.rlo)
+      (set_of reg.Rlo (expr.Read (var.Local used)) ∷ clear_or true) (flag_fits bits.rlo) (rlo_worth g frames now (kept edge) (kept_related edge))))
 
   edge_stops : (e : Expr) (f : Fault) → value g e s ≡ Err f → Stops (body_meaning g calls (keeping e) units s) now.memory f
   edge_stops e f h = record { at = s; stops = assign_stops_at_value g calls (var.Local used) e taken units s f h; areas = same_areas frames now s related }
@@ -152,7 +157,7 @@ module _ (g : List Located) (calls : Calls) (units : ℕ) (frames : Frames) (now
 -- Rows
 
 module _ (g : List Located) (calls : Calls) (units : ℕ) (frames : Frames) (now : Now) (s : State)
-    (related : Related frames now s) (first : ℕ) (o : Operand) (lies : IsOperand width.Bit o) where
+    (related : Related frames now s) (first : ℕ) (o : Operand) (lies : IsOperand frames.formals width.Bit o) where
   -- the local behind what is fetched, for which there is room too
   abbrev later : ℕ
   later = first + length (types_fetched o width.Bit)
@@ -169,7 +174,7 @@ module _ (g : List Located) (calls : Calls) (units : ℕ) (frames : Frames) (now
       (λ f is t done.
       let many : length (own_of t.activations) ≡ length (own_of s.activations) = done.as_many in
       up_does g calls units frames f.after t done.related later (omega arith)
-      (writing_of first o width.Bit) f.place done.in_memory done.writes bit (read_bit f.place f.after.memory) done.here)
+      (writing_of first o width.Bit) f.place done.writes bit (read_bit f.place f.after.memory) done.here)
 
   pub down_effect : later + 1 ≤ length (own_of s.activations)
       → DoesInstruction (body_meaning g calls (edge_at first o falling) units s) units first frames s now.memory (effect_of (op.EdgeDown o) now)
@@ -180,4 +185,4 @@ module _ (g : List Located) (calls : Calls) (units : ℕ) (frames : Frames) (now
       (λ f is t done.
       let many : length (own_of t.activations) ≡ length (own_of s.activations) = done.as_many in
       down_does g calls units frames f.after t done.related later (omega arith)
-      (writing_of first o width.Bit) f.place done.in_memory done.writes bit (read_bit f.place f.after.memory) done.here)
+      (writing_of first o width.Bit) f.place done.writes bit (read_bit f.place f.after.memory) done.here)

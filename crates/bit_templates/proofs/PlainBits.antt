@@ -16,7 +16,7 @@ use Rattle.st_tree.specs.declared.expr.StType.TheVariants as type
 use Rattle.st_tree.specs.declared.expr.Var.{Var}
 use Rattle.st_tree.specs.declared.expr.Var.TheVariants as var
 use Rattle.st_tree.specs.declared.program.Stmt.{Stmt}
-use Rattle.stl_tree.specs.Accepted.{HasOperand, IsOperand}
+use Rattle.stl_tree.specs.Accepted.{HasOperand, IsOperand, Widths}
 use Rattle.stl_tree.specs.declared.program.BitArg.TheVariants as arg
 use Rattle.stl_tree.specs.declared.program.Operand.{Operand}
 use Rattle.template_parts.specs.Builders.{and_of, clear_or, literal_of, not_of, read_of, set_of}
@@ -27,7 +27,7 @@ use Rattle.stl_tree.specs.declared.program.Op.TheVariants as op
 use Rattle.template_parts.specs.Fetching.{fetched_value_of, types_fetched, types_reached, writing_of}
 use Rattle.template_parts.proofs.FetchBounds.{fetch_plain, fetched_is, reach_plain, way_typed, writing_plain}
 use Rattle.template_parts.proofs.Typing.{IsBool, and_is, assigned, cleared_plain, first_typed, left_typed, literal_is, local_is, more, nfc_plain, not_is, or_is, read_is, register_is, right_typed, set_plain, xor_is}
-use Rattle.template_parts.specs.Templates.{AreTyped, IsPlainBody}
+use Rattle.template_parts.specs.Templates.{AreTyped, HasFormals, IsPlainBody}
 use Rattle.bit_templates.specs.declared.chain.Chain.{Chain}
 use Rattle.bit_templates.specs.declared.chain.OpenBracket.{OpenBracket}
 
@@ -62,8 +62,9 @@ module _ (sight : UnitScope) where
   abbrev HasLocal : ℕ → Operand → Type 0
   HasLocal used o = AreTyped sight used (types_fetched o width.Bit)
 
-  bit_is : (used : ℕ) (o : Operand) → IsOperand width.Bit o → HasLocal used o → IsBool sight 1 (fetched_value_of used o width.Bit)
-  bit_is used o h own = fetched_is sight used o width.Bit h own
+  bit_is : (formals : Widths) → HasFormals sight formals → (used : ℕ) (o : Operand)
+      → IsOperand formals width.Bit o → HasLocal used o → IsBool sight 1 (fetched_value_of used o width.Bit)
+  bit_is formals named used o h own = fetched_is sight formals named used o width.Bit h own
 
   -- Chains
 
@@ -122,10 +123,11 @@ module _ (sight : UnitScope) where
   close_plain check.Xn v rest h plain = cleared_plain sight true rest plain
 
   -- a bit takes a value
-  store_plain : (used : ℕ) (o : Operand) (e : Expr) (rest : List Stmt) → IsOperand width.Bit o → HasWay used o → IsBool sight 4 e → IsPlainBody sight rest
+  store_plain : (formals : Widths) → HasFormals sight formals → (used : ℕ) (o : Operand) (e : Expr) (rest : List Stmt)
+      → IsOperand formals width.Bit o → HasWay used o → IsBool sight 4 e → IsPlainBody sight rest
       → IsPlainBody sight (store_of used o e ++ rest)
-  store_plain used o e rest h way k plain =
-      writing_plain sight used o width.Bit e (clear_or false ++ rest) (omega arith) h way k (cleared_plain sight false rest plain)
+  store_plain formals named used o e rest h way k plain =
+      writing_plain sight formals named used o width.Bit e (clear_or false ++ rest) (omega arith) h way k (cleared_plain sight false rest plain)
 
   rlo_bool : IsBool sight 1 (read_of reg.Rlo)
   rlo_bool = register_is sight reg.Rlo
@@ -139,28 +141,30 @@ module _ (sight : UnitScope) where
       (next_bool o.kept h o.check (read_of reg.Rlo) (more sight (omega arith) rlo_bool))
       (close_plain o.check o.kept.orb rest h.orb plain)
 
-  edge_plain : (used : ℕ) (o : Operand) (i : ℕ) (e : Expr) (rest : List Stmt)
-      → variable_type sight (var.Local i) ≡ Some type.Bool → IsOperand width.Bit o → HasWay used o → IsBool sight 4 e
+  edge_plain : (formals : Widths) → HasFormals sight formals → (used : ℕ) (o : Operand) (i : ℕ) (e : Expr) (rest : List Stmt)
+      → variable_type sight (var.Local i) ≡ Some type.Bool → IsOperand formals width.Bit o → HasWay used o → IsBool sight 4 e
       → IsPlainBody sight rest → IsPlainBody sight (edge_of used o i e ++ rest)
-  edge_plain used o i e rest own h way k plain =
+  edge_plain formals named used o i e rest own h way k plain =
       assigned sight (var.Local i) e
       (writing_of used o width.Bit (read_of reg.Rlo) ∷ set_of reg.Rlo (expr.Read (var.Local i)) ∷ clear_or true ++ rest) (omega arith) own k
-      (writing_plain sight used o width.Bit (read_of reg.Rlo) (set_of reg.Rlo (expr.Read (var.Local i)) ∷ clear_or true ++ rest) (omega arith) h way rlo_bool
+      (writing_plain sight formals named used o width.Bit (read_of reg.Rlo)
+      (set_of reg.Rlo (expr.Read (var.Local i)) ∷ clear_or true ++ rest) (omega arith) h way rlo_bool
       (set_plain sight reg.Rlo (expr.Read (var.Local i)) (clear_or true ++ rest) (omega arith) (local_is sight own) (cleared_plain sight true rest plain)))
 
   -- FP and FN, by the value that they make of the edge bit
-  edge_at_plain : (used : ℕ) (o : Operand) (value : Expr → Expr) (rest : List Stmt) → IsOperand width.Bit o → AreTyped sight used (types_of_edge o)
+  edge_at_plain : (formals : Widths) → HasFormals sight formals → (used : ℕ) (o : Operand) (value : Expr → Expr) (rest : List Stmt)
+      → IsOperand formals width.Bit o → AreTyped sight used (types_of_edge o)
       → (IsBool sight 1 (fetched_value_of used o width.Bit) → IsBool sight 4 (value (fetched_value_of used o width.Bit))) → IsPlainBody sight rest
       → IsPlainBody sight (edge_at used o value ++ rest)
-  edge_at_plain used o value rest h own worth plain =
+  edge_at_plain formals named used o value rest h own worth plain =
       let types : List StType = types_fetched o width.Bit in
       let later : ℕ = used + length types in
       let e : Expr = value (fetched_value_of used o width.Bit) in
       let fetched : HasLocal used o = left_typed sight used types (type.Bool ∷ []) own in
       let kept : AreTyped sight later (type.Bool ∷ []) = right_typed sight used later types (type.Bool ∷ []) refl own in
-      fetch_plain sight used o width.Bit (edge_of used o later e) rest h fetched
-      (edge_plain used o later e rest (first_typed sight later type.Bool [] kept) h
-      (way_typed sight used o width.Bit fetched) (worth (bit_is used o h fetched)) plain)
+      fetch_plain sight formals named used o width.Bit (edge_of used o later e) rest h fetched
+      (edge_plain formals named used o later e rest (first_typed sight later type.Bool [] kept) h
+      (way_typed sight formals named used o width.Bit fetched) (worth (bit_is formals named used o h fetched)) plain)
 
   keep_plain : (i : ℕ) (r : Reg) (rest : List Stmt) → variable_type sight (var.Local i) ≡ Some type.Bool
       → type_of_register r ≡ type.Bool → IsPlainBody sight rest
@@ -175,42 +179,47 @@ module _ (sight : UnitScope) where
       (keep_plain (first + 2) reg.Nfc (clear_or false ++ rest) (own 2 type.Bool refl) refl (cleared_plain sight false rest plain)))
 
   -- what is checked, and kept
-  pub check_plain_at : (c : Check) (b : BitArg) (first : ℕ) (rest : List Stmt)
-      → HasOperand (op.Check c b) → AreTyped sight first (types_checked b) → IsPlainBody sight rest
+  pub check_plain_at : (formals : Widths) → HasFormals sight formals → (c : Check) (b : BitArg) (first : ℕ) (rest : List Stmt)
+      → HasOperand formals (op.Check c b) → AreTyped sight first (types_checked b) → IsPlainBody sight rest
       → IsPlainBody sight (checked_bit_of first c b ++ rest)
-  check_plain_at c (arg.At o) first rest h own plain =
+  check_plain_at formals named c (arg.At o) first rest h own plain =
       let bit : Expr = fetched_value_of first o width.Bit in
-      fetch_plain sight first o width.Bit (check_of c bit) rest h own (checked_plain c bit rest (more sight (omega arith) (bit_is first o h own)) plain)
-  check_plain_at c (arg.Flag t) first rest h own plain = checked_plain c (answer_of t) rest (answer_bool t) plain
+      fetch_plain sight formals named first o width.Bit (check_of c bit) rest h own
+      (checked_plain c bit rest (more sight (omega arith) (bit_is formals named first o h own)) plain)
+  check_plain_at formals named c (arg.Flag t) first rest h own plain = checked_plain c (answer_of t) rest (answer_bool t) plain
 
   pub or_alone_plain : (rest : List Stmt) → IsPlainBody sight rest → IsPlainBody sight (or_alone_of ++ rest)
   or_alone_plain rest plain =
       set_plain sight reg.Orb (and_of (read_of reg.Rlo) (read_of reg.Nfc)) (set_of reg.Nfc (literal_of false) ∷ rest) (omega arith)
       (and_is sight rlo_bool (register_is sight reg.Nfc)) (nfc_plain sight false rest plain)
 
-  pub assign_plain : (first : ℕ) (o : Operand) (rest : List Stmt) → IsOperand width.Bit o
+  pub assign_plain : (formals : Widths) → HasFormals sight formals → (first : ℕ) (o : Operand) (rest : List Stmt) → IsOperand formals width.Bit o
       → HasWay first o → IsPlainBody sight rest → IsPlainBody sight (assigned_of first o ++ rest)
-  assign_plain first o rest h own plain =
+  assign_plain formals named first o rest h own plain =
       let row : List Stmt = store_of first o (read_of reg.Rlo) in
-      reach_plain sight first o width.Bit row rest h own (store_plain first o (read_of reg.Rlo) rest h own (more sight (omega arith) rlo_bool) plain)
+      reach_plain sight formals named first o width.Bit row rest h own
+      (store_plain formals named first o (read_of reg.Rlo) rest h own (more sight (omega arith) rlo_bool) plain)
 
   -- S and R, by the value that they make of the bit
-  stored_plain : (first : ℕ) (o : Operand) (value : Expr → Expr) (rest : List Stmt) → IsOperand width.Bit o → HasLocal first o
+  stored_plain : (formals : Widths) → HasFormals sight formals
+      → (first : ℕ) (o : Operand) (value : Expr → Expr) (rest : List Stmt) → IsOperand formals width.Bit o → HasLocal first o
       → IsBool sight 4 (value (fetched_value_of first o width.Bit)) → IsPlainBody sight rest → IsPlainBody sight (stored_of first o value ++ rest)
-  stored_plain first o value rest h own worth plain =
+  stored_plain formals named first o value rest h own worth plain =
       let e : Expr = value (fetched_value_of first o width.Bit) in
-      fetch_plain sight first o width.Bit (store_of first o e) rest h own
-      (store_plain first o e rest h (way_typed sight first o width.Bit own) worth plain)
+      fetch_plain sight formals named first o width.Bit (store_of first o e) rest h own
+      (store_plain formals named first o e rest h (way_typed sight formals named first o width.Bit own) worth plain)
 
-  pub set_plain_at : (first : ℕ) (o : Operand) (rest : List Stmt) → IsOperand width.Bit o
+  pub set_plain_at : (formals : Widths) → HasFormals sight formals → (first : ℕ) (o : Operand) (rest : List Stmt) → IsOperand formals width.Bit o
       → HasLocal first o → IsPlainBody sight rest → IsPlainBody sight (stored_of first o set_value ++ rest)
-  set_plain_at first o rest h own plain =
-      stored_plain first o set_value rest h own (more sight (omega arith) (or_is sight (bit_is first o h own) rlo_bool)) plain
+  set_plain_at formals named first o rest h own plain =
+      stored_plain formals named first o set_value rest h own (more sight (omega arith) (or_is sight (bit_is formals named first o h own) rlo_bool)) plain
 
-  pub reset_plain : (first : ℕ) (o : Operand) (rest : List Stmt) → IsOperand width.Bit o → HasLocal first o
+  pub reset_plain : (formals : Widths) → HasFormals sight formals
+      → (first : ℕ) (o : Operand) (rest : List Stmt) → IsOperand formals width.Bit o → HasLocal first o
       → IsPlainBody sight rest → IsPlainBody sight (stored_of first o reset_value ++ rest)
-  reset_plain first o rest h own plain =
-      stored_plain first o reset_value rest h own (more sight (omega arith) (and_is sight (bit_is first o h own) (not_is sight rlo_bool))) plain
+  reset_plain formals named first o rest h own plain =
+      stored_plain formals named first o reset_value rest h own
+      (more sight (omega arith) (and_is sight (bit_is formals named first o h own) (not_is sight rlo_bool))) plain
 
   pub rlo_set_plain : (b : Bool) (rest : List Stmt) → IsPlainBody sight rest → IsPlainBody sight (rlo_set b ++ rest)
   rlo_set_plain b rest plain =
@@ -222,14 +231,15 @@ module _ (sight : UnitScope) where
   pub saved_plain : (rest : List Stmt) → IsPlainBody sight rest → IsPlainBody sight (saved_of ++ rest)
   saved_plain rest plain = set_plain sight reg.Br (read_of reg.Rlo) rest (omega arith) rlo_bool plain
 
-  pub up_plain : (first : ℕ) (o : Operand) (rest : List Stmt) → IsOperand width.Bit o
+  pub up_plain : (formals : Widths) → HasFormals sight formals → (first : ℕ) (o : Operand) (rest : List Stmt) → IsOperand formals width.Bit o
       → AreTyped sight first (types_of_edge o) → IsPlainBody sight rest → IsPlainBody sight (edge_at first o rising ++ rest)
-  up_plain first o rest h own plain = edge_at_plain first o rising rest h own (λ bit. more sight (omega arith) (and_is sight rlo_bool (not_is sight bit))) plain
+  up_plain formals named first o rest h own plain =
+      edge_at_plain formals named first o rising rest h own (λ bit. more sight (omega arith) (and_is sight rlo_bool (not_is sight bit))) plain
 
-  pub down_plain : (first : ℕ) (o : Operand) (rest : List Stmt) → IsOperand width.Bit o
+  pub down_plain : (formals : Widths) → HasFormals sight formals → (first : ℕ) (o : Operand) (rest : List Stmt) → IsOperand formals width.Bit o
       → AreTyped sight first (types_of_edge o) → IsPlainBody sight rest → IsPlainBody sight (edge_at first o falling ++ rest)
-  down_plain first o rest h own plain =
-      edge_at_plain first o falling rest h own (λ bit. more sight (omega arith) (and_is sight (not_is sight rlo_bool) bit)) plain
+  down_plain formals named first o rest h own plain =
+      edge_at_plain formals named first o falling rest h own (λ bit. more sight (omega arith) (and_is sight (not_is sight rlo_bool) bit)) plain
 
   -- the three locals of a bracket are BOOLs
   pub bracket_bool : (first : ℕ) → AreTyped sight first types_of_bracket → IsBoolChain (chain_at first)

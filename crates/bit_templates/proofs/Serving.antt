@@ -5,7 +5,6 @@ use Rattle.std.proofs.lemmas.List.{length-append}
 use Rattle.s7_base.specs.declared.check.Check.{Check}
 use Rattle.s7_base.specs.declared.register.Reg.{Reg}
 use Rattle.s7_base.specs.declared.word.Width.TheVariants as width
-use Rattle.stl_tree.specs.Accepted.{HasOperand}
 use Rattle.stl_tree.specs.Reads.{reads_of}
 use Rattle.stl_tree.specs.declared.program.BitArg.{BitArg}
 use Rattle.stl_tree.specs.declared.program.BitArg.TheVariants as arg
@@ -34,92 +33,95 @@ use Rattle.bit_templates.proofs.StatusEffects.{answer_worth, clear_rlo_does, nop
 
 -- Checks
 
-check_serves : (c : Check) (b : BitArg) (first : ℕ) → HasOperand (op.Check c b) → Serves (op.Check c b) first (types_checked b) (checked_bit_of first c b)
-check_serves c (arg.At o) first h =
+check_serves : (c : Check) (b : BitArg) (first : ℕ) → Serves (op.Check c b) first (types_checked b) (checked_bit_of first c b)
+check_serves c (arg.At o) first =
     record {
-      does = λ g calls units frames now s related room. check_effect g calls units frames now s related first o h c room;
+      does = λ g calls units frames now s operand related room. check_effect g calls units frames now s related first o operand c room;
       template =
-          is_template (reads_of (op.Check c (arg.At o))) first (types_checked (arg.At o)) (checked_bit_of first c (arg.At o)) (check_writes first c (arg.At o))
+          is_template (op.Check c (arg.At o)) first (types_checked (arg.At o)) (checked_bit_of first c (arg.At o)) (check_writes first c (arg.At o))
           (check_length first c (arg.At o)) (check_nodes first c (arg.At o))
           (λ P has. check_reads_at P first [] tt c (arg.At o) has) (check_disorder first c (arg.At o))
-          (check_sets first c (arg.At o)) (λ sight own. check_plain_at sight c (arg.At o) first [] h own (no_statement sight));
+          (check_sets first c (arg.At o))
+          (λ sight formals named operand own. check_plain_at sight formals named c (arg.At o) first [] operand own (no_statement sight));
     }
-check_serves c (arg.Flag t) first h =
+check_serves c (arg.Flag t) first =
     record {
-      does = λ g calls units frames now s related room.
+      does = λ g calls units frames now s operand related room.
           check_goes g calls units frames now s related first c _ _ (answer_worth g calls units frames now s related first t);
       template =
-          is_template (reads_of (op.Check c (arg.Flag t))) first (types_checked (arg.Flag t))
+          is_template (op.Check c (arg.Flag t)) first (types_checked (arg.Flag t))
           (checked_bit_of first c (arg.Flag t)) (check_writes first c (arg.Flag t))
           (check_length first c (arg.Flag t)) (check_nodes first c (arg.Flag t))
           (λ P has. check_reads_at P first [] tt c (arg.Flag t) has) (check_disorder first c (arg.Flag t))
-          (check_sets first c (arg.Flag t)) (λ sight own. check_plain_at sight c (arg.Flag t) first [] h own (no_statement sight));
+          (check_sets first c (arg.Flag t))
+          (λ sight formals named operand own. check_plain_at sight formals named c (arg.Flag t) first [] operand own (no_statement sight));
     }
 
 or_alone_serves : (first : ℕ) → Serves op.OrAlone first [] or_alone_of
 or_alone_serves first =
     record {
-      does = λ g calls units frames now s related room. or_does g calls units frames now s related first;
-      template = is_template (reads_of op.OrAlone) first [] or_alone_of tt (omega arith) or_alone_nodes (λ P has. or_alone_reads P first [] tt has)
-          (simp order_equations) refl (λ sight own. or_alone_plain sight [] (no_statement sight));
+      does = λ g calls units frames now s operand related room. or_does g calls units frames now s related first;
+      template = is_template op.OrAlone first [] or_alone_of tt (omega arith) or_alone_nodes (λ P has. or_alone_reads P first [] tt has)
+          (simp order_equations) refl (λ sight formals named operand own. or_alone_plain sight [] (no_statement sight));
     }
 
 -- Bits
 
 module _ (o : Operand) (first : ℕ) where
-  assign_serves : HasOperand (op.Assign o) → Serves (op.Assign o) first (types_reached o) (assigned_of first o)
-  assign_serves h =
+  assign_serves : Serves (op.Assign o) first (types_reached o) (assigned_of first o)
+  assign_serves =
       record {
-        does = λ g calls units frames now s related room. assign_effect g calls units frames now s related first o h room;
+        does = λ g calls units frames now s operand related room. assign_effect g calls units frames now s related first o operand room;
         template =
-            is_template (reads_of (op.Assign o)) first (types_reached o) (assigned_of first o)
+            is_template (op.Assign o) first (types_reached o) (assigned_of first o)
             (assign_writes first o) (assign_length first o) (assign_nodes first o)
             (λ P has. assign_reads P first [] tt o has) (assign_disorder first o) (assign_sets first o)
-            (λ sight own. assign_plain sight first o [] h own (no_statement sight));
+            (λ sight formals named operand own. assign_plain sight formals named first o [] operand own (no_statement sight));
       }
 
-  set_serves : HasOperand (op.Set o) → Serves (op.Set o) first (types_fetched o width.Bit) (stored_of first o set_value)
-  set_serves h =
+  set_serves : Serves (op.Set o) first (types_fetched o width.Bit) (stored_of first o set_value)
+  set_serves =
       record {
-        does = λ g calls units frames now s related room. set_effect g calls units frames now s related first o h room;
-        template = is_template (reads_of (op.Set o)) first (types_fetched o width.Bit) (stored_of first o set_value) (writes_of_stored first o set_value)
+        does = λ g calls units frames now s operand related room. set_effect g calls units frames now s related first o operand room;
+        template = is_template (op.Set o) first (types_fetched o width.Bit) (stored_of first o set_value) (writes_of_stored first o set_value)
             (length_of_stored first o set_value) (set_nodes first o) (λ P has. set_reads P first [] tt o has) (stored_disorder first o set_value set_adds)
-            (stored_sets first o set_value) (λ sight own. set_plain_at sight first o [] h own (no_statement sight));
+            (stored_sets first o set_value) (λ sight formals named operand own. set_plain_at sight formals named first o [] operand own (no_statement sight));
       }
 
-  reset_serves : HasOperand (op.Reset o) → Serves (op.Reset o) first (types_fetched o width.Bit) (stored_of first o reset_value)
-  reset_serves h =
+  reset_serves : Serves (op.Reset o) first (types_fetched o width.Bit) (stored_of first o reset_value)
+  reset_serves =
       record {
-        does = λ g calls units frames now s related room. reset_effect g calls units frames now s related first o h room;
-        template = is_template (reads_of (op.Reset o)) first (types_fetched o width.Bit) (stored_of first o reset_value) (writes_of_stored first o reset_value)
+        does = λ g calls units frames now s operand related room. reset_effect g calls units frames now s related first o operand room;
+        template = is_template (op.Reset o) first (types_fetched o width.Bit) (stored_of first o reset_value) (writes_of_stored first o reset_value)
             (length_of_stored first o reset_value) (reset_nodes first o)
             (λ P has. reset_reads P first [] tt o has) (stored_disorder first o reset_value reset_adds)
-            (stored_sets first o reset_value) (λ sight own. reset_plain sight first o [] h own (no_statement sight));
+            (stored_sets first o reset_value) (λ sight formals named operand own. reset_plain sight formals named first o [] operand own (no_statement sight));
       }
 
   -- an edge has a local behind those of its bit
   edge_room : (own : ℕ) → first + length (types_of_edge o) ≤ own → first + length (types_fetched o width.Bit) + 1 ≤ own
   edge_room own h = omega (arith, length-append (types_fetched o width.Bit) (type.Bool ∷ []))
 
-  up_serves : HasOperand (op.EdgeUp o) → Serves (op.EdgeUp o) first (types_of_edge o) (edge_at first o rising)
-  up_serves h =
+  up_serves : Serves (op.EdgeUp o) first (types_of_edge o) (edge_at first o rising)
+  up_serves =
       record {
         does =
-            λ g calls units frames now s related room. up_effect g calls units frames now s related first o h (edge_room (length (own_of s.activations)) room);
-        template = is_template (reads_of (op.EdgeUp o)) first (types_of_edge o) (edge_at first o rising) (writes_of_edge first o rising)
+            λ g calls units frames now s operand related room.
+            up_effect g calls units frames now s related first o operand (edge_room (length (own_of s.activations)) room);
+        template = is_template (op.EdgeUp o) first (types_of_edge o) (edge_at first o rising) (writes_of_edge first o rising)
             (length_of_edge first o rising) (up_nodes first o) (λ P has. up_reads P first [] tt o has) (edge_at_disorder first o rising rising_adds)
-            (edge_at_sets first o rising) (λ sight own. up_plain sight first o [] h own (no_statement sight));
+            (edge_at_sets first o rising) (λ sight formals named operand own. up_plain sight formals named first o [] operand own (no_statement sight));
       }
 
-  down_serves : HasOperand (op.EdgeDown o) → Serves (op.EdgeDown o) first (types_of_edge o) (edge_at first o falling)
-  down_serves h =
+  down_serves : Serves (op.EdgeDown o) first (types_of_edge o) (edge_at first o falling)
+  down_serves =
       record {
         does =
-            λ g calls units frames now s related room. down_effect g calls units frames now s related first o h
+            λ g calls units frames now s operand related room. down_effect g calls units frames now s related first o operand
             (edge_room (length (own_of s.activations)) room);
-        template = is_template (reads_of (op.EdgeDown o)) first (types_of_edge o) (edge_at first o falling) (writes_of_edge first o falling)
+        template = is_template (op.EdgeDown o) first (types_of_edge o) (edge_at first o falling) (writes_of_edge first o falling)
             (length_of_edge first o falling) (down_nodes first o) (λ P has. down_reads P first [] tt o has) (edge_at_disorder first o falling falling_adds)
-            (edge_at_sets first o falling) (λ sight own. down_plain sight first o [] h own (no_statement sight));
+            (edge_at_sets first o falling) (λ sight formals named operand own. down_plain sight formals named first o [] operand own (no_statement sight));
       }
 
 -- The RLO
@@ -128,42 +130,43 @@ module _ (first : ℕ) where
   set_rlo_serves : Serves op.SetRlo first [] (rlo_set true)
   set_rlo_serves =
       record {
-        does = λ g calls units frames now s related room. set_rlo_does g calls units frames now s related first;
-        template = is_template (reads_of op.SetRlo) first [] (rlo_set true) tt (omega arith) (rlo_set_nodes true) (λ P has. rlo_set_reads P first [] tt true)
-            (rlo_set_disorder first true) refl (λ sight own. rlo_set_plain sight true [] (no_statement sight));
+        does = λ g calls units frames now s operand related room. set_rlo_does g calls units frames now s related first;
+        template = is_template op.SetRlo first [] (rlo_set true) tt (omega arith) (rlo_set_nodes true) (λ P has. rlo_set_reads P first [] tt true)
+            (rlo_set_disorder first true) refl (λ sight formals named operand own. rlo_set_plain sight true [] (no_statement sight));
       }
 
   clear_rlo_serves : Serves op.ClearRlo first [] (rlo_set false)
   clear_rlo_serves =
       record {
-        does = λ g calls units frames now s related room. clear_rlo_does g calls units frames now s related first;
+        does = λ g calls units frames now s operand related room. clear_rlo_does g calls units frames now s related first;
         template =
-            is_template (reads_of op.ClearRlo) first [] (rlo_set false) tt (omega arith) (rlo_set_nodes false) (λ P has. rlo_set_reads P first [] tt false)
-            (rlo_set_disorder first false) refl (λ sight own. rlo_set_plain sight false [] (no_statement sight));
+            is_template op.ClearRlo first [] (rlo_set false) tt (omega arith) (rlo_set_nodes false) (λ P has. rlo_set_reads P first [] tt false)
+            (rlo_set_disorder first false) refl (λ sight formals named operand own. rlo_set_plain sight false [] (no_statement sight));
       }
 
   invert_serves : Serves op.NotRlo first [] inverted_of
   invert_serves =
       record {
-        does = λ g calls units frames now s related room. not_does g calls units frames now s related first;
-        template = is_template (reads_of op.NotRlo) first [] inverted_of tt (omega arith) inverted_nodes (λ P has. inverted_reads P first [] tt has)
-            (simp order_equations) refl (λ sight own. inverted_plain sight [] (no_statement sight));
+        does = λ g calls units frames now s operand related room. not_does g calls units frames now s related first;
+        template = is_template op.NotRlo first [] inverted_of tt (omega arith) inverted_nodes (λ P has. inverted_reads P first [] tt has)
+            (simp order_equations) refl (λ sight formals named operand own. inverted_plain sight [] (no_statement sight));
       }
 
   save_serves : Serves op.Save first [] saved_of
   save_serves =
       record {
-        does = λ g calls units frames now s related room. save_does g calls units frames now s related first;
-        template = is_template (reads_of op.Save) first [] saved_of tt (omega arith) saved_nodes (λ P has. saved_reads P first [] tt has)
-            (simp order_equations) refl (λ sight own. saved_plain sight [] (no_statement sight));
+        does = λ g calls units frames now s operand related room. save_does g calls units frames now s related first;
+        template = is_template op.Save first [] saved_of tt (omega arith) saved_nodes (λ P has. saved_reads P first [] tt has)
+            (simp order_equations) refl (λ sight formals named operand own. saved_plain sight [] (no_statement sight));
       }
 
   nop_serves : Serves op.Nop first [] []
   nop_serves =
       record {
-        does = λ g calls units frames now s related room. nop_does g calls units frames now s related first;
+        does = λ g calls units frames now s operand related room. nop_does g calls units frames now s related first;
         template =
-            is_template (reads_of op.Nop) first [] [] tt (omega arith) (omega (arith, of_nothing)) (λ P has. tt) refl refl (λ sight own. no_statement sight);
+            is_template op.Nop first [] [] tt (omega arith) (omega (arith, of_nothing))
+            (λ P has. tt) refl refl (λ sight formals named operand own. no_statement sight);
       }
 
 -- Brackets
@@ -172,8 +175,9 @@ opening_serves : (c : Check) (first : ℕ) → ServesOpening c first
 opening_serves c first =
     record {
       does = λ g calls units frames now s related room. open_does g calls units frames now s related first c room;
-      template = is_template (reads_of (op.Bracket c)) first types_of_bracket (open_of first) tt (omega arith) (omega (arith, of_opened first))
-          (λ P has. open_reads P first [] tt c has) (open_disorder first) refl (λ sight own. open_plain sight first [] own (no_statement sight));
+      template = is_template (op.Bracket c) first types_of_bracket (open_of first) tt (omega arith) (omega (arith, of_opened first))
+          (λ P has. open_reads P first [] tt c has) (open_disorder first) refl
+          (λ sight formals named operand own. open_plain sight first [] own (no_statement sight));
     }
 
 closing_serves : (kept : ℕ) (c : Check) (used : ℕ) → kept + 3 ≤ used → ServesClosing kept c used

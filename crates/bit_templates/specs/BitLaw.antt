@@ -42,7 +42,7 @@ pub record ServesOpening (c : Check) (first : ℕ) : Type 0 where
       → Related frames now s
       → first + 3 ≤ length (own_of s.activations)
       → Opens (body_meaning globals calls (open_of first) units s) units first frames s c now
-  pub template : IsTemplate (reads_of (op.Bracket c)) first types_of_bracket (open_of first)
+  pub template : IsTemplate (op.Bracket c) first types_of_bracket (open_of first)
 
 -- what the statements owe that close a bracket which is kept in the locals from `kept` on, where `used` locals are
 -- used
@@ -65,22 +65,22 @@ pub record ServesClosing (kept : ℕ) (c : Check) (used : ℕ) : Type 0 where
 
 -- the statements of each instruction of bit logic serve it
 pub record BitLogicServes : Type 0 where
-  pub check : (c : Check) (b : BitArg) (first : ℕ) → HasOperand (op.Check c b)
+  pub check : (c : Check) (b : BitArg) (first : ℕ)
       → Serves (op.Check c b) first (types_checked b) (checked_bit_of first c b)
   pub or_alone : (first : ℕ) → Serves op.OrAlone first [] or_alone_of
-  pub assign : (o : Operand) (first : ℕ) → HasOperand (op.Assign o)
+  pub assign : (o : Operand) (first : ℕ)
       → Serves (op.Assign o) first (types_reached o) (assigned_of first o)
-  pub set : (o : Operand) (first : ℕ) → HasOperand (op.Set o)
+  pub set : (o : Operand) (first : ℕ)
       → Serves (op.Set o) first (types_fetched o width.Bit) (stored_of first o set_value)
-  pub reset : (o : Operand) (first : ℕ) → HasOperand (op.Reset o)
+  pub reset : (o : Operand) (first : ℕ)
       → Serves (op.Reset o) first (types_fetched o width.Bit) (stored_of first o reset_value)
   pub set_rlo : (first : ℕ) → Serves op.SetRlo first [] (rlo_set true)
   pub clear_rlo : (first : ℕ) → Serves op.ClearRlo first [] (rlo_set false)
   pub invert : (first : ℕ) → Serves op.NotRlo first [] inverted_of
   pub save : (first : ℕ) → Serves op.Save first [] saved_of
-  pub edge_up : (o : Operand) (first : ℕ) → HasOperand (op.EdgeUp o)
+  pub edge_up : (o : Operand) (first : ℕ)
       → Serves (op.EdgeUp o) first (types_of_edge o) (edge_at first o rising)
-  pub edge_down : (o : Operand) (first : ℕ) → HasOperand (op.EdgeDown o)
+  pub edge_down : (o : Operand) (first : ℕ)
       → Serves (op.EdgeDown o) first (types_of_edge o) (edge_at first o falling)
   pub nothing : (first : ℕ) → Serves op.Nop first [] []
   pub opening : (c : Check) (first : ℕ) → ServesOpening c first

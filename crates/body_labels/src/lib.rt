@@ -5,7 +5,7 @@
 #![tactic(auto)]
 
 pub use labels::Labels;
-pub use lists::{list_count, listed_in};
+pub use lists::{MOST_LISTED, list_count, listed_in};
 
 mod labels;
 mod lists;

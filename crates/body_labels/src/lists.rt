@@ -10,7 +10,7 @@ use stl_statement_grammar::Mnemonic;
 use stl_tree::{JumpTest, RawInstr};
 
 /// The most `JU` in a jump list.
-const MOST_LISTED: usize = 255;
+pub const MOST_LISTED: usize = 255;
 
 /// Whether a mnemonic is `JU`.
 fn is_always(what: Option<Mnemonic>) -> bool

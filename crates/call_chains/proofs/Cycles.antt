@@ -57,19 +57,6 @@ pub returns_not : (numbers : List ℕ) (graph : Graph) (unit callee : ℕ) → a
     → get_or numbers callee 0 < get_or numbers unit 0 → Reaches graph callee unit → ⊥
 returns_not numbers graph unit callee h l r = let b = falls_along numbers graph h r.0 callee unit r.1 in omega (arith, b, l)
 
--- no numbers fall
-pub none_rises : (i : ℕ) (graph : Graph) → all_fall [] i graph ≡ true
-none_rises i [] = refl
-none_rises i (calls ∷ graph) = both (fall [] 0 calls) (all_fall [] (i + 1) graph) (row calls) (none_rises (i + 1) graph)
-  where
-    both : (a b : Bool) → a ≡ true → b ≡ true → (a && b) ≡ true
-    both true b e f = f
-    both false b e f = e
-
-    row : (cs : List Call) → fall [] 0 cs ≡ true
-    row [] = refl
-    row (c ∷ cs) = row cs
-
 -- One more call
 
 -- the order of calls
@@ -151,7 +138,7 @@ in_range [] i x h = absurd cc
 in_range (y ∷ xs) zero x h = omega arith
 in_range (y ∷ xs) (suc i) x h = omega (arith, in_range xs i x h)
 
-unit_in_range : (graph : Graph) (i k : ℕ) (c : Call) → call_at graph i k ≡ Some c → i < length graph
+pub unit_in_range : (graph : Graph) (i k : ℕ) (c : Call) → call_at graph i k ≡ Some c → i < length graph
 unit_in_range graph i k c h = at (slice_get graph i) refl h
   where
     at : (u : Option (List Call)) → slice_get graph i ≡ u → call_in u k ≡ Some c → i < length graph

@@ -1,4 +1,6 @@
+pub mod Candidates
+pub mod CycleLines
 pub mod Cycles
-pub mod FoundCycle
 pub mod Followed
+pub mod FoundCycle
 pub mod Reached

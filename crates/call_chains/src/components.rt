@@ -1,7 +1,7 @@
 //! Numbers of units, equal for two units that lie on a cycle of calls with one another.
 //!
 //! Only the running time of `first_cycle` depends on them: it tests whether the numbers fall along calls, and
-//! follows each call that keeps its number. So no clause says what they are.
+//! searches from the first call that makes no number less. So no clause says what they are.
 
 use crate::call::Call;
 use s7_base::{List, NoMemory};

@@ -8,6 +8,7 @@ pub use cycle::first_cycle;
 pub use depth::chains;
 
 mod call;
+mod candidate;
 pub mod chain_laws;
 mod components;
 mod cycle;

@@ -11,7 +11,7 @@ use Rattle.image_text.specs.Reading.{Reads as ReadsAs}
 use Rattle.image_text.specs.Report.{report}
 use Rattle.image_text.specs.declared.refusal.ImageRefusal.{ImageRefusal}
 use Rattle.image_text.specs.declared.refusal.ImageRefusal.TheVariants as why
-use Rattle.memory_areas.specs.Areas.{AreBlocks, Areas, Contents}
+use Rattle.memory_areas.specs.Areas.{Areas, Contents}
 use Rattle.memory_areas.specs.End.{End}
 use Rattle.memory_areas.specs.declared.data_block.DataBlock.{DataBlock}
 use Rattle.st_parser.proofs.TextReads.{proper_reads}
@@ -159,10 +159,6 @@ done_alone {X = X} work To x i made text e reply answers =
       answers = subst (λ (r : Reply). To x r) (sym reply) answers;
       written = status_written made Done text reply tt;
     })
-
--- the data blocks of an accepted program are ones of a memory
-pub its_blocks : (program : Program) → IsAccepted program → AreBlocks program.dbs
-its_blocks program accepted = accepted.dbs
 
 -- the spelling of a proper tree that means the same as a program is a text that means what the program means
 pub translates : (program : Program) (tree : StProgram) (text : List ℕ) → Proper tree → Same program tree → text ≡ spelling tree → Translates program text

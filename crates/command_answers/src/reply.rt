@@ -3,7 +3,7 @@
 //! `reply_to` chooses what each command does. `source_reply` and `text_reply` read and judge a source of
 //! their language, `program_reply` does a job with a program, and runs read their image then.
 ghost use Rattle.std.specs.Prelude.{◌≡◌, ◌≢◌, ◌≤◌, Some, Ok, None, IfOk, IfErr, MatchOption, length};
-ghost use Rattle.memory_areas.specs.Areas.{AreBlocks, IsMemoryOf};
+ghost use Rattle.memory_areas.specs.Areas.{IsMemoryOf};
 ghost use Rattle.st_tree.specs.Proper.{Proper};
 ghost use Rattle.st_tree.specs.StRun.{FitsSt, st_run};
 ghost use Rattle.stl_tree.specs.Accepted.{IsAccepted};
@@ -231,6 +231,8 @@ fn call_reply(
     steps: u64,
     memory: Memory,
 ) -> Result<Reply, NoMemory>
+    requires accepted { IsAccepted program.now }
+    requires memory { IsMemoryOf program.now.dbs memory.areas }
     ensures answer { IfOk result (AnsweredCall (Fits program.now call.now)
         (λ start. stl_run program.now call.now start steps) memory.areas) }
     ensures status { IfOk result (λ reply. IsWritten reply.status × SaysRead reply.status) }
@@ -253,7 +255,7 @@ fn run_reply<M: Source>(
     steps: u64,
     image: &mut M,
 ) -> Result<Reply, Stop>
-    requires { AreBlocks program.now.dbs }
+    requires { IsAccepted program.now }
     ensures answer { IfOk result (AnsweredTo (λ bytes reply. AnswersRunStl steps call.now bytes program.now reply)
         (input M.Source image.old image.new)) }
     ensures reads { ReadsImage (input M.Source image.old image.new) (ending result) }

@@ -1,5 +1,6 @@
 //! The index of the components of declarations.
-ghost use Rattle.std.specs.Prelude.{◌≡◌, IfOk, option_map};
+ghost use Rattle.std.specs.Prelude.{◌≡◌, [], IfOk, option_map};
+ghost use Rattle.stl_rules.specs.Interfaces.{is_declared};
 ghost use Rattle.stl_rules.specs.Paths.{component_at, component_in};
 ghost use Rattle.component_index.specs.inner.Scopes.{component_behind, placed_of_entry};
 ghost use Rattle.symbol_layout.specs.Kept.{sections_now};
@@ -79,6 +80,21 @@ impl<'d> Components<'d> {
         ensures { sections_now result.now ≡ self.now }
     {
         self.sections.as_slice()
+    }
+
+    /// Whether a declaration of a section has a name.
+    pub fn declares(&self, alloc: Global, name: &[u8]) -> Result<bool, NoMemory>
+        ensures { IfOk result (λ found. found ≡ is_declared name.now self.now) }
+    {
+        let key = key_of(alloc, name)?;
+        Ok(self.names.find(key.as_slice()).is_some())
+    }
+
+    /// The component of a declaration of a section by its name.
+    pub fn component_named(&self, alloc: Global, name: &[u8]) -> Result<Option<Component>, NoMemory>
+        ensures { IfOk result (λ at. at ≡ component_behind self.now name.now []) }
+    {
+        self.component_behind(alloc, name, &[])
     }
 
     /// The component that a name and the path after it name.

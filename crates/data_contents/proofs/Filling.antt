@@ -5,7 +5,7 @@ use Rattle.s7_base.specs.Broken.{first_of_all}
 use Rattle.s7_base.specs.declared.rule_break.Break.{Break}
 use Rattle.stl_tree.specs.declared.raw.Declaration.{Declaration}
 use Rattle.stl_rules.specs.Layouts.{layout_unless, breaks_in, layout_of, length_of, initial_of}
-use Rattle.stl_rules.specs.Raw.{most_in_block}
+use Rattle.stl_rules.specs.Interfaces.{most_in_block}
 use Rattle.stl_rules.specs.declared.layout.Layout.{Layout}
 use Rattle.data_contents.specs.inner.Inside.{AreKept}
 

@@ -7,7 +7,7 @@ use Rattle.stl_rules.specs.DeclarationRules.{elementary}
 use Rattle.stl_rules.specs.Extents.{end_of_sections, extent_of, extent_of_width, width_of}
 use Rattle.stl_rules.specs.Layouts.{initial_of}
 use Rattle.stl_rules.specs.Paths.{Placed, component_at, named_by_path}
-use Rattle.stl_rules.specs.Raw.{most_in_block}
+use Rattle.stl_rules.specs.Interfaces.{most_in_block}
 use Rattle.stl_rules.proofs.Components.{LiesIn, found_in_sections}
 use Rattle.stl_rules.proofs.Ends.{of_elementary}
 use Rattle.stl_rules.proofs.Lengths.{AreSized, are_sized}

@@ -5,7 +5,7 @@ use Rattle.data_contents.specs.declared.content.Content.TheVariants as holds
 use Rattle.s7_base.specs.Broken.{first_of_all}
 use Rattle.s7_base.specs.declared.rule_break.Break.{Break}
 use Rattle.stl_rules.specs.DataBlocks.{bytes_with}
-use Rattle.stl_rules.specs.Raw.{are_refused, most_in_block}
+use Rattle.stl_rules.specs.Interfaces.{are_refused, most_in_block}
 use Rattle.stl_rules.specs.Stages.{valued_breaks}
 use Rattle.stl_tree.specs.declared.raw.Declaration.{Declaration}
 use Rattle.stl_tree.specs.declared.raw.RawInitial.{RawInitial}

@@ -12,3 +12,4 @@ mod writes;
 
 pub use content::{Content, content_of};
 pub use order::in_order;
+pub use values::first_of_values;

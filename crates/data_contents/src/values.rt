@@ -1,13 +1,14 @@
 //! Initial values: the rules that they break, and their writes.
-ghost use Rattle.std.specs.Prelude.{◌≡◌, ◌++◌, length, IfSome, OnOk};
+ghost use Rattle.std.specs.Prelude.{◌≡◌, ◌++◌, length, IfOk, IfSome, OnOk};
 ghost use Rattle.std.specs.List.{flat_map, fold};
 ghost use Rattle.data_contents.specs.inner.Inside.{AreInside, IsInside};
+ghost use Rattle.s7_base.specs.Broken.{first_of_all};
 ghost use Rattle.stl_rules.specs.DataBlocks.{with_constant, with_value, with_value_at};
 ghost use Rattle.stl_rules.specs.Stages.{breaks_at, fits_kind, initial_breaks};
 
 use crate::writes::put_number;
 use component_index::Components;
-use s7_base::{Break, List, NoMemory, Reason, note};
+use s7_base::{Break, List, NoMemory, Reason, first_of_all, note};
 use std::alloc::Global;
 use stl_rules::Component;
 use stl_tree::{Constant, ElemType, RawInitial};
@@ -95,4 +96,32 @@ pub fn put_values(
         put_value(alloc, components, v, bytes, breaks)?;
     }
     Ok(())
+}
+
+/// Notes the rules that an initial value breaks.
+fn judge_value(
+    alloc: Global,
+    components: &Components<'_>,
+    v: &RawInitial,
+    breaks: &mut List<Break>,
+) -> Result<(), NoMemory>
+    ensures { OnOk result (breaks.new ≡ breaks.old ++ initial_breaks components.now v.now) }
+{
+    let at = components.component(alloc, v.path.as_slice())?;
+    judge(v, at, breaks)
+}
+
+/// The first rule that initial values break in declarations that keep the rules.
+pub fn first_of_values(
+    alloc: Global,
+    components: &Components<'_>,
+    values: &[RawInitial],
+) -> Result<Option<Break>, NoMemory>
+    ensures { IfOk result (λ first. first ≡ first_of_all (flat_map (initial_breaks components.now) values.now)) }
+{
+    let mut breaks = List::new(alloc);
+    for v in values {
+        judge_value(alloc, components, v, &mut breaks)?;
+    }
+    Ok(first_of_all(breaks.as_slice()))
 }

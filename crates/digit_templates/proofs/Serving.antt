@@ -35,23 +35,23 @@ pub digits_serve : DigitsServe
 digits_serve =
     record {
       bti = λ first. record {
-        does = λ g calls units frames now s related room. bti_does g calls units frames now s related first room;
+        does = λ g calls units frames now s operand related room. bti_does g calls units frames now s related first room;
         template = is_template _ first _ (bti_of first) tt (omega arith) (simp counts (omega arith)) (λ P h. bti_reads P first [] h tt)
-            (simp order_equations (omega arith)) refl (λ sight types. bti_plain sight first [] (no_statement sight) types);
+            (simp order_equations (omega arith)) refl (λ sight formals named operand types. bti_plain sight first [] (no_statement sight) types);
       };
       btd = λ first. record {
-        does = λ g calls units frames now s related room. btd_does g calls units frames now s related first room;
+        does = λ g calls units frames now s operand related room. btd_does g calls units frames now s related first room;
         template = is_template _ first _ (btd_of first) tt (omega arith) (simp counts (omega arith)) (λ P h. btd_reads P first [] h tt)
-            (simp order_equations (omega arith)) refl (λ sight types. btd_plain sight first [] (no_statement sight) types);
+            (simp order_equations (omega arith)) refl (λ sight formals named operand types. btd_plain sight first [] (no_statement sight) types);
       };
       itb = λ first. record {
-        does = λ g calls units frames now s related room. itb_does g calls units frames now s related first room;
+        does = λ g calls units frames now s operand related room. itb_does g calls units frames now s related first room;
         template = is_template _ first _ (itb_of first) tt (omega arith) (simp counts (omega arith)) (λ P h. itb_reads P first [] h tt)
-            (itb_order first) refl (λ sight types. itb_plain sight first [] (no_statement sight) types);
+            (itb_order first) refl (λ sight formals named operand types. itb_plain sight first [] (no_statement sight) types);
       };
       dtb = λ first. record {
-        does = λ g calls units frames now s related room. dtb_does g calls units frames now s related first room;
+        does = λ g calls units frames now s operand related room. dtb_does g calls units frames now s related first room;
         template = is_template _ first _ (dtb_of first) tt (omega arith) (simp counts (omega arith)) (λ P h. dtb_reads P first [] h tt)
-            (dtb_order first) refl (λ sight types. dtb_plain sight first [] (no_statement sight) types);
+            (dtb_order first) refl (λ sight formals named operand types. dtb_plain sight first [] (no_statement sight) types);
       };
     }

@@ -10,7 +10,7 @@ use Rattle.flow_graph.specs.declared.graph.Exit.TheVariants as way
 use Rattle.flow_graph.specs.declared.graph.Node.{Node}
 use Rattle.flow_laws.proofs.Shapes.{HasItsOperand, IsRest, aimed_none, aimed_target, closed_list, list_ends, list_goes_on, listed_to, long_list, open_after, rest_behind, rest_behind_list, taken_long}
 use Rattle.flow_laws.specs.Ways.{AreListedTo, Branches, Ends, EndsIf, Goes, GoesBy, IsClosed, IsInside, Jumps, Selects}
-use Rattle.stl_tree.specs.Accepted.{AreJumps, AreListed, HasList, HasOperand, IsEnded, open_at, targets_of}
+use Rattle.stl_tree.specs.Accepted.{AreJumps, AreListed, HasList, HasOperand, IsEnded, Widths, open_at, targets_of}
 use Rattle.stl_tree.specs.Blocks.{Way, always, begins_at, goes_elsewhere, if_made, is_aimed_at, is_last_at, on, one_of, still_listed, stops, unless_ended, way_after, way_by, way_of}
 use Rattle.stl_tree.specs.Brackets.{AreNested, WithNumber, none_open, open_behind}
 use Rattle.stl_tree.specs.declared.program.Instr.{Instr}
@@ -113,14 +113,14 @@ low_or_high (suc n) zero = inr (omega arith)
 low_or_high (suc n) (suc c) =
     ⊎_elim (λ (low : n ≤ c). inl (omega (arith, low))) (λ (high : c < n). inr (omega (arith, high))) (low_or_high n c)
 
-module _ (body : List Instr) (jumps : AreJumps body) (blocks : List Node) (i : ℕ) (x : Node)
+module _ (formals : Widths) (body : List Instr) (jumps : AreJumps body) (blocks : List Node) (i : ℕ) (x : Node)
     (within : x.past ≤ length body) (inner : (k : ℕ) → x.first < k → k < x.past → begins_at body k ≡ false)
     (next : x.past < length body → begins_at body x.past ≡ true) (behind : x.past < length body → BeginsAt blocks (suc i) x.past) where
   -- what is found of a block from a position on
   pub record IsFound (at m n : ℕ) (ys : List Instr) : Type 0 where
     pub goes : Goes blocks i at (take n ys) x.exit
     pub closed : IsClosed (take n ys) m
-    pub rest : IsRest body x.past 0 0 (drop n ys)
+    pub rest : IsRest formals body x.past 0 0 (drop n ys)
 
   -- a block does not begin inside, nor end where none begins
   begins_behind : (at : ℕ) → is_last_at 0 body at ≡ true → begins_at body (at + 1) ≡ true
@@ -149,7 +149,7 @@ module _ (body : List Instr) (jumps : AreJumps body) (blocks : List Node) (i : �
   end_word : (o : Op) → o ≡ op.BlockEnd → goes_elsewhere o ≡ true
   end_word o e = ap goes_elsewhere e
 
-  module _ (at m n : ℕ) (y : Instr) (ys : List Instr) (here : IsRest body at 0 m (y ∷ ys)) (above : x.first ≤ at) (reach : at + suc n ≡ x.past)
+  module _ (at m n : ℕ) (y : Instr) (ys : List Instr) (here : IsRest formals body at 0 m (y ∷ ys)) (above : x.first ≤ at) (reach : at + suc n ≡ x.past)
       (exit : IsExitTo blocks (way_of (y ∷ take n ys)) x.exit) where
     last_here : is_last_at 0 body at ≡ (goes_elsewhere y.op && (still_listed y.op 0 == 0))
     last_here = let e : at ≡ at + 0 = omega arith in ap (is_last_at 0 body) e ∙ here.lasts 0
@@ -167,9 +167,9 @@ module _ (body : List Instr) (jumps : AreJumps body) (blocks : List Node) (i : �
         (record {
           goes = goes (subst (λ (k : ℕ). IsExitTo blocks (way_of (y ∷ take k ys)) x.exit) short exit);
           closed = subst (λ (o : Option ℕ). WithNumber o (IsClosed [])) (sym (opens 0)) refl;
-          rest = subst (λ (k : ℕ). IsRest body k 0 0 ys) ends
-              (subst (λ (k : ℕ). IsRest body (at + 1) k 0 ys) none
-              (rest_behind body at 0 0 0 y ys (subst (λ (k : ℕ). IsRest body at 0 k (y ∷ ys)) closed.0 here) (opens 0) closed.1));
+          rest = subst (λ (k : ℕ). IsRest formals body k 0 0 ys) ends
+              (subst (λ (k : ℕ). IsRest formals body (at + 1) k 0 ys) none
+              (rest_behind formals body at 0 0 0 y ys (subst (λ (k : ℕ). IsRest formals body at 0 k (y ∷ ys)) closed.0 here) (opens 0) closed.1));
         }))
       where
         ending : at + 1 ≡ x.past
@@ -206,10 +206,10 @@ module _ (body : List Instr) (jumps : AreJumps body) (blocks : List Node) (i : �
               goes = subst (λ (o : Op). GoesBy blocks i at o (take (suc c) ys) x.exit (Goes blocks i (at + 1) (take (suc c) ys) x.exit)) (sym is)
                   (selects_by blocks (suc c) label ys x.exit list.0 way);
               closed = subst (λ (o : Op). WithNumber (open_behind o 0) (IsClosed (take (suc c) ys))) (sym is) (closed_list (suc c) ys list.0);
-              rest = subst (λ (k : ℕ). IsRest body k 0 0 (drop (suc c) ys)) past
-                  (rest_behind_list (suc c) body (at + 1) ys list.0
-                  (subst (λ (k : ℕ). IsRest body (at + 1) k 0 ys) (ap (λ (o : Op). still_listed o 0) is)
-                  (rest_behind body at 0 0 0 y ys (subst (λ (k : ℕ). IsRest body at 0 k (y ∷ ys)) closed.0 here)
+              rest = subst (λ (k : ℕ). IsRest formals body k 0 0 (drop (suc c) ys)) past
+                  (rest_behind_list formals (suc c) body (at + 1) ys list.0
+                  (subst (λ (k : ℕ). IsRest formals body (at + 1) k 0 ys) (ap (λ (o : Op). still_listed o 0) is)
+                  (rest_behind formals body at 0 0 0 y ys (subst (λ (k : ℕ). IsRest formals body at 0 k (y ∷ ys)) closed.0 here)
                   (ap (λ (o : Op). open_behind o 0) is) closed.1)));
             }))
           where
@@ -272,7 +272,8 @@ module _ (body : List Instr) (jumps : AreJumps body) (blocks : List Node) (i : �
                     subst (λ (o : Op). IsExitTo blocks (way_by o (z ∷ take c zs) (way_of (z ∷ take c zs))) x.exit) is e
 
   -- no bracket is open where a block begins because a jump leads there
-  aimed_open : (at k : ℕ) (ys : List Instr) → 1 ≤ length ys → IsRest body (at + 1) 0 k ys → begins_at body (at + 1) ≡ true → is_last_at 0 body at ≡ false
+  aimed_open : (at k : ℕ) (ys : List Instr) → 1 ≤ length ys → IsRest formals body (at + 1) 0 k ys
+      → begins_at body (at + 1) ≡ true → is_last_at 0 body at ≡ false
       → k ≡ 0
   aimed_open at k [] some rest begins no_last = absurd (omega arith)
   aimed_open at k (z ∷ zs) some rest begins no_last =
@@ -292,30 +293,30 @@ module _ (body : List Instr) (jumps : AreJumps body) (blocks : List Node) (i : �
   differ : (b : Bool) → b ≡ true → b ≡ false → ⊥
   differ b t f = cc
 
-  some_listed : (o : Op) (count label : ℕ) → o ≡ op.JumpList count label → HasOperand o → 1 ≤ count
-  some_listed o count label is h = let operand : HasOperand (op.JumpList count label) = subst HasOperand is h in operand.0
+  some_listed : (o : Op) (count label : ℕ) → o ≡ op.JumpList count label → HasOperand formals o → 1 ≤ count
+  some_listed o count label is h = let operand : HasOperand formals (op.JumpList count label) = subst (HasOperand formals) is h in operand.0
 
   -- what follows an instruction inside the block
-  module _ (at m n : ℕ) (y : Instr) (ys : List Instr) (here : IsRest body at 0 m (y ∷ ys)) (above : x.first ≤ at) (reach : at + suc n ≡ x.past)
+  module _ (at m n : ℕ) (y : Instr) (ys : List Instr) (here : IsRest formals body at 0 m (y ∷ ys)) (above : x.first ≤ at) (reach : at + suc n ≡ x.past)
       (exit : IsExitTo blocks (way_of (y ∷ take n ys)) x.exit) where
     abbrev FoundBehind : Type 0
     FoundBehind =
-        IsInside y.op → goes_elsewhere y.op ≡ false → way_after y.op ≡ on → (k : ℕ) → IsRest body (at + 1) 0 k ys → IsFound (at + 1) k n ys
+        IsInside y.op → goes_elsewhere y.op ≡ false → way_after y.op ≡ on → (k : ℕ) → IsRest formals body (at + 1) 0 k ys → IsFound (at + 1) k n ys
 
     by_turn : FoundBehind → Turn y.op → IsFound at m (suc n) (y ∷ ys)
     by_turn others (ends_block elsewhere none opens) = by_last at m n y ys here above reach exit elsewhere none opens
     by_turn others (begins_list count label is) =
-        by_list at m n y ys here above reach exit count label is (some_listed y.op count label is (All-head HasItsOperand y ys here.operands))
+        by_list at m n y ys here above reach exit count label is (some_listed y.op count label is (All-head (HasItsOperand formals) y ys here.operands))
     by_turn others (stands_inside is_inside elsewhere one_less on_way) =
         let none : still_listed y.op 0 ≡ 0 = one_less 0 ∙ omega arith in
         let opens = open_after (AreNested ys) (open_behind y.op m) here.nested in
-        let rest : IsRest body (at + 1) 0 opens.0 ys =
-        subst (λ (k : ℕ). IsRest body (at + 1) k opens.0 ys) none (rest_behind body at 0 m opens.0 y ys here opens.1 opens.2) in
+        let rest : IsRest formals body (at + 1) 0 opens.0 ys =
+        subst (λ (k : ℕ). IsRest formals body (at + 1) k opens.0 ys) none (rest_behind formals body at 0 m opens.0 y ys here opens.1 opens.2) in
         by_inside at m n y ys here above reach exit is_inside elsewhere none opens.0 opens.1 (others is_inside elsewhere on_way opens.0 rest)
 
   -- behind the last one, from which the next block follows
-  falls_behind : (at m : ℕ) (y : Instr) (ys : List Instr) → IsRest body at 0 m (y ∷ ys) → x.first ≤ at → at + 1 ≡ x.past
-      → IsExitTo blocks (way_of (y ∷ [])) x.exit → goes_elsewhere y.op ≡ false → way_after y.op ≡ on → (k : ℕ) → IsRest body (at + 1) 0 k ys
+  falls_behind : (at m : ℕ) (y : Instr) (ys : List Instr) → IsRest formals body at 0 m (y ∷ ys) → x.first ≤ at → at + 1 ≡ x.past
+      → IsExitTo blocks (way_of (y ∷ [])) x.exit → goes_elsewhere y.op ≡ false → way_after y.op ≡ on → (k : ℕ) → IsRest formals body (at + 1) 0 k ys
       → IsFound (at + 1) k 0 ys
   falls_behind at m y ys here above ends exit elsewhere on_way k rest =
       let some : 1 ≤ length ys = not_last y ys (here.ended y ys refl) (λ e. differ (goes_elsewhere y.op) (ap goes_elsewhere e) elsewhere) in
@@ -326,7 +327,7 @@ module _ (body : List Instr) (jumps : AreJumps body) (blocks : List Node) (i : �
       record {
         goes = (falls_by blocks x.exit (subst (λ (w : Way). IsExitTo blocks w x.exit) on_way exit), subst (BeginsAt blocks (suc i)) (sym ends) (behind more));
         closed = none_open_here;
-        rest = subst (λ (m : ℕ). IsRest body m 0 0 ys) ends (subst (λ (m : ℕ). IsRest body (at + 1) 0 m ys) none_open_here rest);
+        rest = subst (λ (m : ℕ). IsRest formals body m 0 0 ys) ends (subst (λ (m : ℕ). IsRest formals body (at + 1) 0 m ys) none_open_here rest);
       }
 
   later_way : (n : ℕ) (y : Instr) (ys : List Instr) → IsInside y.op → way_after y.op ≡ on → IsExitTo blocks (way_of (y ∷ take n ys)) x.exit
@@ -337,7 +338,7 @@ module _ (body : List Instr) (jumps : AreJumps body) (blocks : List Node) (i : �
       subst (λ (w : Way). IsExitTo blocks w x.exit) (way_inside y.op (z ∷ take n zs) (way_of (z ∷ take n zs)) is_inside) e
 
   -- from a position in the block on
-  pub walk : (n at m : ℕ) (ys : List Instr) → IsRest body at 0 m ys → x.first ≤ at → at + suc n ≡ x.past
+  pub walk : (n at m : ℕ) (ys : List Instr) → IsRest formals body at 0 m ys → x.first ≤ at → at + suc n ≡ x.past
       → IsExitTo blocks (way_of (take (suc n) ys)) x.exit → IsFound at m (suc n) ys
   walk n at m [] here above reach exit = absurd (omega (arith, here.size))
   walk zero at m (y ∷ ys) here above reach exit =

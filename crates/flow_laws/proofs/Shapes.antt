@@ -8,7 +8,7 @@ use Rattle.std.proofs.lemmas.List.Elements.{All-head, All-tail}
 use Rattle.flow_graph.specs.Graphs.{BeginAt}
 use Rattle.flow_graph.specs.declared.graph.Node.{Node}
 use Rattle.flow_laws.specs.Ways.{AreListedTo, HasFrom, IsClosed}
-use Rattle.stl_tree.specs.Accepted.{AreListed, HaveLists, HaveOperands, IsAlways, IsEnded, IsOutside, IsTarget, HasOperand, open_at, targets_of}
+use Rattle.stl_tree.specs.Accepted.{AreListed, HasOperand, HaveLists, HaveOperands, IsAlways, IsEnded, IsOutside, IsTarget, Widths, open_at, targets_of}
 use Rattle.stl_tree.specs.Blocks.{goes_elsewhere, is_last_at, still_listed}
 use Rattle.stl_tree.specs.Brackets.{AreNested, WithNumber, none_open, open_behind}
 use Rattle.stl_tree.specs.declared.program.Instr.{Instr}
@@ -42,19 +42,19 @@ get_taken (y ∷ ys) zero j i e = cc
 get_taken (y ∷ ys) (suc n) zero i e = e
 get_taken (y ∷ ys) (suc n) (suc j) i e = get_taken ys n j i e
 
--- what is said of the rest of a body, where so many JU of a jump list are to come and so many brackets are open
-pub record IsRest (body : List Instr) (at listed open_now : ℕ) (ys : List Instr) : Type 0 where
+-- what is said of the rest of a body that names formals of these widths, where so many JU of a jump list are to come and so many brackets are open
+pub record IsRest (formals : Widths) (body : List Instr) (at listed open_now : ℕ) (ys : List Instr) : Type 0 where
   pub from : drop at body ≡ ys
   pub size : at + length ys ≡ length body
   pub lasts : (k : ℕ) → is_last_at 0 body (at + k) ≡ is_last_at listed ys k
   pub opens : (k : ℕ) → open_at 0 body (at + k) ≡ open_at open_now ys k
   pub nested : AreNested ys open_now
-  pub operands : HaveOperands ys
+  pub operands : HaveOperands formals ys
   pub lists : HaveLists body at ys
   pub ended : (y : Instr) (more : List Instr) → ys ≡ y ∷ more → IsEnded ys
 
-abbrev pub HasItsOperand : Instr → Type 0
-HasItsOperand i = HasOperand i.op
+abbrev pub HasItsOperand : Widths → Instr → Type 0
+HasItsOperand formals i = HasOperand formals i.op
 
 -- how many brackets are open behind an instruction
 pub open_after : (P : ℕ → Type 0) (o : Option ℕ) → WithNumber o P → (m : ℕ) × (o ≡ Some m) × P m
@@ -66,9 +66,10 @@ ended_rest y [] h z more e = cc
 ended_rest y (x ∷ ys) h z more e = h
 
 -- the rest behind an instruction
-pub rest_behind : (body : List Instr) (at listed m n : ℕ) (y : Instr) (ys : List Instr) → IsRest body at listed m (y ∷ ys) → open_behind y.op m ≡ Some n
-    → AreNested ys n → IsRest body (at + 1) (still_listed y.op listed) n ys
-rest_behind body at listed m n y ys h open_n nested =
+pub rest_behind : (formals : Widths) (body : List Instr) (at listed m n : ℕ) (y : Instr) (ys : List Instr)
+    → IsRest formals body at listed m (y ∷ ys) → open_behind y.op m ≡ Some n
+    → AreNested ys n → IsRest formals body (at + 1) (still_listed y.op listed) n ys
+rest_behind formals body at listed m n y ys h open_n nested =
     record {
       from = drop_next body at y ys h.from;
       size = omega (arith, h.size);
@@ -77,13 +78,14 @@ rest_behind body at listed m n y ys h open_n nested =
           let e : at + 1 + k ≡ at + suc k = omega arith in
           ap (open_at 0 body) e ∙ h.opens (suc k) ∙ ap (option_and_then (λ m. open_at m ys k)) open_n;
       nested = nested;
-      operands = All-tail HasItsOperand y ys h.operands;
+      operands = All-tail (HasItsOperand formals) y ys h.operands;
       lists = h.lists.1;
       ended = ended_rest y ys (h.ended y ys refl);
     }
 
-pub has_from : (body : List Instr) (at listed m : ℕ) (ys : List Instr) → IsRest body at listed m ys → (n : ℕ) → HasFrom body at (take n ys)
-has_from body at listed m ys h n j i e =
+pub has_from : (formals : Widths) (body : List Instr) (at listed m : ℕ) (ys : List Instr)
+    → IsRest formals body at listed m ys → (n : ℕ) → HasFrom body at (take n ys)
+has_from formals body at listed m ys h n j i e =
     get_after body at j ∙ ap (λ (zs : List Instr). slice_get zs j) h.from ∙ get_taken ys n j i e
 
 -- Jump lists
@@ -123,17 +125,19 @@ list_goes_on (suc n) (suc k) (y ∷ ys) h less =
     ap (λ (m : ℕ). is_last_at m ys k) more ∙ list_goes_on n k ys h.1 (omega arith)
 
 -- the rest behind a list
-pub rest_behind_list : (n : ℕ) (body : List Instr) (at : ℕ) (ys : List Instr) → AreListed n ys → IsRest body at n 0 ys → IsRest body (at + n) 0 0 (drop n ys)
-rest_behind_list zero body at ys h rest =
-    let e : at + 0 ≡ at = omega arith in subst (λ (m : ℕ). IsRest body m 0 0 ys) (sym e) rest
-rest_behind_list (suc n) body at [] h rest = elim h [ ]
-rest_behind_list (suc n) body at (y ∷ ys) h rest =
+pub rest_behind_list : (formals : Widths) (n : ℕ) (body : List Instr) (at : ℕ) (ys : List Instr)
+    → AreListed n ys → IsRest formals body at n 0 ys → IsRest formals body (at + n) 0 0 (drop n ys)
+rest_behind_list formals zero body at ys h rest =
+    let e : at + 0 ≡ at = omega arith in subst (λ (m : ℕ). IsRest formals body m 0 0 ys) (sym e) rest
+rest_behind_list formals (suc n) body at [] h rest = elim h [ ]
+rest_behind_list formals (suc n) body at (y ∷ ys) h rest =
     let less : still_listed y.op (suc n) ≡ n = always_one_less y.op (suc n) h.0 ∙ omega arith in
     let more : at + 1 + n ≡ at + suc n = omega arith in
     let none : open_behind y.op 0 ≡ Some 0 = always_open y.op 0 h.0 in
     let nested : AreNested ys 0 = subst (λ (o : Option ℕ). WithNumber o (AreNested ys)) none rest.nested in
-    subst (λ (m : ℕ). IsRest body m 0 0 (drop n ys)) more
-    (rest_behind_list n body (at + 1) ys h.1 (subst (λ (m : ℕ). IsRest body (at + 1) m 0 ys) less (rest_behind body at (suc n) 0 0 y ys rest none nested)))
+    subst (λ (m : ℕ). IsRest formals body m 0 0 (drop n ys)) more
+    (rest_behind_list formals n body (at + 1) ys h.1
+    (subst (λ (m : ℕ). IsRest formals body (at + 1) m 0 ys) less (rest_behind formals body at (suc n) 0 0 y ys rest none nested)))
 
 pub closed_list : (n : ℕ) (ys : List Instr) → AreListed n ys → IsClosed (take n ys) 0
 closed_list zero ys h = refl

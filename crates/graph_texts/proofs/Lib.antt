@@ -1,5 +1,7 @@
 mod Arms
+mod CallCases
 mod Chains
+mod Entering
 mod Exits
 mod LoopCases
 mod LoopNesting
@@ -11,5 +13,7 @@ mod ProperText
 mod Runs
 mod Same
 mod Starts
+mod Steps
 mod Tests
 mod Turns
+mod Units

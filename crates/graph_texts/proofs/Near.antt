@@ -41,11 +41,11 @@ pub record Shape : Type 0 where
   pub first : ℕ → ℕ
   pub second : ℕ → ℕ
 
--- a reference is to no local that is not shared
-abbrev pub IsInside : Shape → Reference → Type 0
-IsInside shape (reference.Register r) = Unit {0}
-IsInside shape (reference.Local d i) = i < shape.shared d
-IsInside shape (reference.Place p ty) = Unit {0}
+-- a reference is to no local of the activation at a depth or at a greater one, and to none that is not shared
+abbrev pub IsInside : Shape → ℕ → Reference → Type 0
+IsInside shape depth (reference.Register r) = Unit {0}
+IsInside shape depth (reference.Local d i) = (d < depth) × (i < shape.shared d)
+IsInside shape depth (reference.Place p ty) = Unit {0}
 
 -- two states agree in all but the locals that are not shared
 pub record Near (shape : Shape) (s t : State) : Type 0 where
@@ -57,7 +57,7 @@ pub record Near (shape : Shape) (s t : State) : Type 0 where
   pub second : (d : ℕ) → length (locals_at d t) ≡ shape.second d
   pub same : (d i : ℕ) → i < shape.shared d → slice_get (locals_at d s) i ≡ slice_get (locals_at d t) i
   pub formals : (d : ℕ) → formals_of (slice_get s.activations d) ≡ formals_of (slice_get t.activations d)
-  pub inside : (d k : ℕ) (r : Reference) → slice_get (formals_of (slice_get s.activations d)) k ≡ Some r → IsInside shape r
+  pub inside : (d k : ℕ) (r : Reference) → slice_get (formals_of (slice_get s.activations d)) k ≡ Some r → IsInside shape d r
 
 -- A local that takes a value
 
@@ -130,7 +130,7 @@ Written shape (Err f) (Err g) = f ≡ g
 Written shape v w = ⊥
 
 module _ (shape : Shape) (s t : State) (near : Near shape s t) where
-  deep_first : depth s ≡ shape.waiting
+  pub deep_first : depth s ≡ shape.waiting
   deep_first = omega (arith, near.deep)
 
   deep_second : depth t ≡ shape.waiting
@@ -201,7 +201,7 @@ module _ (shape : Shape) (s t : State) (near : Near shape s t) where
     same_pointed : (p : Value) → pointed_at p s ≡ pointed_at p t
     same_pointed p = rw (near.registers, same_depth) refl
 
-    same_reference : (v : Var) → reference_of g v s ≡ reference_of g v t
+    pub same_reference : (v : Var) → reference_of g v s ≡ reference_of g v t
     same_reference (var.Register r) = refl
     same_reference (var.Local i) = ap (λ (d : ℕ). Ok (reference.Local d i)) same_depth
     same_reference (var.Formal i) =
@@ -211,13 +211,18 @@ module _ (shape : Shape) (s t : State) (near : Near shape s t) where
     same_reference (var.Direct a byte x w) = ap (λ (p : Place). Ok (reference.Place p (type_of_width w))) (same_place a byte x)
     same_reference (var.InBlock n byte x w) = refl
 
-    abbrev Refers : Result Reference Fault → Type 0
-    Refers (Ok r) = IsInside shape r
+    abbrev pub Refers : Result Reference Fault → Type 0
+    Refers (Ok r) = IsInside shape (suc shape.waiting) r
     Refers (Err f) = Unit {0}
 
-    formal_inside : (o : Option Reference) → ((r : Reference) → o ≡ Some r → IsInside shape r) → Refers (there o)
+    deeper : (r : Reference) → IsInside shape (depth s) r → IsInside shape (suc shape.waiting) r
+    deeper (reference.Register r) h = tt
+    deeper (reference.Local d i) h = (omega (arith, h.0, deep_first), h.1)
+    deeper (reference.Place p ty) h = tt
+
+    formal_inside : (o : Option Reference) → ((r : Reference) → o ≡ Some r → IsInside shape (depth s) r) → Refers (there o)
     formal_inside None h = tt
-    formal_inside (Some r) h = h r refl
+    formal_inside (Some r) h = deeper r (h r refl)
 
     global_inside : (o : Option Located) → Refers (and_then (there o) (λ (x : Located). Ok (reference.Place x.place x.ty)))
     global_inside None = tt
@@ -228,9 +233,9 @@ module _ (shape : Shape) (s t : State) (near : Near shape s t) where
     declared_within (x ∷ locals) zero ty h = omega arith
     declared_within (x ∷ locals) (suc i) ty h = let less : i < length locals = declared_within locals i ty h in omega arith
 
-    same_read : (r : Reference) → IsInside shape r → read_at r s ≡ read_at r t
+    same_read : (r : Reference) → IsInside shape (suc shape.waiting) r → read_at r s ≡ read_at r t
     same_read (reference.Register r) h = ap (λ (f : Reg → ℤ). Ok (record { ty = type_of_register r; n = f r })) near.registers
-    same_read (reference.Local d i) h = ap there (near.same d i h)
+    same_read (reference.Local d i) h = ap there (near.same d i h.1)
     same_read (reference.Place p ty) h = ap (read_place ty p) near.memory
 
     same_reads : (o : Result Reference Fault) → Refers o → and_then o (λ r. read_at r s) ≡ and_then o (λ r. read_at r t)
@@ -265,7 +270,7 @@ module _ (shape : Shape) (s t : State) (near : Near shape s t) where
         }
     place_written (Err f) = refl
 
-    reference_written : (r : Reference) (w : Value) → IsInside shape r → Written shape (write_at r w s) (write_at r w t)
+    reference_written : (r : Reference) (w : Value) → IsInside shape (suc shape.waiting) r → Written shape (write_at r w s) (write_at r w t)
     reference_written (reference.Register r) w h =
         record {
           memory = near.memory;
@@ -280,9 +285,9 @@ module _ (shape : Shape) (s t : State) (near : Near shape s t) where
         }
     reference_written (reference.Local d i) w h =
         subst (λ (o : Option Value). Written shape (write_at (reference.Local d i) w s)
-        (and_then (there o) (λ (old : Value). Ok (record t { activations = with_local d i w t.activations })))) (near.same d i h)
+        (and_then (there o) (λ (old : Value). Ok (record t { activations = with_local d i w t.activations })))) (near.same d i h.1)
         (local_written (slice_get (locals_at d s) i) (record s { activations = with_local d i w s.activations })
-        (record t { activations = with_local d i w t.activations }) (near_local d i w h))
+        (record t { activations = with_local d i w t.activations }) (near_local d i w h.1))
     reference_written (reference.Place p ty) w h =
         subst (λ (m : Contents). Written shape (write_at (reference.Place p ty) w s)
         (and_then (write_place ty p w m) (λ memory. Ok (record t { memory = memory })))) near.memory
@@ -306,12 +311,12 @@ module _ (shape : Shape) (s t : State) (near : Near shape s t) where
         (pointed_written (pointed_at p s) width w)
 
     module _ (sight : UnitScope) (known : length sight.locals ≤ shape.shared shape.waiting) where
-      is_inside : (v : Var) (ty : StType) → variable_type sight v ≡ Some ty → Refers (reference_of g v s)
+      pub is_inside : (v : Var) (ty : StType) → variable_type sight v ≡ Some ty → Refers (reference_of g v s)
       is_inside (var.Register r) ty h = tt
       is_inside (var.Local i) ty h =
           let less : i < length sight.locals = declared_within sight.locals i ty h in
           let low : i < shape.shared shape.waiting = omega arith in
-          subst (λ (d : ℕ). i < shape.shared d) (sym deep_first) low
+          (omega (arith, deep_first), subst (λ (d : ℕ). i < shape.shared d) (sym deep_first) low)
       is_inside (var.Formal i) ty h =
           formal_inside (slice_get (formals_of (slice_get s.activations (depth s))) i) (λ r q. near.inside (depth s) i r q)
       is_inside (var.Global i) ty h = global_inside (slice_get g i)

@@ -1,6 +1,6 @@
 -- A graph program and its text mean the same.
 use Rattle.std.proofs.Common.{◌≡◌, ℕ, List, map, Option, Some, None, refl, sym, ap, ◌∙◌, subst}
-use Rattle.std.specs.Prelude.{All, find, option_map, slice_get}
+use Rattle.std.specs.Prelude.{find, option_map, slice_get}
 use Rattle.memory_areas.specs.declared.call.BlockName.{BlockName}
 use Rattle.memory_areas.specs.declared.call.BlockName.TheVariants as name
 use Rattle.memory_areas.specs.declared.call.Call.{Call}
@@ -19,11 +19,12 @@ use Rattle.st_tree.proofs.Common.{find_at}
 use Rattle.st_tree.proofs.FittingCalls.{at_position}
 use Rattle.std.specs.List.{position_or_len}
 use Rattle.std.proofs.lemmas.Option.{slice_get-map}
-use Rattle.graph_rules.specs.Plain.{Plain, listed_text}
-use Rattle.graph_texts.specs.SameRuns.{SameAsGraph, WritesAlone}
+use Rattle.graph_rules.specs.Plain.{IsPlainUnit, Plain, listed_text}
+use Rattle.graph_texts.specs.SameRuns.{SameAsGraph}
 use Rattle.graph_texts.specs.inner.Dispatch.{text_of_graph, unit_of_text}
 use Rattle.graph_texts.proofs.Chains.{listed_unit}
-use Rattle.graph_texts.proofs.Runs.{IsTypedUnit, found_of, graph_ends, text_ends, within_longest}
+use Rattle.graph_texts.proofs.Units.{IsTypedUnit}
+use Rattle.graph_texts.proofs.Runs.{found_of, graph_ends, text_ends, within_longest}
 
 -- what a call asks of a unit it asks of its formals
 fits_moves : (blocks : List DataBlock) (a b : Pou) → a.formals ≡ b.formals → (called : BlockName) (instance : ℕ) (actuals : List (Place × Width))
@@ -42,7 +43,7 @@ fits_heads : (graph : GraphProgram) (call : Call) (o : Option GraphPou)
 fits_heads graph call None h = absurd h
 fits_heads graph call (Some u) h = fits_moves graph.dbs (unit_of_text u) u.head refl call.block call.instance call.actuals h
 
-module _ (graph : GraphProgram) (plain : Plain graph) (writes : All WritesAlone graph.pous) where
+module _ (graph : GraphProgram) (plain : Plain graph) where
   abbrev found : Call → Option GraphPou
   found call = find (λ (u : GraphPou). is_meant call.block u.head) graph.pous
 
@@ -65,7 +66,8 @@ module _ (graph : GraphProgram) (plain : Plain graph) (writes : All WritesAlone 
   typed_at n u e =
       let proper = at_position (IsProperUnit graph.globals heads) (map listed_unit graph.pous) n (listed_unit u) plain.text.units
       (slice_get-map listed_unit graph.pous n ∙ ap (option_map listed_unit) e) in
-      record { typed = proper.typed; writes = at_position WritesAlone graph.pous n u writes e; few = within_longest graph.pous n u e }
+      let own = at_position IsPlainUnit graph.pous n u plain.units e in
+      record { typed = proper.typed; plain = λ i node q. (own.nodes i node q).steps; few = within_longest graph.pous n u e }
 
   typed_found : (call : Call) (u : GraphPou) → found call ≡ Some u → IsTypedUnit graph heads u
   typed_found call u e =
@@ -78,6 +80,6 @@ module _ (graph : GraphProgram) (plain : Plain graph) (writes : All WritesAlone 
         blocks = refl;
         fits = in_text;
         fits_back = in_graph;
-        forth = λ call memory n after fault e. text_ends graph heads call memory (typed_found call) n after fault e;
-        back = λ call memory n after fault e. graph_ends graph heads call memory (typed_found call) n after fault e;
+        forth = λ call memory n after fault e. text_ends graph heads typed_at call memory (typed_found call) n after fault e;
+        back = λ call memory n after fault e. graph_ends graph heads typed_at call memory (typed_found call) n after fault e;
       }

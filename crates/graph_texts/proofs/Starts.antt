@@ -1,5 +1,5 @@
--- The states in which a unit begins, as a graph and as its loop, are near, and NEXT is that of the first node.
-use Rattle.std.proofs.Common.{◌≡◌, ℕ, zero, suc, ◌<◌, false, List, [], ◌∷◌, ◌++◌, length, map, Some, refl, sym, ap, subst, arith}
+-- The states in which a unit begins, as a graph and as its text, are near, and NEXT of a loop is that of the first node.
+use Rattle.std.proofs.Common.{◌≡◌, ℕ, zero, suc, ◌<◌, Bool, true, false, List, [], ◌∷◌, length, map, Some, refl, sym, ap, subst, arith}
 use Rattle.std.specs.Prelude.{slice_get}
 use Rattle.std.proofs.lemmas.List.{length-map}
 use Rattle.memory_areas.specs.Areas.{Areas}
@@ -9,13 +9,13 @@ use Rattle.memory_areas.specs.declared.call.Call.{Call}
 use Rattle.memory_areas.specs.declared.place.Place.{Place}
 use Rattle.s7_base.specs.declared.word.Width.{Width}
 use Rattle.st_tree.specs.Calls.{zero_of}
-use Rattle.st_tree.specs.State.{State, formals_of, own_of}
+use Rattle.st_tree.specs.State.{State, formals_of}
 use Rattle.st_tree.specs.StRun.{formals_given, references, state_at_start}
 use Rattle.st_tree.specs.declared.graph.GraphPou.{GraphPou}
 use Rattle.st_tree.specs.declared.program.Local.{Local}
 use Rattle.st_tree.specs.declared.state.Reference.{Reference}
 use Rattle.st_tree.specs.declared.state.Reference.TheVariants as reference
-use Rattle.graph_texts.specs.inner.Dispatch.{next_local, unit_as}
+use Rattle.graph_texts.specs.inner.Dispatch.{locals_of_text, unit_as}
 use Rattle.graph_texts.proofs.Exits.{at_node}
 use Rattle.graph_texts.proofs.Near.{IsInside, Near, Shape, locals_at}
 
@@ -24,85 +24,89 @@ abbrev pub of_first : ℕ → ℕ → ℕ
 of_first n zero = n
 of_first n (suc d) = 0
 
--- the loop has one local more, as the second state or as the first
-abbrev pub text_second : GraphPou → Shape
-text_second u =
+-- the text has one local more where it is a loop, as the second state or as the first
+abbrev pub text_second : Bool → GraphPou → Shape
+text_second one u =
     record {
       waiting = 0;
       shared = of_first (length u.head.locals);
       first = of_first (length u.head.locals);
-      second = of_first (suc (length u.head.locals));
+      second = of_first (length (locals_of_text one u.head.locals));
     }
 
-abbrev pub text_first : GraphPou → Shape
-text_first u =
+abbrev pub text_first : Bool → GraphPou → Shape
+text_first one u =
     record {
       waiting = 0;
       shared = of_first (length u.head.locals);
-      first = of_first (suc (length u.head.locals));
+      first = of_first (length (locals_of_text one u.head.locals));
       second = of_first (length u.head.locals);
     }
 
-same_zeros : (locals : List Local) (i : ℕ) → i < length locals → slice_get (map zero_of locals) i ≡ slice_get (map zero_of (locals ++ next_local ∷ [])) i
-same_zeros [] i h = absurd (omega arith)
-same_zeros (x ∷ locals) zero h = refl
-same_zeros (x ∷ locals) (suc i) h = same_zeros locals i (omega arith)
+pub same_zeros : (one : Bool) (locals : List Local) (i : ℕ) → i < length locals
+    → slice_get (map zero_of locals) i ≡ slice_get (map zero_of (locals_of_text one locals)) i
+same_zeros true locals i h = refl
+same_zeros false [] i h = absurd (omega arith)
+same_zeros false (x ∷ locals) zero h = refl
+same_zeros false (x ∷ locals) (suc i) h = same_zeros false locals i (omega arith)
 
-next_zero : (locals : List Local) → slice_get (map zero_of (locals ++ next_local ∷ [])) (length locals) ≡ Some (at_node 0)
-next_zero [] = refl
-next_zero (x ∷ locals) = next_zero locals
+-- NEXT of a loop is that of the first node
+pub next_zero : (one : Bool) (locals : List Local) → one ≡ false → slice_get (map zero_of (locals_of_text one locals)) (length locals) ≡ Some (at_node 0)
+next_zero true locals e = cc
+next_zero false [] e = refl
+next_zero false (x ∷ locals) e = next_zero false locals refl
 
-one_more : (locals : List Local) → length (map zero_of (locals ++ next_local ∷ [])) ≡ suc (length locals)
-one_more [] = refl
-one_more (x ∷ locals) = ap suc (one_more locals)
+pub one_local_more : (locals : List Local) → length (locals_of_text false locals) ≡ suc (length locals)
+one_local_more [] = refl
+one_local_more (x ∷ locals) = ap suc (one_local_more locals)
 
 -- formals that are given from outside are places
-places_inside : (shape : Shape) (formals : List Local) (actuals : List (Place × Width)) (k : ℕ) (r : Reference)
-    → slice_get (references formals actuals) k ≡ Some r → IsInside shape r
-places_inside shape [] actuals k r e = cc
-places_inside shape (f ∷ formals) [] k r e = cc
-places_inside shape (f ∷ formals) (a ∷ actuals) zero r e =
-    let same : reference.Place a.0 f.ty ≡ r = cc in subst (IsInside shape) same tt
-places_inside shape (f ∷ formals) (a ∷ actuals) (suc k) r e = places_inside shape formals actuals k r e
+places_inside : (shape : Shape) (d : ℕ) (formals : List Local) (actuals : List (Place × Width)) (k : ℕ) (r : Reference)
+    → slice_get (references formals actuals) k ≡ Some r → IsInside shape d r
+places_inside shape d [] actuals k r e = cc
+places_inside shape d (f ∷ formals) [] k r e = cc
+places_inside shape d (f ∷ formals) (a ∷ actuals) zero r e =
+    let same : reference.Place a.0 f.ty ≡ r = cc in subst (IsInside shape d) same tt
+places_inside shape d (f ∷ formals) (a ∷ actuals) (suc k) r e = places_inside shape d formals actuals k r e
 
-given_inside : (shape : Shape) (called : BlockName) (formals : List Local) (actuals : List (Place × Width)) (k : ℕ) (r : Reference)
-    → slice_get (formals_given called formals actuals) k ≡ Some r → IsInside shape r
-given_inside shape (name.Ob n) formals actuals k r e = cc
-given_inside shape (name.Fc n) formals actuals k r e = places_inside shape formals actuals k r e
-given_inside shape (name.Fb n) formals actuals k r e = cc
+given_inside : (shape : Shape) (d : ℕ) (called : BlockName) (formals : List Local) (actuals : List (Place × Width)) (k : ℕ) (r : Reference)
+    → slice_get (formals_given called formals actuals) k ≡ Some r → IsInside shape d r
+given_inside shape d (name.Ob n) formals actuals k r e = cc
+given_inside shape d (name.Fc n) formals actuals k r e = places_inside shape d formals actuals k r e
+given_inside shape d (name.Fb n) formals actuals k r e = cc
 
-module _ (u : GraphPou) (call : Call) (memory : Areas) where
+module _ (one : Bool) (u : GraphPou) (call : Call) (memory : Areas) where
   abbrev pub graph_start : State
   graph_start = state_at_start u.head call memory
 
   abbrev pub text_start : State
-  text_start = state_at_start (unit_as false u) call memory
+  text_start = state_at_start (unit_as one u) call memory
 
   shared_zeros : (d i : ℕ) → i < of_first (length u.head.locals) d → slice_get (locals_at d graph_start) i ≡ slice_get (locals_at d text_start) i
-  shared_zeros zero i h = same_zeros u.head.locals i h
+  shared_zeros zero i h = same_zeros one u.head.locals i h
   shared_zeros (suc d) i h = refl
 
   graph_many : (d : ℕ) → length (locals_at d graph_start) ≡ of_first (length u.head.locals) d
   graph_many zero = length-map u.head.locals zero_of
   graph_many (suc d) = refl
 
-  text_many : (d : ℕ) → length (locals_at d text_start) ≡ of_first (suc (length u.head.locals)) d
-  text_many zero = one_more u.head.locals
+  text_many : (d : ℕ) → length (locals_at d text_start) ≡ of_first (length (locals_of_text one u.head.locals)) d
+  text_many zero = length-map (locals_of_text one u.head.locals) zero_of
   text_many (suc d) = refl
 
   same_formals : (d : ℕ) → formals_of (slice_get graph_start.activations d) ≡ formals_of (slice_get text_start.activations d)
   same_formals zero = refl
   same_formals (suc d) = refl
 
-  graph_inside : (shape : Shape) (d k : ℕ) (r : Reference) → slice_get (formals_of (slice_get graph_start.activations d)) k ≡ Some r → IsInside shape r
-  graph_inside shape zero k r e = given_inside shape call.block u.head.formals call.actuals k r e
+  graph_inside : (shape : Shape) (d k : ℕ) (r : Reference) → slice_get (formals_of (slice_get graph_start.activations d)) k ≡ Some r → IsInside shape d r
+  graph_inside shape zero k r e = given_inside shape 0 call.block u.head.formals call.actuals k r e
   graph_inside shape (suc d) k r e = cc
 
-  text_inside : (shape : Shape) (d k : ℕ) (r : Reference) → slice_get (formals_of (slice_get text_start.activations d)) k ≡ Some r → IsInside shape r
-  text_inside shape zero k r e = given_inside shape call.block u.head.formals call.actuals k r e
+  text_inside : (shape : Shape) (d k : ℕ) (r : Reference) → slice_get (formals_of (slice_get text_start.activations d)) k ≡ Some r → IsInside shape d r
+  text_inside shape zero k r e = given_inside shape 0 call.block u.head.formals call.actuals k r e
   text_inside shape (suc d) k r e = cc
 
-  pub near_second : Near (text_second u) graph_start text_start
+  pub near_second : Near (text_second one u) graph_start text_start
   near_second =
       record {
         memory = refl;
@@ -113,10 +117,10 @@ module _ (u : GraphPou) (call : Call) (memory : Areas) where
         second = text_many;
         same = shared_zeros;
         formals = same_formals;
-        inside = graph_inside (text_second u);
+        inside = graph_inside (text_second one u);
       }
 
-  pub near_first : Near (text_first u) text_start graph_start
+  pub near_first : Near (text_first one u) text_start graph_start
   near_first =
       record {
         memory = refl;
@@ -127,8 +131,5 @@ module _ (u : GraphPou) (call : Call) (memory : Areas) where
         second = graph_many;
         same = λ d i h. sym (shared_zeros d i h);
         formals = λ d. sym (same_formals d);
-        inside = text_inside (text_first u);
+        inside = text_inside (text_first one u);
       }
-
-  pub next_at_start : slice_get (own_of text_start.activations) (length u.head.locals) ≡ Some (at_node 0)
-  next_at_start = next_zero u.head.locals

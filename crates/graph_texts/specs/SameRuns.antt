@@ -1,22 +1,15 @@
 -- When a text means the same as a graph program: they have the same data blocks, the same calls fit them, and their
 -- runs end alike.
 -- Held against: this project's own claim.
-use Rattle.std.specs.Prelude.{◌≡◌, ℕ, ◌+◌, ◌*◌, All, Option}
+use Rattle.std.specs.Prelude.{◌≡◌, ℕ, ◌+◌, ◌*◌, Option}
 use Rattle.memory_areas.specs.Areas.{Areas}
 use Rattle.memory_areas.specs.End.{Ended}
 use Rattle.memory_areas.specs.declared.call.Call.{Call}
 use Rattle.s7_base.specs.declared.outcome.Fault.{Fault}
 use Rattle.st_tree.specs.GraphRun.{FitsGraph, graph_run, pass_run}
 use Rattle.st_tree.specs.StRun.{FitsSt, st_run}
-use Rattle.st_tree.specs.declared.graph.GraphPou.{GraphPou}
 use Rattle.st_tree.specs.declared.graph.GraphProgram.{GraphProgram}
-use Rattle.st_tree.specs.declared.graph.StNode.{StNode}
 use Rattle.st_tree.specs.declared.program.StProgram.{StProgram}
-use Rattle.graph_rules.specs.Writes.{AreWrites}
-
--- the steps of each node are assignments and area writes
-abbrev pub WritesAlone : GraphPou → Type 0
-WritesAlone unit = All (λ (node : StNode). AreWrites node.steps) unit.graph.nodes
 
 -- where a run of the graph ends within some nodes, that of the text ends with the same memory and the same fault within
 -- twice as many units; where a run of the text ends within some units, that of the graph ends so within one pass more;

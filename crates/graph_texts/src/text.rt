@@ -1,8 +1,8 @@
 //! The text of a graph program, a unit at a time.
-ghost use Rattle.std.specs.Prelude.{◌≡◌, ◌∷◌, [], true, false, All, IfOk};
+ghost use Rattle.std.specs.Prelude.{◌≡◌, ◌∷◌, [], true, false, IfOk};
 ghost use Rattle.graph_rules.specs.Plain.{Plain};
 ghost use Rattle.st_tree.specs.Proper.{Proper};
-ghost use Rattle.graph_texts.specs.SameRuns.{SameAsGraph, WritesAlone};
+ghost use Rattle.graph_texts.specs.SameRuns.{SameAsGraph};
 ghost use Rattle.graph_texts.specs.inner.Dispatch.{dispatch_loop, is_one_node, next_local, text_of_graph, unit_as, unit_of_text};
 ghost use Rattle.graph_texts.specs.inner.Straight.{last_steps};
 
@@ -11,10 +11,9 @@ use s7_base::{List, NoMemory};
 use st_tree::{GraphPou, GraphProgram, Local, Pou, StExit, StNode, StProgram, StType, Stmt};
 use std::alloc::Global;
 
-/// The tree of a text that means the same as a plain graph program whose nodes call no unit, and that a text can have.
+/// The tree of a text that means the same as a plain graph program, and that a text can have.
 pub fn text_of_graph(alloc: Global, graph: GraphProgram) -> Result<StProgram, NoMemory>
-    requires plain { Plain graph }
-    requires writes { All WritesAlone graph.pous }
+    requires { Plain graph }
     ensures proper { IfOk result Proper }
     ensures same { IfOk result (λ tree. SameAsGraph graph tree) }
 {

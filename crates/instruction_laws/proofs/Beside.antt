@@ -1,5 +1,5 @@
 -- Two states side by side that differ in registers alone, and the forms of rows: what is alike before is alike after.
-use Rattle.std.proofs.Common.{◌≡◌, ℕ, List, [], ◌∷◌, ◌++◌, Result, Ok, Err, refl, sym, subst, ◌∙◌}
+use Rattle.std.proofs.Common.{◌≡◌, ℕ, List, [], ◌∷◌, ◌++◌, Option, Some, None, Result, Ok, Err, refl, sym, subst, ◌∙◌}
 use Rattle.memory_areas.specs.Access.{Aim, and_then, place_aimed, read_dword}
 use Rattle.memory_areas.specs.Areas.{Contents}
 use Rattle.memory_areas.specs.Pointers.{with_offset}
@@ -14,7 +14,7 @@ use Rattle.stl_tree.specs.AddressRegisters.{pointer_in}
 use Rattle.stl_tree.specs.DataBlocks.{db_opened}
 use Rattle.stl_tree.specs.Instructions.{on_registers, write_operand, taken}
 use Rattle.stl_tree.specs.Now.{Now, Effect, next, go, enter, leave, with_registers, with_value}
-use Rattle.stl_tree.specs.Operands.{OperandPlace, aimed_by, aimed_in, found_at, place_in, with_place}
+use Rattle.stl_tree.specs.Operands.{OperandPlace, aimed_by, aimed_in, formal_place, found_at, found_formal, place_in, with_place}
 use Rattle.stl_tree.specs.Reads.{found_by, register_of}
 use Rattle.stl_tree.specs.Registers.{RegisterValues}
 use Rattle.stl_tree.specs.declared.program.Ar.{Ar}
@@ -144,6 +144,11 @@ at_place (operand.Opened n byte x) asked now s effect found h does =
     let p : Place = place_in area.Db byte x after in
     effect_opened n now.registers (beside now.registers s) (effect p after) (effect p other)
     (does p after (all_same n now.registers (beside now.registers s) asked h))
+at_place (operand.Formal k) asked now s effect found h does = by (formal_place k now.activations)
+  where
+    by : (o : Option Place) → DoesAlike now s (λ n. with_value (found_formal o n) (λ f. effect f.place f.after))
+    by None = refl
+    by (Some p) = does p now h
 at_place (operand.ByMemory a pointer_area byte) asked now s effect found h does =
     at_pointer now s effect (λ p. aimed_in a p now) (read_dword (place_in pointer_area byte 0 now) now.memory) (λ p. does p now h)
 at_place (operand.ByRegister a r offset) asked now s effect found h does =

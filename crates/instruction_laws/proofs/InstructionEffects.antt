@@ -29,7 +29,7 @@ use Rattle.instruction_laws.specs.Agreement.{AreLike, AreSame}
 use Rattle.instruction_laws.specs.InstructionLaws.{EffectsDependOnReads}
 use Rattle.instruction_laws.proofs.Beside.{Alike, DoesAlike, beside, first_same, kept_alike, next_to, puts, second_same, takes}
 use Rattle.instruction_laws.proofs.BitEffects.{assign_alike, bracket_alike, check_alike, clear_alike, close_alike, edge_alike, end_alike, not_alike, or_alike, save_alike, set_alike, stored_alike, with_bits}
-use Rattle.instruction_laws.proofs.JumpEffects.{end_if_alike, jump_alike, list_alike, loop_alike}
+use Rattle.instruction_laws.proofs.JumpEffects.{call_if_alike, end_if_alike, jump_alike, list_alike, loop_alike}
 use Rattle.instruction_laws.proofs.NumberEffects.{accu1_point_alike, calculate_alike, car_alike, compare_alike, db_load_alike, db_open_alike, dbs_exchange_alike, di_load_alike, di_open_alike, load_alike, move_alike, other_load_alike, other_store_alike, pointer_alike, pointer_load_alike, pointer_same, pop_alike, push_alike, status_load_alike, status_store_alike, tak_alike}
 use Rattle.instruction_laws.proofs.WordEffects.{add_dword_alike, add_word_alike, convert_alike, dec_alike, goes_on, inc_alike, left_around_alike, word_logic_alike, right_around_alike, shift_alike}
 
@@ -114,6 +114,8 @@ module _ (now : Now) (s : RegisterValues) where
   does_alike (op.JumpList count label) small_r small_t h = list_alike now s count label h
   does_alike op.BlockEnd small_r small_t h = record { memory = refl; brackets = refl; activations = refl; registers = end_alike r t }
   does_alike op.BlockEndIf small_r small_t h = end_if_alike now s h
+  does_alike (op.Call c) small_r small_t h = (refl, record { memory = refl; brackets = refl; activations = refl; registers = end_alike r t })
+  does_alike (op.CallIf c) small_r small_t h = call_if_alike now s c h
 
 -- two states that agree are one and the same with other registers
 pub effects_depend : EffectsDependOnReads

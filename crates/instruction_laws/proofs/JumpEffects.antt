@@ -5,7 +5,8 @@ use Rattle.s7_base.specs.declared.register.Reg.TheVariants as reg
 use Rattle.s7_base.specs.declared.word.Width.TheVariants as width
 use Rattle.status_word.specs.StatusBits.{after_jump, after_save}
 use Rattle.stl_tree.specs.Accumulators.{after_addition, part, signed_part, with_number}
-use Rattle.stl_tree.specs.Jumps.{after_test, ended_if, ended_where, going_where, is_as, is_made, jumped, listed, looped, position_of}
+use Rattle.stl_tree.specs.Jumps.{after_asking, after_test, called_if, called_where, effect_of_jump, effect_of_list, effect_of_loop, ended_if, ended_where, going_where, is_as, is_made, position_of}
+use Rattle.stl_tree.specs.declared.program.BlockCall.{BlockCall}
 use Rattle.stl_tree.specs.Now.{Now, with_registers, with_status}
 use Rattle.stl_tree.specs.Reads.{tested_by}
 use Rattle.stl_tree.specs.Registers.{RegisterValues}
@@ -75,7 +76,7 @@ module _ (now : Now) (s : RegisterValues) where
   by_one_bit made wanted to one other e h =
       subst (λ b. AreLike r t (going_where made to one) (going_where b to other)) e (goes_where made to r t one other h)
 
-  pub jump_alike : (test : JumpTest) (to : ℕ) → AreSame (tested_by test) r t → DoesAlike now s (jumped test to)
+  pub jump_alike : (test : JumpTest) (to : ℕ) → AreSame (tested_by test) r t → DoesAlike now s (effect_of_jump test to)
   jump_alike test to h =
       by_one_bit (is_made test r.status) (is_made test t.status) to (with_status (after_test test) now) (with_status (after_test test) (next_to now s))
       (same_test test r t h) (record { memory = refl; brackets = refl; activations = refl; registers = tests test r t h })
@@ -87,13 +88,13 @@ module _ (now : Now) (s : RegisterValues) where
   abbrev counts_on : ℕ → Bool
   counts_on a = not (part width.Word (count_after a) == 0)
 
-  pub loop_alike : (to : ℕ) → AreSame (reg.Accu1 ∷ []) r t → DoesAlike now s (looped to)
+  pub loop_alike : (to : ℕ) → AreSame (reg.Accu1 ∷ []) r t → DoesAlike now s (effect_of_loop to)
   loop_alike to h =
       by_one_bit (counts_on r.accu1) (counts_on t.accu1) to (with_registers (after_addition width.Word (negsuc 0)) now)
       (with_registers (after_addition width.Word (negsuc 0)) (next_to now s)) (λ i. counts_on (h.0 i))
       (record { memory = refl; brackets = refl; activations = refl; registers = add_word_alike (negsuc 0) r t h })
 
-  pub list_alike : (count label : ℕ) → AreSame (reg.Accu1 ∷ []) r t → DoesAlike now s (listed count label)
+  pub list_alike : (count label : ℕ) → AreSame (reg.Accu1 ∷ []) r t → DoesAlike now s (effect_of_list count label)
   list_alike count label h = (
     λ i. let n = part width.Byte (h.0 i) in if nat_lt n count then position_of now.activations + 1 + n else label,
     record { memory = refl; brackets = refl; activations = refl; registers = kept_alike r t },
@@ -106,3 +107,19 @@ module _ (now : Now) (s : RegisterValues) where
 
   pub end_if_alike : AreSame (reg.Rlo ∷ reg.Os ∷ []) r t → DoesAlike now s ended_if
   end_if_alike h = subst (λ b. AreLike r t (ended_if now) (ended_where b (next_to now s))) h.0 (ends_where r.status.rlo)
+
+  -- CC, by the RLO
+  asking_alike : BitsAlike after_asking r t
+  asking_alike reg.Os = is_same refl
+  asking_alike reg.Orb = is_same refl
+  asking_alike reg.Sta = is_same refl
+  asking_alike reg.Nfc = is_same refl
+  asking_alike reg.Rlo = is_same refl
+  asking_alike q = is_kept refl refl
+
+  calls_where : (call : BlockCall) (made : Bool) → DoesAlike now s (called_where made call)
+  calls_where call true = (refl, record { memory = refl; brackets = refl; activations = refl; registers = asking_alike })
+  calls_where call false = record { memory = refl; brackets = refl; activations = refl; registers = asking_alike }
+
+  pub call_if_alike : (call : BlockCall) → AreSame (reg.Rlo ∷ reg.DbNo ∷ reg.DiNo ∷ []) r t → DoesAlike now s (called_if call)
+  call_if_alike call h = subst (λ b. AreLike r t (called_if call now) (called_where b call (next_to now s))) h.0 (calls_where call r.status.rlo)

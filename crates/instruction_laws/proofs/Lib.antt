@@ -1,5 +1,6 @@
 mod Beside
 mod BitEffects
+mod CallRanges
 mod InstructionEffects
 mod JumpCases
 mod JumpEffects
@@ -7,6 +8,6 @@ mod LawCases
 mod Located
 mod LocatedCases
 mod NumberEffects
-mod RangeNumbers
+pub mod RangeNumbers
 pub mod RangeEffects
 mod WordEffects

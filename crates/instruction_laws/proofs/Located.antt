@@ -12,7 +12,7 @@ use Rattle.s7_base.specs.declared.word.Width.{Width}
 use Rattle.stl_tree.specs.AddressRegisters.{pointer_in}
 use Rattle.stl_tree.specs.DataBlocks.{db_opened}
 use Rattle.stl_tree.specs.Now.{Now, with_registers}
-use Rattle.stl_tree.specs.Operands.{OperandPlace, aimed_by, aimed_in, found_at, place_in}
+use Rattle.stl_tree.specs.Operands.{OperandPlace, aimed_by, aimed_in, formal_place, found_at, found_formal, place_in}
 use Rattle.stl_tree.specs.declared.program.Operand.{Operand}
 use Rattle.stl_tree.specs.declared.program.Operand.TheVariants as operand
 use Rattle.instruction_laws.specs.InstructionLaws.{AccessesAreLocated}
@@ -73,6 +73,13 @@ operand_located (operand.Opened n byte x) w now =
     let after : Now = with_registers (db_opened n) now in
     let aim : Aim = written_in area.Db byte x after in
     aim_located aim.area aim.byte aim.bit w after
+operand_located (operand.Formal k) w now = by (formal_place k now.activations)
+  where
+    by : (o : Option Place)
+        → and_then (found_formal o now) (reached_at w)
+        ≡ and_then (and_then (found_formal o now) (λ f. Ok (aim_there (aim_of_place f.place) now))) (λ (x : OperandAim). located_at w x.after x.aim)
+    by None = refl
+    by (Some p) = tested_after (fault_of (aim_of_place p) w now.memory) p (bytes_there (Some p.area) now.memory) now
 operand_located (operand.ByMemory a pointer_area byte) w now = pointer_located (read_dword (place_in pointer_area byte 0 now) now.memory) a w now
 operand_located (operand.ByRegister a r offset) w now =
     let aim : Aim = aimed_in a (with_offset (pointer_in r now.registers) offset) now in

@@ -1,6 +1,6 @@
 -- What an operand is aimed at, and its access put to the tests of `located`.
 use Rattle.std.specs.Prelude.{ℕ, Result, Ok}
-use Rattle.memory_areas.specs.Access.{Aim, and_then, located, bytes_for_access, read_dword, aim_of_operand}
+use Rattle.memory_areas.specs.Access.{Aim, aim_of_operand, aim_of_place, and_then, bytes_for_access, located, read_dword}
 use Rattle.memory_areas.specs.Pointers.{with_offset}
 use Rattle.memory_areas.specs.declared.place.AreaName.{AreaName}
 use Rattle.memory_areas.specs.declared.place.AreaName.TheVariants as area
@@ -9,7 +9,7 @@ use Rattle.s7_base.specs.declared.word.Width.{Width}
 use Rattle.stl_tree.specs.AddressRegisters.{pointer_in}
 use Rattle.stl_tree.specs.DataBlocks.{db_opened}
 use Rattle.stl_tree.specs.Now.{Now, depth, with_registers}
-use Rattle.stl_tree.specs.Operands.{OperandPlace, aimed_by, aimed_in, place_of_operand, place_in}
+use Rattle.stl_tree.specs.Operands.{OperandPlace, aimed_by, aimed_in, formal_place, found_formal, place_in, place_of_operand}
 use Rattle.stl_tree.specs.declared.program.Operand.{Operand}
 use Rattle.stl_tree.specs.declared.program.Operand.TheVariants as operand
 
@@ -22,13 +22,16 @@ pub record OperandAim : Type 0 where
 abbrev pub written_in : AreaName → ℕ → ℕ → Now → Aim
 written_in a byte x now = aim_of_operand a byte x now.registers.db now.registers.di (depth now.activations)
 
--- the aim of an operand. `DB5.DBX 0.0` is judged with its data block open; `M [MD 4]` reads its pointer first, by an
--- access of its own, which may have a fault; `M [AR1,P#2.0]` takes byte and bit of an address register, and
--- `[AR1,P#2.0]` its area too, whose code may name none
+-- the aim of an operand. `DB5.DBX 0.0` is judged with its data block open; a formal is aimed at its place; `M [MD 4]`
+-- reads its pointer first, by an access of its own, which may have a fault; `M [AR1,P#2.0]` takes byte and bit of an
+-- address register, and `[AR1,P#2.0]` its area too, whose code may name none
 abbrev pub aimed_at : Operand → Now → Result OperandAim Fault
 aimed_at (operand.Direct a byte x) now = Ok (record { aim = written_in a byte x now; after = now })
 aimed_at (operand.Opened n byte x) now =
     let after = with_registers (db_opened n) now in Ok (record { aim = written_in area.Db byte x after; after = after })
+aimed_at (operand.Formal k) now =
+    and_then (found_formal (formal_place k now.activations) now)
+    (λ f. Ok (record { aim = aim_of_place f.place; after = now }))
 aimed_at (operand.ByMemory a pointer_area byte) now =
     and_then (read_dword (place_in pointer_area byte 0 now) now.memory)
     (λ p. Ok (record { aim = aimed_in a p now; after = now }))

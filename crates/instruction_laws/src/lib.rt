@@ -5,7 +5,7 @@
 //! writes keep a memory of bytes. It computes nothing: the contracts of its functions are the laws.
 #![tactic(auto)]
 
-ghost use Rattle.instruction_laws.specs.InstructionLaws.{AccessesAreLocated, EffectsDependOnReads, RangesAreKept};
+ghost use Rattle.instruction_laws.specs.InstructionLaws.{AccessesAreLocated, CallsKeepRanges, EffectsDependOnReads, RangesAreKept};
 
 /// What an instruction does depends on no register but those that it reads.
 pub fn effects_depend_on_reads()
@@ -15,6 +15,11 @@ pub fn effects_depend_on_reads()
 /// An instruction keeps registers and memory in their ranges.
 pub fn ranges_are_kept()
     ensures { RangesAreKept }
+{}
+
+/// A call, and the end of the block that it began, keep registers and memory in their ranges.
+pub fn calls_keep_ranges()
+    ensures { CallsKeepRanges }
 {}
 
 /// An access reaches the place that its operand is aimed at, or has the fault of the first test that is true

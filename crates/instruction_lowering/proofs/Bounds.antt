@@ -1,6 +1,6 @@
 -- All that is said of steps, nodes, passes and units. In one direction the program has ended within n steps, in the
 -- other the graph has, within so many units, each of which pays for as many steps as the largest block has.
-use Rattle.std.proofs.Common.{ℕ, suc, ◌+◌, ◌*◌, ◌≤◌, arith}
+use Rattle.std.proofs.Common.{ℕ, suc, ◌+◌, ◌-◌, ◌*◌, ◌≤◌, arith}
 use Rattle.std.proofs.Math.Nat.{le-mul_of_pos_right, suc-mul}
 
 -- from a program's end to a graph's, and back
@@ -38,6 +38,22 @@ next_step back size n units most at debt h = omega arith
 pub last_step : (side : Side) (size n units most at debt : ℕ) → at + 1 ≤ size → Within side size n units most (at + 1) debt → Behind side size n units debt
 last_step forth size n units most at debt within h = h.0
 last_step back size n units most at debt within h = omega arith
+
+-- the first node of a called block begins, whose unit of work is taken; its caller is owed what it has left behind the
+-- call, at most as many steps as the largest block has
+abbrev pub owed : ℕ → ℕ → ℕ → ℕ
+owed size at debt = (size - at) + debt
+
+pub called_step : (side : Side) (size n units most at debt : ℕ) → at ≤ size → Within side size n (suc units) most at debt
+    → Begun side size n units most 0 (owed size at debt)
+called_step forth size n units most at debt small within = let a = within.0 in let b = within.1 in (omega arith, omega arith)
+called_step back size n units most at debt small within = omega (arith, suc-mul units size)
+
+-- the called block has ended, and its caller goes on
+pub returned_step : (side : Side) (size n j units others most at debt : ℕ) → at ≤ size → j ≤ n → Within side size n others most at debt
+    → Behind side size j units (owed size at debt) → Within side size j units most at debt
+returned_step forth size n j units others most at debt small less within behind = let b = within.1 in (behind, omega arith)
+returned_step back size n j units others most at debt small less within behind = omega arith
 
 -- the same steps from further on in the block
 pub far_step : (side : Side) (size n units most at to debt : ℕ) → at ≤ to → Within side size n units most at debt → Within side size n units most to debt

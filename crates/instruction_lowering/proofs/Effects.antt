@@ -9,6 +9,7 @@ use Rattle.stl_tree.specs.Accepted.{HasOperand}
 use Rattle.stl_tree.specs.Brackets.{WithNumber, after_bracket, closed_with, open_behind, push_bracket}
 use Rattle.stl_tree.specs.Instructions.{effect_of}
 use Rattle.stl_tree.specs.Now.{Now}
+use Rattle.stl_tree.specs.declared.program.Block.{Block}
 use Rattle.stl_tree.specs.declared.program.Op.{Op}
 use Rattle.stl_tree.specs.declared.program.Op.TheVariants as op
 use Rattle.st_tree.specs.Meaning.{Calls, body_meaning}
@@ -29,6 +30,12 @@ use Rattle.instruction_lowering.proofs.Does.{Does, does_instruction}
 use Rattle.instruction_lowering.proofs.Serving.{serves}
 use Rattle.instruction_lowering.proofs.Temporaries.{Keeps, as_many, kept_below}
 
+-- an instruction is no call
+abbrev pub IsNoCall : Op → Type 0
+IsNoCall (op.Call c) = ⊥
+IsNoCall (op.CallIf c) = ⊥
+IsNoCall other = Unit {0}
+
 -- an instruction may stand at a spot
 abbrev pub CanStand : Op → LoweringContext → Type 0
 CanStand o p = WithNumber (open_behind o (length p.brackets)) (λ n. Unit {0})
@@ -42,30 +49,33 @@ some_open [] h e = elim h [ ]
 some_open (o ∷ outer) h e = cc
 
 -- the spot behind an instruction that opens and closes no bracket
-pub straight_behind : (o : Op) → IsStraight o → (p : LoweringContext) → context_after o p ≡ more (types_of o) p
-straight_behind (op.Bracket c) h p = elim h [ ]
-straight_behind op.Close h p = elim h [ ]
-straight_behind (op.Jump t to) h p = elim h [ ]
-straight_behind (op.Loop to) h p = elim h [ ]
-straight_behind (op.JumpList count label) h p = elim h [ ]
-straight_behind op.BlockEnd h p = elim h [ ]
-straight_behind op.BlockEndIf h p = elim h [ ]
-straight_behind o h p = refl
+pub straight_behind : (program : List Block) (o : Op) → IsStraight o → (p : LoweringContext) → context_after program o p ≡ more (types_of program o) p
+straight_behind program (op.Bracket c) h p = elim h [ ]
+straight_behind program op.Close h p = elim h [ ]
+straight_behind program (op.Jump t to) h p = elim h [ ]
+straight_behind program (op.Loop to) h p = elim h [ ]
+straight_behind program (op.JumpList count label) h p = elim h [ ]
+straight_behind program op.BlockEnd h p = elim h [ ]
+straight_behind program op.BlockEndIf h p = elim h [ ]
+straight_behind program (op.Call c) h p = elim h [ ]
+straight_behind program (op.CallIf c) h p = elim h [ ]
+straight_behind program o h p = refl
 
-module _ (g : List Located) (calls : Calls) (units : ℕ) (frames : Frames) (now : Now) (s : State)
+module _ (program : List Block) (g : List Located) (calls : Calls) (units : ℕ) (frames : Frames) (now : Now) (s : State)
     (related : Related frames now s) (total : ℕ) (p : LoweringContext) (keeps : Keeps total p now.brackets s.activations) where
   -- what an instruction's statements do at the spot
   abbrev DoesHere : Op → Type 0
-  DoesHere o = Does (body_meaning g calls (statements_of p o) units s) units total (context_after o p) frames now.memory (effect_of o now)
+  DoesHere o = Does (body_meaning g calls (statements_of program p o) units s) units total (context_after program o p) frames now.memory (effect_of o now)
 
-  straight_does : (o : Op) → IsStraight o → HasOperand o → (context_after o p).used ≤ total → DoesHere o
+  straight_does : (o : Op) → IsStraight o → HasOperand frames.formals o → (context_after program o p).used ≤ total → DoesHere o
   straight_does o straight h room =
-      let e = straight_behind o straight p in
-      let used : (context_after o p).used ≡ p.used + length (types_of o) = ap (λ (q : LoweringContext). q.used) e in
+      let e = straight_behind program o straight p in
+      let used : (context_after program o p).used ≡ p.used + length (types_of program o) = ap (λ (q : LoweringContext). q.used) e in
       let long : length (own_of s.activations) ≡ total = keeps.0 in
-      does_instruction (body_meaning g calls (statements_of p o) units s) units total p (context_after o p) frames s now.memory now.brackets (effect_of o now)
+      does_instruction (body_meaning g calls (statements_of program p o) units s) units total p
+      (context_after program o p) frames s now.memory now.brackets (effect_of o now)
       (ap (λ (q : LoweringContext). q.brackets) e) (omega (arith, used)) (brackets_left now o straight) keeps
-      ((serves o straight h p).does g calls units frames now s related (omega (arith, used, long, room)))
+      ((serves program o straight p).does g calls units frames now s h related (omega (arith, used, long, room)))
 
   -- A bracket is opened
 
@@ -129,13 +139,15 @@ module _ (g : List Located) (calls : Calls) (units : ℕ) (frames : Frames) (now
 
   -- Each
 
-  pub does : (o : Op) → IsInside o → HasOperand o → CanStand o p → (context_after o p).used ≤ total → DoesHere o
-  does (op.Bracket c) inside operand stands room = open_does c (free (nat_lt (length p.brackets) most_open) (length p.brackets) stands) room
-  does op.Close inside operand stands room =
+  pub does : (o : Op) → IsInside o → IsNoCall o → HasOperand frames.formals o → CanStand o p → (context_after program o p).used ≤ total → DoesHere o
+  does (op.Bracket c) inside straight operand stands room = open_does c (free (nat_lt (length p.brackets) most_open) (length p.brackets) stands) room
+  does op.Close inside straight operand stands room =
       by_open p.brackets now.brackets refl refl (some_open p.brackets stands) keeps.1
-  does (op.Jump t to) inside operand stands room = elim inside [ ]
-  does (op.Loop to) inside operand stands room = elim inside [ ]
-  does (op.JumpList count label) inside operand stands room = elim inside [ ]
-  does op.BlockEnd inside operand stands room = elim inside [ ]
-  does op.BlockEndIf inside operand stands room = elim inside [ ]
-  does o inside operand stands room = straight_does o tt operand room
+  does (op.Jump t to) inside straight operand stands room = elim inside [ ]
+  does (op.Loop to) inside straight operand stands room = elim inside [ ]
+  does (op.JumpList count label) inside straight operand stands room = elim inside [ ]
+  does op.BlockEnd inside straight operand stands room = elim inside [ ]
+  does op.BlockEndIf inside straight operand stands room = elim inside [ ]
+  does (op.Call c) inside straight operand stands room = elim straight [ ]
+  does (op.CallIf c) inside straight operand stands room = elim straight [ ]
+  does o inside straight operand stands room = straight_does o tt operand room

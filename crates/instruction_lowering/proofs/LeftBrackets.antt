@@ -1,5 +1,5 @@
 -- An instruction that opens and closes no bracket leaves those that are open.
-use Rattle.std.proofs.Common.{◌≡◌, ℕ, Bool, true, false, if◌then◌else◌, List, Result, Ok, Err, refl}
+use Rattle.std.proofs.Common.{◌≡◌, ℕ, Bool, true, false, if◌then◌else◌, List, Result, Ok, Err, refl, Option, Some, None}
 use Rattle.memory_areas.specs.Access.{read_bit, write_bit}
 use Rattle.memory_areas.specs.Areas.{Contents}
 use Rattle.s7_base.specs.declared.outcome.Fault.{Fault}
@@ -33,7 +33,7 @@ use Rattle.memory_areas.specs.declared.place.Place.{Place}
 use Rattle.s7_base.specs.declared.check.Entry.{Entry}
 use Rattle.s7_base.specs.declared.outcome.Fault.{Fault}
 use Rattle.stl_tree.specs.Now.{Effect, depth, with_registers}
-use Rattle.stl_tree.specs.Operands.{OperandPlace, aimed_by, aimed_in, found_at, place_in, with_place}
+use Rattle.stl_tree.specs.Operands.{OperandPlace, aimed_by, aimed_in, formal_place, found_at, found_formal, place_in, with_place}
 use Rattle.stl_tree.specs.declared.program.Operand.TheVariants as operand
 use Rattle.template_parts.proofs.Pointers.{place_pointed}
 
@@ -61,6 +61,11 @@ pub left_at_place : (entries : List Entry) (o : Operand) (now : Now) (effect : P
 left_at_place entries (operand.Direct a byte x) now effect e h = h (place_in a byte x now) now e
 left_at_place entries (operand.Opened n byte x) now effect e h =
     let after : Now = with_registers (db_opened n) now in h (place_in area.Db byte x after) after e
+left_at_place entries (operand.Formal k) now effect e h = by (formal_place k now.activations)
+  where
+    by : (o : Option Place) → LeavesBrackets entries (with_value (found_formal o now) (λ f. effect f.place f.after))
+    by (Some p) = h p now e
+    by None = tt
 left_at_place entries (operand.ByMemory a pointer_area byte) now effect e h = by (read_dword (place_in pointer_area byte 0 now) now.memory)
   where
     by : (r : Result ℕ Fault) → LeavesBrackets entries (with_value (and_then r (λ p. found_at (aimed_in a p now) now)) (λ f. effect f.place f.after))
@@ -85,6 +90,8 @@ IsStraight (op.Loop to) = ⊥
 IsStraight (op.JumpList count label) = ⊥
 IsStraight op.BlockEnd = ⊥
 IsStraight op.BlockEndIf = ⊥
+IsStraight (op.Call c) = ⊥
+IsStraight (op.CallIf c) = ⊥
 IsStraight other = Unit {0}
 
 module _ (now : Now) where
@@ -155,6 +162,8 @@ module _ (now : Now) where
   brackets_left (op.JumpList count label) h = elim h [ ]
   brackets_left op.BlockEnd h = elim h [ ]
   brackets_left op.BlockEndIf h = elim h [ ]
+  brackets_left (op.Call c) h = elim h [ ]
+  brackets_left (op.CallIf c) h = elim h [ ]
   brackets_left (op.Assign o) h =
       left_at_place now.brackets o now
       (λ q after. with_memory (write_bit q after.registers.status.rlo after.memory) after

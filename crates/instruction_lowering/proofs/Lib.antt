@@ -1,21 +1,41 @@
+mod CallFacts
+mod NodeCases
+pub mod AcceptedCalls
 pub mod BlockBytes
+pub mod BlockEnds
 pub mod Bodies
 pub mod Bounds
+pub mod CalledBlocks
+pub mod DistinctBlocks
+pub mod Does
+pub mod Effects
+pub mod EndWord
+pub mod Ends
+pub mod FormalNames
 pub mod LeftBrackets
 pub mod LocalTests
-pub mod Does
+pub mod MadeUnits
 pub mod Names
+pub mod NewNames
 pub mod NodeBounds
-mod NodeCases
 pub mod NodeLoops
 pub mod Nodes
+pub mod PairLaws
 pub mod PlainGraph
+pub mod PlainProgram
+pub mod PlainSteps
+pub mod PositionLaws
 pub mod ProperNames
-pub mod Effects
+pub mod RunsAlike
 pub mod Same
 pub mod Serving
 pub mod Simulation
+pub mod SortedPairs
 pub mod SpotLaws
 pub mod Spots
+pub mod Starts
 pub mod Temporaries
 pub mod TemporaryNames
+pub mod UnitOrder
+pub mod UnitShapes
+pub mod Writes

@@ -30,7 +30,7 @@ IsNumbered (name.Fb n) = n < 2 ^ 16
 
 -- a change of letters alone keeps numbers
 module _ (change : ℕ → ℕ) (digit_stays : (n : ℕ) → n < 10 → change (48 + n) ≡ 48 + n) where
-  decimal_stays : (n : ℕ) → n < 2 ^ 64 → map change (decimal n) ≡ decimal n
+  pub decimal_stays : (n : ℕ) → n < 2 ^ 64 → map change (decimal n) ≡ decimal n
   decimal_stays =
       decimal_by_steps (λ n ds. map change ds ≡ ds)
       (λ n h. ap (λ d. d ∷ []) (digit_stays n h))
@@ -132,20 +132,25 @@ and_true : (a : Bool) → (a && true) ≡ a
 and_true true = refl
 and_true false = refl
 
-and_false : (a : Bool) → (a && false) ≡ false
-and_false true = refl
-and_false false = refl
+-- a call means the head of a block's unit exactly where it has the block's name
+by_name : (b called : BlockName) → IsNumbered b → IsNumbered called
+    → (str_eq_ignore_ascii_case (called_name b) (called_name called) && is_same_kind (is_program called) (is_program b)) ≡ is_same_name b called
+by_name (name.Ob m) (name.Ob n) h k =
+    and_true (str_eq_ignore_ascii_case (called_name (name.Ob m)) (called_name (name.Ob n))) ∙ same_name (name.Ob m) (name.Ob n) h k
+by_name (name.Fc m) (name.Fc n) h k =
+    and_true (str_eq_ignore_ascii_case (called_name (name.Fc m)) (called_name (name.Fc n))) ∙ same_name (name.Fc m) (name.Fc n) h k
+by_name (name.Fb m) (name.Fb n) h k =
+    and_true (str_eq_ignore_ascii_case (called_name (name.Fb m)) (called_name (name.Fb n))) ∙ same_name (name.Fb m) (name.Fb n) h k
+by_name (name.Ob m) (name.Fc n) h k = refl
+by_name (name.Ob m) (name.Fb n) h k = refl
+by_name (name.Fc m) (name.Ob n) h k = refl
+by_name (name.Fc m) (name.Fb n) h k = refl
+by_name (name.Fb m) (name.Ob n) h k = refl
+by_name (name.Fb m) (name.Fc n) h k = refl
 
--- a call means the head of a block's unit exactly where it has the block's name, and calls an organization block
-pub meant : (n : ℕ) → IsNumbered (name.Ob n) → (b : Block) → IsAcceptedBlock b → is_meant (name.Ob n) (head_for b) ≡ is_same_name b.name (name.Ob n)
-meant n h b accepted =
-    and_true (str_eq_ignore_ascii_case (called_name b.name) (called_name (name.Ob n)))
-    ∙ same_name b.name (name.Ob n) (numbered b.name accepted.number) h
-
-pub not_meant : (called : BlockName) → is_program called ≡ false → (b : Block) → is_meant called (head_for b) ≡ false
-not_meant called h b =
-    ap (λ (c : Bool). str_eq_ignore_ascii_case (called_name b.name) (called_name called) && is_same_kind c true) h
-    ∙ and_false (str_eq_ignore_ascii_case (called_name b.name) (called_name called))
+pub meant : (program : List Block) (called : BlockName) → IsNumbered called → (b : Block) → IsAcceptedBlock b
+    → is_meant called (head_for program b) ≡ is_same_name b.name called
+meant program called h b accepted = by_name b.name called (numbered b.name accepted.number) h
 
 -- Whatever is made of each block, and found by its name
 module _ (A : Type 0) (of : Block → A) (test : A → Bool) where
@@ -162,10 +167,6 @@ module _ (A : Type 0) (of : Block → A) (test : A → Bool) where
       ap (λ found. cond found (Some (of b)) (find test (map of bs))) (same b (first_of IsAcceptedBlock b bs all))
       ∙ chosen (is_same_name b.name called) b (block_of called bs) (find test (map of bs)) (found_of called same bs (rest_of IsAcceptedBlock b bs all))
 
-  pub none_of : ((b : Block) → test (of b) ≡ false) → (blocks : List Block) → find test (map of blocks) ≡ None
-  none_of same [] = refl
-  none_of same (b ∷ bs) = ap (λ found. cond found (Some (of b)) (find test (map of bs))) (same b) ∙ none_of same bs
-
 -- a block that is found is the first one, or one of the others
 at_find : (test : Bool) (x b : Block) (o : Option Block) → cond test (Some x) o ≡ Some b → ((test ≡ true) × (x ≡ b)) ⊎ (o ≡ Some b)
 at_find true x b o e = inl (refl, cc)
@@ -180,7 +181,7 @@ found_each P called (x ∷ xs) b e all =
     (at_find (is_same_name x.name called) x b (block_of called xs) e)
 
 -- it has the name that was called
-found_named : (called : BlockName) (blocks : List Block) (b : Block) → block_of called blocks ≡ Some b → is_same_name b.name called ≡ true
+pub found_named : (called : BlockName) (blocks : List Block) (b : Block) → block_of called blocks ≡ Some b → is_same_name b.name called ≡ true
 found_named called [] b e = cc
 found_named called (x ∷ xs) b e =
     ⊎_elim (λ (h : (is_same_name x.name called ≡ true) × (x ≡ b)). subst (λ (y : Block). is_same_name y.name called ≡ true) h.1 h.0)

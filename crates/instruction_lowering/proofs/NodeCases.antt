@@ -1,10 +1,10 @@
 -- Nodes of bodies that are written out.
 use Rattle.std.proofs.Common.{◌≡◌, true, false, List, [], ◌∷◌, ◌++◌, refl}
 use Rattle.bit_templates.specs.Bits.{rlo_set}
+use Rattle.call_templates.specs.Calls.{end_word_of}
 use Rattle.flow_graph.specs.declared.graph.Exit.TheVariants as way
 use Rattle.flow_graph.specs.declared.graph.Node.{Node}
 use Rattle.instruction_lowering.specs.inner.Lowering.{nodes_of}
-use Rattle.instruction_lowering.specs.inner.Templates.{end_word_of}
 use Rattle.jump_templates.specs.Jumps.{low_byte_of}
 use Rattle.s7_base.specs.declared.register.Reg.TheVariants as reg
 use Rattle.st_tree.specs.declared.graph.StExit.TheVariants as exit
@@ -26,7 +26,7 @@ leaving_blocks =
     record { first = 0; past = 2; exit = way.Branch 2 } ∷ record { first = 2; past = 3; exit = way.End } ∷ record { first = 3; past = 4; exit = way.End } ∷ []
 
 -- the test is kept before RLO is set; BEU alone is no end word
-leaving_nodes : nodes_of leaving leaving_blocks
+leaving_nodes : nodes_of [] leaving leaving_blocks
     ≡ record { steps = rlo_set true ++ set_local_of 0 (read_of reg.Rlo) ∷ rlo_set true; exit = exit.Branch (local_of 0) 2; only_end = false }
     ∷ record { steps = end_word_of; exit = exit.End; only_end = false }
     ∷ record { steps = end_word_of; exit = exit.End; only_end = true } ∷ []
@@ -43,7 +43,7 @@ listing_blocks =
     ∷ record { first = 2; past = 3; exit = way.Jump 2 } ∷ record { first = 3; past = 4; exit = way.End }
     ∷ []
 
-listing_nodes : nodes_of listing listing_blocks
+listing_nodes : nodes_of [] listing listing_blocks
     ≡ record { steps = set_local_of 0 low_byte_of ∷ []; exit = exit.Table (local_of 0) (2 ∷ []) 1; only_end = false }
     ∷ record { steps = []; exit = exit.Jump 2; only_end = false }
     ∷ record { steps = end_word_of; exit = exit.End; only_end = true } ∷ []

@@ -67,7 +67,7 @@ turned : (m n : ℕ) → (m == n) ≡ (n == m)
 turned m n = grind (arith, nat_tests)
 
 -- two units have one name exactly where their blocks have
-same_keys : (b c : BlockName) → IsNumbered b → IsNumbered c → is_same (key_of (called_name b)) (key_of (called_name c)) ≡ is_same_name c b
+pub same_keys : (b c : BlockName) → IsNumbered b → IsNumbered c → is_same (key_of (called_name b)) (key_of (called_name c)) ≡ is_same_name c b
 unfolding key_of
 same_keys (name.Ob m) (name.Ob n) h k = same_number to_ascii_uppercase upper_digit m n (omega arith) (omega arith) ∙ turned m n
 same_keys (name.Fc m) (name.Fc n) h k = same_number to_ascii_uppercase upper_digit m n (omega arith) (omega arith) ∙ turned m n
@@ -79,7 +79,7 @@ same_keys (name.Fc m) (name.Fb n) h k = refl
 same_keys (name.Fb m) (name.Ob n) h k = refl
 same_keys (name.Fb m) (name.Fc n) h k = refl
 
-nothing_named : (called : BlockName) (blocks : List Block) → block_named called blocks ≡ None → block_of called blocks ≡ None
+pub nothing_named : (called : BlockName) (blocks : List Block) → block_named called blocks ≡ None → block_of called blocks ≡ None
 nothing_named called blocks e = by (block_of called blocks) refl
   where
     no_position : (o : Option ℕ) → o ≡ None → IsSome o → ⊥
@@ -91,24 +91,6 @@ nothing_named called blocks e = by (block_of called blocks) refl
     by (Some b) is =
         absurd (no_position (block_named called blocks) e (position_of called blocks (rw is refl)))
 
-first_not : (test : Bool) (b : Block) (o : Option Block) → cond test (Some b) o ≡ None → (test ≡ false) × (o ≡ None)
+pub first_not : (test : Bool) (b : Block) (o : Option Block) → cond test (Some b) o ≡ None → (test ≡ false) × (o ≡ None)
 first_not true b o e = absurd cc
 first_not false b o e = (refl, e)
-
-is_new_name : (b : Block) (blocks : List Block) → IsNumbered b.name → All IsAcceptedBlock blocks → block_of b.name blocks ≡ None
-    → is_new (key_of (called_name b.name)) (map (λ (b : Block). key_of (called_name b.name)) blocks) ≡ true
-is_new_name b [] h all e = refl
-is_new_name b (c ∷ blocks) h all e =
-    let not_first = first_not (is_same_name c.name b.name) c (block_of b.name blocks) e in
-    let own = All-head IsAcceptedBlock c blocks all in
-    let more = is_new_name b blocks h (All-tail IsAcceptedBlock c blocks all) not_first.1 in
-    rw (same_keys b.name c.name h (numbered c.name own.number), not_first.0) more
-
-pub units_apart : (blocks : List Block) → All IsAcceptedBlock blocks → AreDistinct blocks
-    → are_apart (map (λ (b : Block). key_of (called_name b.name)) blocks) ≡ true
-units_apart [] all h = refl
-units_apart (b ∷ blocks) all h =
-    let own = All-head IsAcceptedBlock b blocks all in
-    let rest = All-tail IsAcceptedBlock b blocks all in
-    rw (is_new_name b blocks (numbered b.name own.number) rest (nothing_named b.name blocks h.0))
-    (units_apart blocks rest h.1)

@@ -8,8 +8,9 @@ use Rattle.flow_graph.specs.declared.graph.Exit.{Exit}
 use Rattle.flow_graph.specs.declared.graph.Node.{Node}
 use Rattle.flow_laws.specs.Ways.{AreListedTo, GoesBy, HasFrom, IsInside}
 use Rattle.s7_base.specs.declared.check.Entry.{Entry}
-use Rattle.stl_tree.specs.Accepted.{HasOperand}
+use Rattle.stl_tree.specs.Accepted.{HasOperand, Widths}
 use Rattle.stl_tree.specs.Brackets.{WithNumber, none_open, open_behind}
+use Rattle.stl_tree.specs.declared.program.Block.{Block}
 use Rattle.stl_tree.specs.declared.program.Instr.{Instr}
 use Rattle.stl_tree.specs.declared.program.JumpTest.TheVariants as jump
 use Rattle.stl_tree.specs.declared.program.Op.{Op}
@@ -30,48 +31,55 @@ has_rest body at i is has j x there = let e : at + 1 + j ≡ at + suc j = omega 
 
 -- Spots
 
-abbrev pub HasItsOperand : Instr → Type 0
-HasItsOperand i = HasOperand i.op
+abbrev pub HasItsOperand : Widths → Instr → Type 0
+HasItsOperand formals i = HasOperand formals i.op
 
 -- an instruction takes as many temporaries as it has types of them
-pub used_behind_one : (o : Op) (q : LoweringContext) → (context_after o q).used ≡ q.used + length (types_of o)
-used_behind_one (op.Bracket c) q = refl
-used_behind_one op.Close q = omega arith
-used_behind_one o q = refl
+pub used_behind_one : (program : List Block) (o : Op) (q : LoweringContext) → (context_after program o q).used ≡ q.used + length (types_of program o)
+used_behind_one program (op.Bracket c) q = refl
+used_behind_one program op.Close q = omega arith
+used_behind_one program o q = refl
 
-pub more_used : (o : Op) (q : LoweringContext) → q.used ≤ (context_after o q).used
-more_used o q = let e : (context_after o q).used ≡ q.used + length (types_of o) = used_behind_one o q in omega arith
+pub more_used : (program : List Block) (o : Op) (q : LoweringContext) → q.used ≤ (context_after program o q).used
+more_used program o q = let e : (context_after program o q).used ≡ q.used + length (types_of program o) = used_behind_one program o q in omega arith
 
 -- and so do those of a body
-pub used_behind_all : (is : List Instr) (q : LoweringContext) → used_behind q is ≡ q.used + length (types_in is)
-used_behind_all [] q = omega arith
-used_behind_all (i ∷ is) q =
-    let one : (context_after i.op q).used ≡ q.used + length (types_of i.op) = used_behind_one i.op q in
-    let all : used_behind (context_after i.op q) is ≡ (context_after i.op q).used + length (types_in is) = used_behind_all is (context_after i.op q) in
-    omega (arith, length-append (types_of i.op) (types_in is))
+pub used_behind_all : (program : List Block) (is : List Instr) (q : LoweringContext) → used_behind program q is ≡ q.used + length (types_in program is)
+used_behind_all program [] q = omega arith
+used_behind_all program (i ∷ is) q =
+    let one : (context_after program i.op q).used ≡ q.used + length (types_of program i.op) = used_behind_one program i.op q in
+    let all : used_behind program (context_after program i.op q) is ≡ (context_after program i.op q).used + length (types_in program is) =
+    used_behind_all program is (context_after program i.op q) in
+    omega (arith, length-append (types_of program i.op) (types_in program is))
 
-pub used_grows : (is : List Instr) (q : LoweringContext) → q.used ≤ used_behind q is
-used_grows is q = let e : used_behind q is ≡ q.used + length (types_in is) = used_behind_all is q in omega arith
+pub used_grows : (program : List Block) (is : List Instr) (q : LoweringContext) → q.used ≤ used_behind program q is
+used_grows program is q = let e : used_behind program q is ≡ q.used + length (types_in program is) = used_behind_all program is q in omega arith
+
+closed_behind : (P : ℕ → Type 0) (n : ℕ) → WithNumber (none_open n) P → P n
+closed_behind P zero h = h
+closed_behind P (suc n) h = elim h [ ]
 
 -- what holds of the brackets behind an instruction
-pub nested_behind : (P : ℕ → Type 0) (o : Op) (q : LoweringContext) → IsInside o
-    → WithNumber (open_behind o (length q.brackets)) P → P (length (context_after o q).brackets)
-nested_behind P op.BlockEnd q inside h = elim inside [ ]
-nested_behind P op.BlockEndIf q inside h = elim inside [ ]
-nested_behind P (op.Jump t to) q inside h = elim inside [ ]
-nested_behind P (op.Loop to) q inside h = elim inside [ ]
-nested_behind P (op.JumpList count label) q inside h = elim inside [ ]
-nested_behind P (op.Bracket c) q inside h = by (nat_lt (length q.brackets) most_open) h
+pub nested_behind : (program : List Block) (P : ℕ → Type 0) (o : Op) (q : LoweringContext)
+    → WithNumber (open_behind o (length q.brackets)) P → P (length (context_after program o q).brackets)
+nested_behind program P (op.Bracket c) q h = by (nat_lt (length q.brackets) most_open) h
   where
     by : (b : Bool) → WithNumber (if b then Some (suc (length q.brackets)) else None) P → P (suc (length q.brackets))
     by true h = h
     by false h = elim h [ ]
-nested_behind P op.Close q inside h = by q.brackets h
+nested_behind program P op.Close q h = by q.brackets h
   where
     by : (brackets : List OpenBracket) → WithNumber (open_behind op.Close (length brackets)) P → P (length (outer_of brackets))
     by [] h = elim h [ ]
     by (o ∷ outer) h = h
-nested_behind P o q inside h = h
+nested_behind program P op.BlockEnd q h = closed_behind P (length q.brackets) h
+nested_behind program P op.BlockEndIf q h = closed_behind P (length q.brackets) h
+nested_behind program P (op.Jump t to) q h = closed_behind P (length q.brackets) h
+nested_behind program P (op.Loop to) q h = closed_behind P (length q.brackets) h
+nested_behind program P (op.JumpList count label) q h = closed_behind P (length q.brackets) h
+nested_behind program P (op.Call c) q h = closed_behind P (length q.brackets) h
+nested_behind program P (op.CallIf c) q h = closed_behind P (length q.brackets) h
+nested_behind program P o q h = h
 
 pub can_stand : (P : ℕ → Type 0) (n : Option ℕ) → WithNumber n P → WithNumber n (λ n. Unit {0})
 can_stand P None h = h
@@ -122,20 +130,24 @@ as_many_listed blocks (i ∷ is) [] h = elim h [ ]
 as_many_listed blocks (i ∷ is) (j ∷ js) h = ap suc (as_many_listed blocks is js h.1)
 
 -- the JU of a list have no statements and no locals
-pub no_steps : (blocks : List Node) (q : LoweringContext) (is : List Instr) (js : List ℕ) → AreListedTo blocks is js → steps_of q is ≡ []
-no_steps blocks q [] [] h = refl
-no_steps blocks q [] (j ∷ js) h = elim h [ ]
-no_steps blocks q (i ∷ is) [] h = elim h [ ]
-no_steps blocks q (i ∷ is) (j ∷ js) h =
-    ap (λ (o : Op). statements_of q o ++ steps_of (context_after i.op q) is) h.0.1 ∙ no_steps blocks (context_after i.op q) is js h.1
+pub no_steps : (program : List Block) (blocks : List Node) (q : LoweringContext) (is : List Instr) (js : List ℕ)
+    → AreListedTo blocks is js → steps_of program q is ≡ []
+no_steps program blocks q [] [] h = refl
+no_steps program blocks q [] (j ∷ js) h = elim h [ ]
+no_steps program blocks q (i ∷ is) [] h = elim h [ ]
+no_steps program blocks q (i ∷ is) (j ∷ js) h =
+    ap (λ (o : Op). statements_of program q o ++ steps_of program (context_after program i.op q) is) h.0.1
+    ∙ no_steps program blocks (context_after program i.op q) is js h.1
 
-pub no_locals_used : (blocks : List Node) (q : LoweringContext) (is : List Instr) (js : List ℕ) → AreListedTo blocks is js → used_behind q is ≡ q.used
-no_locals_used blocks q [] [] h = refl
-no_locals_used blocks q [] (j ∷ js) h = elim h [ ]
-no_locals_used blocks q (i ∷ is) [] h = elim h [ ]
-no_locals_used blocks q (i ∷ is) (j ∷ js) h =
-    let one : (context_after i.op q).used ≡ q.used + 0 = ap (λ (o : Op). (context_after o q).used) h.0.1 in
-    let others : used_behind (context_after i.op q) is ≡ (context_after i.op q).used = no_locals_used blocks (context_after i.op q) is js h.1 in
+pub no_locals_used : (program : List Block) (blocks : List Node) (q : LoweringContext) (is : List Instr) (js : List ℕ)
+    → AreListedTo blocks is js → used_behind program q is ≡ q.used
+no_locals_used program blocks q [] [] h = refl
+no_locals_used program blocks q [] (j ∷ js) h = elim h [ ]
+no_locals_used program blocks q (i ∷ is) [] h = elim h [ ]
+no_locals_used program blocks q (i ∷ is) (j ∷ js) h =
+    let one : (context_after program i.op q).used ≡ q.used + 0 = ap (λ (o : Op). (context_after program o q).used) h.0.1 in
+    let others : used_behind program (context_after program i.op q) is ≡ (context_after program i.op q).used =
+    no_locals_used program blocks (context_after program i.op q) is js h.1 in
     omega arith
 
 pub not_listed : (js : List ℕ) (v : ℕ) → slice_get js v ≡ None → length js ≤ v

@@ -1,6 +1,7 @@
 -- A graph program that means the same as a program.
-use Rattle.std.specs.Prelude.{◌≡◌, ℕ, ◌+◌, ◌*◌, ◌≤◌, ◌==◌, Bool, true, List, [], ◌∷◌, ◌++◌, ◌⊎◌, length, flat_map, All, Option}
+use Rattle.std.specs.Prelude.{◌≡◌, ℕ, ◌+◌, ◌*◌, ◌≤◌, ◌==◌, Bool, List, [], ◌∷◌, ◌++◌, ◌⊎◌, length, flat_map, All, Option}
 use Rattle.std.specs.List.{sum_by}
+use Rattle.call_templates.specs.Calls.{one_if_given}
 use Rattle.flow_graph.specs.Graphs.{IsGraphOf, extent_of}
 use Rattle.flow_graph.specs.declared.graph.Exit.{Exit}
 use Rattle.flow_graph.specs.declared.graph.Exit.TheVariants as way
@@ -11,31 +12,29 @@ use Rattle.memory_areas.specs.End.{End, Ended}
 use Rattle.memory_areas.specs.declared.data_block.DataBlock.{DataBlock}
 use Rattle.s7_base.specs.declared.outcome.Fault.{Fault}
 use Rattle.s7_base.specs.declared.register.Reg.{Reg}
-use Rattle.st_tree.specs.BodyParts.{reads_in, reads_of as variables_of}
+use Rattle.st_tree.specs.BodyParts.{reads_in, reads_of as variables_of, statements_in}
 use Rattle.stl_tree.specs.Blocks.{instructions_of}
 use Rattle.stl_tree.specs.Reads.{reads_of}
 use Rattle.stl_tree.specs.declared.program.Instr.{Instr}
+use Rattle.stl_tree.specs.declared.program.Op.{Op}
+use Rattle.stl_tree.specs.declared.program.Op.TheVariants as op
 use Rattle.stl_tree.specs.StlRun.{Fits, HasNoInstance, size_of, stl_run}
 use Rattle.stl_tree.specs.declared.program.Block.{Block}
-use Rattle.stl_tree.specs.declared.program.Formal.{Formal}
-use Rattle.memory_areas.specs.declared.call.BlockName.{BlockName}
-use Rattle.memory_areas.specs.declared.call.BlockName.TheVariants as name
 use Rattle.memory_areas.specs.declared.call.Call.{Call}
 use Rattle.stl_tree.specs.declared.program.Program.{Program}
 use Rattle.st_tree.specs.GraphRun.{FitsGraph, graph_run, pass_run}
-use Rattle.st_tree.specs.StRun.{called_name}
+use Rattle.st_tree.specs.StRun.{called_name, is_program}
 use Rattle.st_tree.specs.declared.graph.GraphPou.{GraphPou}
 use Rattle.st_tree.specs.declared.graph.GraphProgram.{GraphProgram}
 use Rattle.st_tree.specs.declared.graph.StExit.{StExit}
 use Rattle.st_tree.specs.declared.graph.StExit.TheVariants as exit_of
 use Rattle.st_tree.specs.declared.graph.StNode.{StNode}
-use Rattle.st_tree.specs.declared.program.Local.{Local}
 use Rattle.st_tree.specs.declared.program.Pou.{Pou}
-use Rattle.st_tree.specs.Values.{type_of_width}
-use Rattle.graph_rules.specs.Plain.{IsTemporary, tests_of}
-use Rattle.graph_rules.specs.Writes.{AreWrites}
+use Rattle.graph_rules.specs.Plain.{AreSteps, IsTemporary, tests_of}
+use Rattle.graph_rules.specs.Runs.{bodies_in}
 use Rattle.template_parts.specs.Nodes.{nodes, nodes_in}
 use Rattle.template_parts.specs.Reading.{EachRegister, IsAmong}
+use Rattle.instruction_lowering.specs.UnitNames.{in_order, unit_formals}
 
 -- Nodes
 
@@ -59,18 +58,33 @@ abbrev pub IsRead : List Instr → Reg → Type 0
 IsRead [] r = ⊥
 IsRead (i ∷ rest) r = IsAmong r (reads_of i.op) ⊎ IsRead rest r
 
--- a node is that of a block of a body: it has the exit of the block; its steps and the test of its exit read only
--- register variables that instructions of the block read, and have at most eleven statements and 91 nodes of
--- expressions for each of them
+-- how many calls by CC an instruction is
+abbrev pub guards_of : Op → ℕ
+guards_of (op.CallIf c) = 1
+guards_of other = 0
+
+-- how many actuals an instruction gives to a call
+abbrev pub actuals_of : Op → ℕ
+actuals_of (op.Call c) = sum_by one_if_given c.actuals
+actuals_of other = 0
+
+-- a node is that of a block of a body: it has the exit of the block, and an IF for each CC of it and no other; its
+-- steps and the test of its exit read only register variables that instructions of the block read, and have at most
+-- eleven statements and 91 nodes of expressions for each of them, and three of each for each actual
 pub record IsNodeOf (body : List Instr) (block : Node) (node : StNode) : Type 0 where
   pub exit : IsExitOf block.exit node.exit
   pub only_end : node.only_end ≡ is_end_alone body block
-  pub steps : AreWrites node.steps
+  pub steps : AreSteps node.steps
+  pub guards : length (bodies_in node.steps)
+      ≡ sum_by (λ (i : Instr). guards_of i.op) (instructions_of body (extent_of block))
   pub reads : EachRegister (IsRead (instructions_of body (extent_of block)))
       (reads_in node.steps ++ flat_map variables_of (tests_of node.exit))
-  pub few : length node.steps + length (tests_of node.exit) ≤ 11 * length (instructions_of body (extent_of block))
+  pub few : length (statements_in node.steps) + length (tests_of node.exit)
+      ≤ 11 * length (instructions_of body (extent_of block))
+      + 3 * sum_by (λ (i : Instr). actuals_of i.op) (instructions_of body (extent_of block))
   pub small : nodes_in node.steps + sum_by nodes (tests_of node.exit)
       ≤ 91 * length (instructions_of body (extent_of block))
+      + 3 * sum_by (λ (i : Instr). actuals_of i.op) (instructions_of body (extent_of block))
 
 -- there is a node for each block of a body, in the same order
 abbrev pub AreNodesOf : List Instr → List Node → List StNode → Type 0
@@ -81,30 +95,11 @@ AreNodesOf body (block ∷ blocks) (node ∷ nodes) = IsNodeOf body block node �
 
 -- Units
 
--- the unit of an organization block is a program; that of a function or a function block, which no call fits so far,
--- may be of either kind
-abbrev pub IsKindOf : BlockName → Bool → Type 0
-IsKindOf (name.Ob n) program = program ≡ true
-IsKindOf other program = Unit {0}
-
--- the formals of a unit are as many as those of the block, each of the type of its width
-abbrev pub AreFormalsOf : List Formal → List Local → Type 0
-AreFormalsOf [] [] = Unit {0}
-AreFormalsOf [] (l ∷ locals) = ⊥
-AreFormalsOf (f ∷ formals) [] = ⊥
-AreFormalsOf (f ∷ formals) (l ∷ locals) = (l.ty ≡ type_of_width f.width) × AreFormalsOf formals locals
-
--- the unit of a function has the formals of the function; organization blocks have none, and those of a function block
--- are in its instance
-abbrev pub HasFormalsOf : BlockName → List Formal → List Local → Type 0
-HasFormalsOf (name.Fc n) formals locals = AreFormalsOf formals locals
-HasFormalsOf other formals locals = locals ≡ []
-
 -- the head of a block's unit: it has the block's kind, name and formals, and its locals are temporaries
 pub record IsHeadOf (block : Block) (head : Pou) : Type 0 where
-  pub kind : IsKindOf block.name head.program
+  pub kind : head.program ≡ is_program block.name
   pub name : head.name ≡ called_name block.name
-  pub formals : HasFormalsOf block.name block.formals head.formals
+  pub formals : head.formals ≡ unit_formals block.name block.formals
   pub locals : All IsTemporary head.locals
   pub body : head.body ≡ []
 
@@ -134,12 +129,13 @@ pub record SameGraphRuns (blocks : List DataBlock) (stl nodes passes : Areas →
   pub back : (memory : Areas) → IsMemoryOf blocks memory → (n : ℕ) (after : Areas) (fault : Option Fault)
       → passes memory n ≡ Ended after fault → stl memory (n * size) ≡ Ended after fault
 
--- a graph program has the data blocks of the program and a unit for each block; each call that fits the program
--- fits it, and its runs are the same; a call without an instance that fits it fits the program
+-- a graph program has the data blocks of the program and a unit for each block, functions first, then function blocks,
+-- then organization blocks, each by its number; each call that fits the program fits it, and its runs are the same; a
+-- call without an instance that fits it fits the program
 pub record Lowered (program : Program) (graph : GraphProgram) : Type 0 where
   pub blocks : graph.dbs ≡ program.dbs
   pub globals : graph.globals ≡ []
-  pub units : AreUnitsOf program.blocks graph.pous
+  pub units : AreUnitsOf (in_order program.blocks) graph.pous
   pub fits : (call : Call) → Fits program call → FitsGraph graph call
   pub fits_back : (call : Call) → HasNoInstance call.block → FitsGraph graph call → Fits program call
   pub runs : (call : Call) → Fits program call

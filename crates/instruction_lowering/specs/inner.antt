@@ -1,3 +1,4 @@
 pub mod Lowering
 pub mod Templates
 pub mod Temporaries
+pub mod UnitOrder

@@ -10,4 +10,6 @@ pub use units::lower;
 mod data_blocks;
 mod locals;
 mod statements;
+mod unit_names;
+mod unit_order;
 mod units;

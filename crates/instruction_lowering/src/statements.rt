@@ -1,11 +1,14 @@
 //! The statements of an instruction.
 //!
-//! Each is a handful of assignments and area writes, so a block without a jump inside is one node. Of the status word all
-//! bits but STA have variables.
-ghost use Rattle.std.specs.Prelude.{◌≡◌, ◌<◌, ◌+◌, ◌^◌, ◌++◌, IfOk, OnOk};
-ghost use Rattle.instruction_lowering.specs.inner.Templates.{context_after, close_innermost, context_from, end_word_of, more, statements_of, unary_of, with_bracket};
+//! Each is a handful of assignments and area writes; a call has more, and CC an IF. So a block without a jump inside is one
+//! node. Of the status word all bits but STA have variables.
+ghost use Rattle.std.specs.Prelude.{◌≡◌, ◌<◌, ◌+◌, ◌^◌, ◌++◌, [], IfOk, OnOk, get_or, length};
+ghost use Rattle.call_templates.specs.Calls.{call_of, types_of_call};
+ghost use Rattle.instruction_lowering.specs.inner.Templates.{context_after, close_innermost, context_from, more, statements_of, unary_of, unit_called, with_bracket};
+ghost use Rattle.instruction_lowering.specs.inner.Temporaries.{formals_called, types_of};
+ghost use Rattle.instruction_lowering.specs.inner.UnitOrder.{unit_positions};
 
-use crate::locals::types_of;
+use crate::locals::{fixed_types_of, formals_called};
 use accumulator_templates::{
     push_add_dword, push_add_word, push_block_exchange, push_block_open, push_cad, push_caw,
     push_dec, push_exchange, push_inc, push_invd, push_invi, push_itd, push_load, push_logic,
@@ -16,6 +19,7 @@ use bit_templates::{
     OpenBracket, push_assigned, push_checked, push_closed, push_falling, push_inverted,
     push_opened, push_or_alone, push_reset, push_rising, push_rlo, push_saved, push_set,
 };
+use call_templates::{push_call, push_call_if, push_end_word, push_types_of_call};
 use digit_templates::{push_btd, push_bti, push_dtb, push_itb};
 use jump_templates::{push_end_if, push_jump, push_list, push_loop};
 use pointer_templates::{
@@ -26,8 +30,7 @@ use shift_templates::{push_rlda, push_rrda, push_shift};
 use st_tree::{StType, Stmt};
 use std::alloc::Global;
 use std::collections::LinkedList;
-use stl_tree::{Op, UnaryRow};
-use template_parts::{literal, push_clear_or, set_register};
+use stl_tree::{Block, BlockCall, Op, UnaryRow};
 
 /// The state of the lowering between two instructions of a body.
 #[derive(Drop)]
@@ -53,14 +56,17 @@ impl LoweringContext {
     /// Takes the next locals, of these types, and gives the number of the first.
     fn take(&mut self, types: &[StType]) -> Result<u32, NoMemory>
         ensures first { IfOk result (λ first. first ≡ self.old.used) }
-        ensures room { IfOk result (λ first. first + 8 < 2 ^ 32) }
+        ensures few { IfOk result (λ first. first + 8 < 2 ^ 32) }
+        ensures room { IfOk result (λ first. first + length types.now < 2 ^ 32) }
         ensures spot { OnOk result (self.new ≡ more types.now self.old) }
     {
         let first = self.used;
-        if first >= u32::MAX - 8 || types.len() > 8 {
+        let count = u32::try_from(types.len()).map_err(|_| NoMemory)?;
+        let behind = first.checked_add(count).ok_or(NoMemory)?;
+        if behind >= u32::MAX - 8 {
             return Err(NoMemory);
         }
-        self.used = first + types.len() as u32;
+        self.used = behind;
         Ok(first)
     }
 
@@ -74,17 +80,21 @@ impl LoweringContext {
     }
 }
 
-/// Appends the statements of an instruction: the table of all instructions.
+/// Appends the statements of an instruction of a program with these blocks, whose units have these positions: the table
+/// of all instructions.
 pub fn push_statements(
     alloc: Global,
     steps: &mut List<Stmt>,
     spot: &mut LoweringContext,
+    blocks: &[Block],
+    units: &[u32],
     op: &Op,
 ) -> Result<(), NoMemory>
-    ensures steps { OnOk result (steps.new ≡ steps.old ++ statements_of spot.old op.now) }
-    ensures spot { OnOk result (spot.new ≡ context_after op.now spot.old) }
+    requires { units.now ≡ unit_positions blocks.now }
+    ensures steps { OnOk result (steps.new ≡ steps.old ++ statements_of blocks.now spot.old op.now) }
+    ensures spot { OnOk result (spot.new ≡ context_after blocks.now op.now spot.old) }
 {
-    let first = spot.take(types_of(op))?;
+    let first = take_for(alloc, spot, blocks, op)?;
     match op {
         Op::Check(check, arg) => push_checked(alloc, steps, first, *check, arg),
         Op::OrAlone => push_or_alone(alloc, steps),
@@ -133,17 +143,57 @@ pub fn push_statements(
         Op::Jump(test, _) => push_jump(alloc, steps, first, *test),
         Op::Loop(_) => push_loop(alloc, steps, first),
         Op::JumpList(_, _) => push_list(alloc, steps, first),
-        Op::BlockEnd => push_end(steps),
+        Op::BlockEnd => push_end_word(steps),
         Op::BlockEndIf => push_end_if(alloc, steps, first),
+        Op::Call(call) => push_block_call(alloc, steps, first, blocks, units, call),
+        Op::CallIf(call) => push_call_if(alloc, steps, first, unit_called(units, call)),
     }
 }
 
-/// Appends the statements of the end word: a caller sees OR, /FC and OS cleared.
-fn push_end(steps: &mut List<Stmt>) -> Result<(), NoMemory>
-    ensures { OnOk result (steps.new ≡ steps.old ++ end_word_of) }
+/// Takes the locals of an instruction, and gives the number of the first.
+fn take_for(
+    alloc: Global,
+    spot: &mut LoweringContext,
+    blocks: &[Block],
+    op: &Op,
+) -> Result<u32, NoMemory>
+    ensures first { IfOk result (λ first. first ≡ spot.old.used) }
+    ensures few { IfOk result (λ first. first + 8 < 2 ^ 32) }
+    ensures room { IfOk result (λ first. first + length (types_of blocks.now op.now) < 2 ^ 32) }
+    ensures spot { OnOk result (spot.new ≡ more (types_of blocks.now op.now) spot.old) }
 {
-    push_clear_or(steps, false)?;
-    steps.push(set_register(Reg::Os, literal(false)))
+    match op {
+        Op::Call(call) => {
+            let mut types = List::new(alloc);
+            push_types_of_call(&mut types, formals_called(blocks, call), call)?;
+            spot.take(types.as_slice())
+        }
+        _ => spot.take(fixed_types_of(op)),
+    }
+}
+
+/// Appends the statements of a `CALL`.
+fn push_block_call(
+    alloc: Global,
+    steps: &mut List<Stmt>,
+    first: u32,
+    blocks: &[Block],
+    units: &[u32],
+    call: &BlockCall,
+) -> Result<(), NoMemory>
+    requires units { units.now ≡ unit_positions blocks.now }
+    requires room { first + length (types_of_call (formals_called blocks.now call.now) call.now) < 2 ^ 32 }
+    ensures { OnOk result (steps.new ≡ steps.old ++ call_of first (unit_called blocks.now call.now) (formals_called blocks.now call.now) call.now) }
+{
+    let formals = formals_called(blocks, call);
+    push_call(alloc, steps, first, unit_called(units, call), formals, call)
+}
+
+/// The position of the unit of a call.
+fn unit_called(units: &[u32], call: &BlockCall) -> u32
+    ensures { result ≡ get_or units.now call.now.block 0 }
+{
+    units.get(call.block as usize).copied().unwrap_or(0)
 }
 
 /// Appends the statements that close the innermost bracket.
@@ -153,7 +203,7 @@ fn push_innermost(
     spot: &mut LoweringContext,
 ) -> Result<(), NoMemory>
     ensures steps { OnOk result (steps.new ≡ steps.old ++ close_innermost spot.old.brackets) }
-    ensures spot { OnOk result (spot.new ≡ context_after Op.Close spot.old) }
+    ensures spot { OnOk result (spot.new ≡ context_after [] Op.Close spot.old) }
 {
     match spot.brackets.pop_front() {
         Some(bracket) => push_closed(alloc, steps, bracket),

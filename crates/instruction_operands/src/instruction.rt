@@ -110,6 +110,7 @@ fn is_of_pointers(place: Operand) -> bool
         | Operand::ByMemory(area, _, _)
         | Operand::ByRegister(area, _, _) => may_hold_pointers(area),
         Operand::Opened(_, _, _) => true,
+        Operand::Formal(_) => false,
         Operand::Crossing(_, _) => false,
     }
 }

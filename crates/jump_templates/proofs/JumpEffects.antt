@@ -8,7 +8,7 @@ use Rattle.accumulator_templates.proofs.Serving.{accumulator_serves}
 use Rattle.accumulator_templates.specs.Sums.{add_word_of}
 use Rattle.bit_templates.proofs.StatusEffects.{answer_worth}
 use Rattle.jump_templates.specs.JumpLaw.{HasTest, LeadsToTest, after_count, after_end_if, after_jump_by, tested_by_count, tested_by_end_if, tested_by_jump, tested_by_list}
-use Rattle.jump_templates.specs.Jumps.{asked_of, behind_jump, bit_as, end_if_of, is_counting_of, jump_of, list_of, loop_of, low_byte_of}
+use Rattle.jump_templates.specs.Jumps.{question_of, behind_jump, bit_as, end_if_of, is_counting_of, jump_of, list_of, loop_of, low_byte_of}
 use Rattle.s7_base.specs.declared.register.Reg.{Reg}
 use Rattle.s7_base.specs.declared.register.Reg.TheVariants as reg
 use Rattle.s7_base.specs.declared.word.Width.TheVariants as width
@@ -80,14 +80,14 @@ module _ (g : List Located) (calls : Calls) (units : ℕ) (frames : Frames) (now
   bit_worth true r b h e = register_worth g s r b h e
   bit_worth false r b h e = not_worth g s (read_of r) b (register_worth g s r b h e)
 
-  asked_worth : (t : JumpTest) → value g (asked_of t) s ≡ Ok (flag (is_made t bits))
-  asked_worth jump.Always = literal_worth g s true
-  asked_worth (jump.Rlo wanted) = bit_worth wanted reg.Rlo bits.rlo refl (related.registers reg.Rlo tt)
-  asked_worth (jump.RloSaved wanted) = bit_worth wanted reg.Rlo bits.rlo refl (related.registers reg.Rlo tt)
-  asked_worth (jump.Br wanted) = bit_worth wanted reg.Br bits.br refl (related.registers reg.Br tt)
-  asked_worth jump.Overflow = register_worth g s reg.Ov bits.ov refl (related.registers reg.Ov tt)
-  asked_worth jump.StoredOverflow = register_worth g s reg.Os bits.os refl (related.registers reg.Os tt)
-  asked_worth (jump.Result t) = answer_worth g calls units frames now s related first t
+  question_worth : (t : JumpTest) → value g (question_of t) s ≡ Ok (flag (is_made t bits))
+  question_worth jump.Always = literal_worth g s true
+  question_worth (jump.Rlo wanted) = bit_worth wanted reg.Rlo bits.rlo refl (related.registers reg.Rlo tt)
+  question_worth (jump.RloSaved wanted) = bit_worth wanted reg.Rlo bits.rlo refl (related.registers reg.Rlo tt)
+  question_worth (jump.Br wanted) = bit_worth wanted reg.Br bits.br refl (related.registers reg.Br tt)
+  question_worth jump.Overflow = register_worth g s reg.Ov bits.ov refl (related.registers reg.Ov tt)
+  question_worth jump.StoredOverflow = register_worth g s reg.Os bits.os refl (related.registers reg.Os tt)
+  question_worth (jump.Result t) = answer_worth g calls units frames now s related first t
 
   -- What follows
 
@@ -140,27 +140,27 @@ module _ (g : List Located) (calls : Calls) (units : ℕ) (frames : Frames) (now
   jump_does jump.Always h = elim h [ ]
   jump_does (jump.Rlo wanted) h =
       let v : Value = flag (is_made (jump.Rlo wanted) bits) in
-      tested v (asked_of (jump.Rlo wanted)) (behind_jump (jump.Rlo wanted)) (after_jump bits) (set_registers s.registers)
-      (asked_worth (jump.Rlo wanted)) (sets_rlo (kept v)) set_alike
+      tested v (question_of (jump.Rlo wanted)) (behind_jump (jump.Rlo wanted)) (after_jump bits) (set_registers s.registers)
+      (question_worth (jump.Rlo wanted)) (sets_rlo (kept v)) set_alike
   jump_does (jump.RloSaved wanted) h =
       let v : Value = flag (is_made (jump.RloSaved wanted) bits) in
-      tested v (asked_of (jump.RloSaved wanted)) (behind_jump (jump.RloSaved wanted)) (after_test (jump.RloSaved wanted) bits)
-      (set_registers saved_registers) (asked_worth (jump.RloSaved wanted))
+      tested v (question_of (jump.RloSaved wanted)) (behind_jump (jump.RloSaved wanted)) (after_test (jump.RloSaved wanted) bits)
+      (set_registers saved_registers) (question_worth (jump.RloSaved wanted))
       (sets g calls units reg.Br (read_of reg.Rlo) bits.rlo (set_of reg.Rlo (literal_of true) ∷ clear_or false) (kept v)
       (rlo_worth g frames now (kept v) (kept_related v)) ∙ sets_rlo (record (kept v) { registers = saved_registers })) saved_alike
   jump_does (jump.Br wanted) h =
       let v : Value = flag (is_made (jump.Br wanted) bits) in
-      tested v (asked_of (jump.Br wanted)) (clear_or false) (after_test (jump.Br wanted) bits) (cleared_registers g calls units false s.registers)
-      (asked_worth (jump.Br wanted)) (clears g calls units false (kept v)) br_alike
+      tested v (question_of (jump.Br wanted)) (clear_or false) (after_test (jump.Br wanted) bits) (cleared_registers g calls units false s.registers)
+      (question_worth (jump.Br wanted)) (clears g calls units false (kept v)) br_alike
   jump_does jump.Overflow h =
-      tested (flag bits.ov) (asked_of jump.Overflow) [] bits s.registers (asked_worth jump.Overflow) refl related.registers
+      tested (flag bits.ov) (question_of jump.Overflow) [] bits s.registers (question_worth jump.Overflow) refl related.registers
   jump_does jump.StoredOverflow h =
       let v : Value = flag bits.os in
-      tested v (asked_of jump.StoredOverflow) (behind_jump jump.StoredOverflow) (after_test jump.StoredOverflow bits)
-      os_registers (asked_worth jump.StoredOverflow)
+      tested v (question_of jump.StoredOverflow) (behind_jump jump.StoredOverflow) (after_test jump.StoredOverflow bits)
+      os_registers (question_worth jump.StoredOverflow)
       (sets g calls units reg.Os (literal_of false) false [] (kept v) (literal_worth g (kept v) false)) os_alike
   jump_does (jump.Result t) h =
-      tested (flag (is_made (jump.Result t) bits)) (asked_of (jump.Result t)) [] bits s.registers (asked_worth (jump.Result t)) refl
+      tested (flag (is_made (jump.Result t) bits)) (question_of (jump.Result t)) [] bits s.registers (question_worth (jump.Result t)) refl
       related.registers
 
   -- JL
@@ -247,7 +247,7 @@ pub loop_does : (g : List Located) (calls : Calls) (units : ℕ) (frames : Frame
     → first + 1 ≤ length (own_of s.activations)
     → LeadsToTest g (body_meaning g calls (loop_of first) units s) units first frames s (after_count now) (tested_by_count now)
 loop_does g calls units frames now s related first room =
-    let counted = (accumulator_serves.add_word (negsuc 0) first refl).does g calls units frames now s related (omega (arith, room)) in
+    let counted = (accumulator_serves.add_word (negsuc 0) first).does g calls units frames now s refl related (omega (arith, room)) in
     let long : length (own_of counted.to.activations) ≡ length (own_of s.activations) = counted.as_many in
     let after : Now = after_count now in
     let test =

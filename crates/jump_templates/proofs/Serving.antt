@@ -9,7 +9,7 @@ use Rattle.bit_templates.specs.Bits.{answer_of, rlo_set}
 use Rattle.graph_rules.proofs.Runs.{order_equations}
 use Rattle.jump_templates.proofs.JumpEffects.{end_if_does, jump_does, list_does, loop_does}
 use Rattle.jump_templates.specs.JumpLaw.{HasTest, JumpsServe}
-use Rattle.jump_templates.specs.Jumps.{asked_of, behind_jump, end_if_of, is_counting_of, jump_of, list_of, loop_of, low_byte_of, types_of_jump, types_of_list, types_of_test}
+use Rattle.jump_templates.specs.Jumps.{question_of, behind_jump, end_if_of, is_counting_of, jump_of, list_of, loop_of, low_byte_of, types_of_jump, types_of_list, types_of_test}
 use Rattle.s7_base.specs.declared.register.Reg.{Reg}
 use Rattle.s7_base.specs.declared.register.Reg.TheVariants as reg
 use Rattle.st_tree.specs.WellTyped.{UnitScope}
@@ -103,7 +103,7 @@ module _ (first : ℕ) where
   -- How they are typed
 
   module _ (sight : UnitScope) where
-    bit_is : (t : JumpTest) → IsBool sight 4 (asked_of t)
+    bit_is : (t : JumpTest) → IsBool sight 4 (question_of t)
     bit_is jump.Always = more sight (omega arith) (literal_is sight true)
     bit_is (jump.Rlo true) = more sight (omega arith) (register_is sight reg.Rlo)
     bit_is (jump.Rlo false) = more sight (omega arith) (not_is sight (register_is sight reg.Rlo))
@@ -127,7 +127,7 @@ module _ (first : ℕ) where
     jump_plain : (t : JumpTest) → HasTest t → AreTyped sight first (types_of_jump t) → IsPlainBody sight (jump_of first t ++ [])
     jump_plain jump.Always h own = elim h [ ]
     jump_plain t h own =
-        local_plain sight first (asked_of t) (behind_jump t ++ []) (omega arith) (first_typed sight first type.Bool [] own) (bit_is t) (behind_plain t)
+        local_plain sight first (question_of t) (behind_jump t ++ []) (omega arith) (first_typed sight first type.Bool [] own) (bit_is t) (behind_plain t)
 
     loop_plain : AreTyped sight first types_of_test → IsPlainBody sight (loop_of first ++ [])
     loop_plain own =
@@ -160,38 +160,39 @@ pub jumps : JumpsServe
 jumps =
     record {
       always = λ to first.
-          is_template (reads_of (op.Jump jump.Always to)) first [] [] tt (omega arith) (omega (arith, of_nothing)) (λ P has. tt) refl refl
-          (λ sight own. no_statement sight);
-      jump = λ t to first h made. record {
-        does = λ g calls units frames now s related room. jump_does g calls units frames now s related first (room_of t made first _ room) t made;
+          is_template (op.Jump jump.Always to) first [] [] tt (omega arith) (omega (arith, of_nothing)) (λ P has. tt) refl refl
+          (λ sight formals named operand own. no_statement sight);
+      jump = λ t to first made. record {
+        does = λ g calls units frames now s operand related room. jump_does g calls units frames now s related first (room_of t made first _ room) t made;
         template =
             let sizes = jump_sizes first t made in
-            is_template (reads_of (op.Jump t to)) first (types_of_jump t) (jump_of first t) sizes.writes sizes.few sizes.small
-            (λ P has. jump_reads first P t to made has) sizes.order sizes.sets (λ sight own. jump_plain first sight t made own);
+            is_template (op.Jump t to) first (types_of_jump t) (jump_of first t) sizes.writes sizes.few sizes.small
+            (λ P has. jump_reads first P t to made has) sizes.order sizes.sets (λ sight formals named operand own. jump_plain first sight t made own);
         few = few_statements first t;
         small = few_nodes first t;
       };
       loop = λ to first. record {
-        does = λ g calls units frames now s related room. loop_does g calls units frames now s related first room;
+        does = λ g calls units frames now s operand related room. loop_does g calls units frames now s related first room;
         template =
-            is_template (reads_of (op.Loop to)) first types_of_test (loop_of first) tt (omega arith) (simp counts (omega arith))
-            (λ P has. loop_reads first P to has) (simp order_equations (omega arith)) refl (λ sight own. loop_plain first sight own);
+            is_template (op.Loop to) first types_of_test (loop_of first) tt (omega arith) (simp counts (omega arith))
+            (λ P has. loop_reads first P to has) (simp order_equations (omega arith)) refl (λ sight formals named operand own. loop_plain first sight own);
         few = omega arith;
         small = simp counts (omega arith);
       };
       list = λ count label first. record {
-        does = λ g calls units frames now s related room. list_does g calls units frames now s related first room;
+        does = λ g calls units frames now s operand related room. list_does g calls units frames now s related first room;
         template =
-            is_template (reads_of (op.JumpList count label)) first types_of_list (list_of first) tt (omega arith) (simp counts (omega arith))
-            (λ P has. list_reads first P count label has) (simp order_equations (omega arith)) refl (λ sight own. list_plain first sight own);
+            is_template (op.JumpList count label) first types_of_list (list_of first) tt (omega arith) (simp counts (omega arith))
+            (λ P has. list_reads first P count label has) (simp order_equations (omega arith)) refl
+            (λ sight formals named operand own. list_plain first sight own);
         few = omega arith;
         small = simp counts (omega arith);
       };
       end_if = λ first. record {
-        does = λ g calls units frames now s related room. end_if_does g calls units frames now s related first room;
+        does = λ g calls units frames now s operand related room. end_if_does g calls units frames now s related first room;
         template =
-            is_template (reads_of op.BlockEndIf) first types_of_test (end_if_of first) tt (omega arith) (simp counts (omega arith))
-            (λ P has. end_if_reads first P has) (simp order_equations (omega arith)) refl (λ sight own. end_if_plain first sight own);
+            is_template op.BlockEndIf first types_of_test (end_if_of first) tt (omega arith) (simp counts (omega arith))
+            (λ P has. end_if_reads first P has) (simp order_equations (omega arith)) refl (λ sight formals named operand own. end_if_plain first sight own);
         few = omega arith;
         small = simp counts (omega arith);
       };

@@ -7,7 +7,6 @@ use Rattle.stl_tree.specs.Accepted.{HasOperand}
 use Rattle.stl_tree.specs.Accumulators.{after_addition, part}
 use Rattle.stl_tree.specs.Jumps.{after_test, is_made}
 use Rattle.stl_tree.specs.Now.{Now, with_registers, with_status}
-use Rattle.stl_tree.specs.Reads.{reads_of}
 use Rattle.stl_tree.specs.declared.program.JumpTest.{JumpTest}
 use Rattle.stl_tree.specs.declared.program.JumpTest.TheVariants as jump
 use Rattle.stl_tree.specs.declared.program.Op.{Op}
@@ -39,10 +38,10 @@ pub record LeadsToTest (globals : List Located) (ended : Out) (units first : ℕ
 pub record ServesJump (o : Op) (first : ℕ) (types : List StType) (body : List Stmt) (after : Now → Now)
     (tested : Now → Value) : Type 0 where
   pub does : (globals : List Located) (calls : Calls) (units : ℕ) (frames : Frames) (now : Now) (s : State)
-      → Related frames now s
+      → HasOperand frames.formals o → Related frames now s
       → first + length types ≤ length (own_of s.activations)
       → LeadsToTest globals (body_meaning globals calls body units s) units first frames s (after now) (tested now)
-  pub template : IsTemplate (reads_of o) first types body
+  pub template : IsTemplate o first types body
   pub few : length body ≤ 10
   pub small : nodes_in body ≤ 90
 
@@ -76,9 +75,9 @@ HasTest other = Unit {0}
 
 -- the law: the statements of each jump serve it, but JU, which has none
 pub record JumpsServe : Type 0 where
-  pub always : (to first : ℕ) → IsTemplate (reads_of (op.Jump jump.Always to)) first (types_of_jump jump.Always)
+  pub always : (to first : ℕ) → IsTemplate (op.Jump jump.Always to) first (types_of_jump jump.Always)
       (jump_of first jump.Always)
-  pub jump : (t : JumpTest) (to first : ℕ) → HasOperand (op.Jump t to) → HasTest t
+  pub jump : (t : JumpTest) (to first : ℕ) → HasTest t
       → ServesJump (op.Jump t to) first (types_of_jump t) (jump_of first t) (after_jump_by t) (tested_by_jump t)
   pub loop : (to first : ℕ) → ServesJump (op.Loop to) first types_of_test (loop_of first) after_count tested_by_count
   pub list : (count label first : ℕ)

@@ -20,14 +20,14 @@ abbrev pub bit_as : Bool → Reg → Expr
 bit_as wanted r = if wanted then read_of r else not_of (read_of r)
 
 -- what a jump tests
-abbrev pub asked_of : JumpTest → Expr
-asked_of jump.Always = literal_of true
-asked_of (jump.Rlo wanted) = bit_as wanted reg.Rlo
-asked_of (jump.RloSaved wanted) = bit_as wanted reg.Rlo
-asked_of (jump.Br wanted) = bit_as wanted reg.Br
-asked_of jump.Overflow = read_of reg.Ov
-asked_of jump.StoredOverflow = read_of reg.Os
-asked_of (jump.Result t) = answer_of t
+abbrev pub question_of : JumpTest → Expr
+question_of jump.Always = literal_of true
+question_of (jump.Rlo wanted) = bit_as wanted reg.Rlo
+question_of (jump.RloSaved wanted) = bit_as wanted reg.Rlo
+question_of (jump.Br wanted) = bit_as wanted reg.Br
+question_of jump.Overflow = read_of reg.Ov
+question_of jump.StoredOverflow = read_of reg.Os
+question_of (jump.Result t) = answer_of t
 
 -- what a jump makes of the status bits, whether it is made or not
 abbrev pub behind_jump : JumpTest → List Stmt
@@ -42,7 +42,7 @@ behind_jump (jump.Result t) = []
 -- the statements of a jump: JU has none
 abbrev pub jump_of : ℕ → JumpTest → List Stmt
 jump_of first jump.Always = []
-jump_of first t = set_local_of first (asked_of t) ∷ behind_jump t
+jump_of first t = set_local_of first (question_of t) ∷ behind_jump t
 
 -- the types of its locals
 abbrev pub types_of_jump : JumpTest → List StType

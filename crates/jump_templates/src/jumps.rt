@@ -1,6 +1,6 @@
 //! Templates of jumps.
 ghost use Rattle.std.specs.Prelude.{◌≡◌, ◌++◌, IfOk, OnOk};
-ghost use Rattle.jump_templates.specs.Jumps.{asked_of, behind_jump, bit_as, end_if_of, is_counting_of, jump_of, list_of, loop_of, low_byte_of, types_of_jump, types_of_list, types_of_test};
+ghost use Rattle.jump_templates.specs.Jumps.{question_of, behind_jump, bit_as, end_if_of, is_counting_of, jump_of, list_of, loop_of, low_byte_of, types_of_jump, types_of_list, types_of_test};
 
 use accumulator_templates::push_add_word;
 use bit_templates::{answer, push_rlo, push_saved};
@@ -58,7 +58,7 @@ pub fn push_jump(
 
 /// What a jump tests.
 fn question(alloc: Global, test: JumpTest) -> Result<Expr, NoMemory>
-    ensures { IfOk result (λ value. value ≡ asked_of test) }
+    ensures { IfOk result (λ value. value ≡ question_of test) }
 {
     match test {
         JumpTest::Always => Ok(literal(true)),

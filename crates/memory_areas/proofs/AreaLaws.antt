@@ -530,3 +530,27 @@ bits_leave_bits p q v before after apart e =
 
     done : Wrote p width.Bit new before after
     done = wrote p width.Bit new before after e
+
+-- Each byte outside those that are written stays, whether its area ends before it or not
+
+pub bits_leave_byte : (p q : Place) (v : Bool) (before after : Contents) → IsOutside p width.Bit q → write_bit p v before ≡ Ok after
+    → byte_at (bytes_there (Some q.area) after) q.byte ≡ byte_at (bytes_there (Some q.area) before) q.byte
+bits_leave_byte p q v before after outside e =
+    let new : List ℕ → List ℕ = λ bytes. byte_with (byte_at bytes p.byte) p.bit v ∷ [] in
+    byte_stays p q width.Bit new before after (bit_wide p v) (wrote p width.Bit new before after e) outside
+
+pub bytes_leave_byte : (p q : Place) (v : ℕ) (before after : Contents) → IsOutside p width.Byte q → write_byte p v before ≡ Ok after
+    → byte_at (bytes_there (Some q.area) after) q.byte ≡ byte_at (bytes_there (Some q.area) before) q.byte
+bytes_leave_byte p q v before after outside e =
+    byte_stays p q width.Byte (λ bytes. v ∷ []) before after (byte_wide v) (wrote p width.Byte (λ bytes. v ∷ []) before after e) outside
+
+pub words_leave_byte : (p q : Place) (v : ℕ) (before after : Contents) → IsOutside p width.Word q → write_word p v before ≡ Ok after
+    → byte_at (bytes_there (Some q.area) after) q.byte ≡ byte_at (bytes_there (Some q.area) before) q.byte
+words_leave_byte p q v before after outside e =
+    byte_stays p q width.Word (λ bytes. bytes_of_word v) before after (word_wide v) (wrote p width.Word (λ bytes. bytes_of_word v) before after e) outside
+
+pub dwords_leave_byte : (p q : Place) (v : ℕ) (before after : Contents) → IsOutside p width.Dword q → write_dword p v before ≡ Ok after
+    → byte_at (bytes_there (Some q.area) after) q.byte ≡ byte_at (bytes_there (Some q.area) before) q.byte
+dwords_leave_byte p q v before after outside e =
+    byte_stays p q width.Dword (λ bytes. bytes_of_dword v) before after (dword_wide v)
+    (wrote p width.Dword (λ bytes. bytes_of_dword v) before after e) outside

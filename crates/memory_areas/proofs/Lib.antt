@@ -8,3 +8,4 @@ mod Bytes
 mod DataBlocks
 mod Fresh
 mod ReplacedBytes
+pub mod SameFaults

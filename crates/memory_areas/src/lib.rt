@@ -8,6 +8,7 @@
 pub use call::{BlockName, Call};
 pub use data_block::{DataBlock, are_blocks};
 pub use memory::Memory;
+pub use outside::fits_width;
 pub use place::{Area, AreaName, Place, is_byte_in};
 pub use sizes::{
     ACTIVATIONS, INPUT_BYTES, LEAST_BLOCK_BYTES, LOCAL_BYTES, MARKER_BYTES, MOST_BLOCK_BYTES,
@@ -18,6 +19,7 @@ pub mod area_laws;
 mod call;
 mod data_block;
 mod memory;
+mod outside;
 mod parts;
 mod place;
 mod sizes;

@@ -11,13 +11,15 @@ use Rattle.name_tables.proofs.Firsts.{name_sound, no_key, same_words, with_key}
 use Rattle.s7_base.specs.Tokens.{is_same_word}
 use Rattle.s7_base.specs.declared.reason.Reason.{Reason}
 use Rattle.stl_rules.specs.DeclarationRules.{is_named, key_of, with_name}
-use Rattle.stl_rules.specs.Names.{block_number, db_numbered, is_number, is_same_kind, symbol_named}
+use Rattle.stl_rules.specs.Names.{block_found, block_number, block_numbered, db_numbered, is_block as is_block_of, is_number, is_same_kind, symbol_named}
 use Rattle.stl_rules.specs.Stages.{is_among}
 use Rattle.stl_tree.specs.declared.raw.BlockKind.{BlockKind}
 use Rattle.stl_tree.specs.declared.raw.BlockKind.TheVariants as block
+use Rattle.stl_tree.specs.declared.raw.RawBlock.{RawBlock}
 use Rattle.stl_tree.specs.declared.raw.RawData.{RawData}
+use Rattle.stl_tree.specs.declared.raw.RawProgram.{RawProgram}
 use Rattle.stl_tree.specs.declared.raw.SymbolLine.{SymbolLine}
-use Rattle.name_tables.specs.Before.{db_numbers, is_block, names_before, number_of_db, numbers_before, with_block}
+use Rattle.name_tables.specs.Before.{block_numbers, db_numbers, is_block, names_before, number_of_block, number_of_db, numbers_before, with_block}
 use Rattle.name_tables.specs.inner.Places.{AreNumberPlaces, has_key, is_before, is_same_block, with_number_place}
 
 -- First places
@@ -79,7 +81,7 @@ named_at lines name =
 
 -- Blocks
 
-kind_sound : (a b : BlockKind) → is_same_kind a b ≡ true → a ≡ b
+pub kind_sound : (a b : BlockKind) → is_same_kind a b ≡ true → a ≡ b
 kind_sound block.Ob block.Ob h = refl
 kind_sound block.Fc block.Fc h = refl
 kind_sound block.Fb block.Fb h = refl
@@ -191,3 +193,29 @@ pub db_at : (symbols : List SymbolLine) (dbs : List RawData) (n : ℕ)
 db_at symbols dbs n =
     ap (option_and_then (λ place. slice_get dbs place)) (first_map (is_block block.Db n) (number_of_db symbols) dbs)
     ∙ sym (find_first (λ (d : RawData). is_number n (block_number symbols block.Db d.name)) dbs)
+
+-- Blocks of code
+
+pub block_at : (text : RawProgram) (kind : BlockKind) (n : ℕ)
+    → option_and_then (λ place. slice_get text.blocks place) (first_place (is_block kind n) (block_numbers text.symbols text.blocks))
+    ≡ block_numbered text kind n
+block_at text kind n =
+    ap (option_and_then (λ place. slice_get text.blocks place)) (first_map (is_block kind n) (number_of_block text.symbols) text.blocks)
+    ∙ sym (find_first (is_block_of text.symbols kind n) text.blocks)
+
+-- a block that is found has the kind that is asked for
+kind_among : (symbols : List SymbolLine) (kind : BlockKind) (n : ℕ) (raws : List RawBlock)
+    → IfSome (find (is_block_of symbols kind n) raws) (λ (raw : RawBlock). raw.kind ≡ kind)
+kind_among symbols kind n [] = tt
+kind_among symbols kind n (raw ∷ raws) = by_test (is_block_of symbols kind n raw) refl (kind_among symbols kind n raws)
+  where
+    by_test : (b : Bool) → is_block_of symbols kind n raw ≡ b → IfSome (find (is_block_of symbols kind n) raws) (λ (r : RawBlock). r.kind ≡ kind)
+        → IfSome (cond b (Some raw) (find (is_block_of symbols kind n) raws)) (λ (r : RawBlock). r.kind ≡ kind)
+    by_test true e more =
+        sym (kind_sound kind raw.kind (and_parts (is_same_kind kind raw.kind) (is_number n (block_number symbols raw.kind raw.name)) e).0)
+    by_test false e more = more
+
+pub kind_found : (text : RawProgram) (kind : BlockKind) (number : Result ℕ Reason)
+    → IfSome (block_found text kind number) (λ (raw : RawBlock). raw.kind ≡ kind)
+kind_found text kind (Ok n) = kind_among text.symbols kind n text.blocks
+kind_found text kind (Err reason) = tt

@@ -22,10 +22,11 @@ use Rattle.s7_base.specs.declared.outcome.Fault.{Fault}
 use Rattle.s7_base.specs.declared.register.Reg.TheVariants as reg
 use Rattle.s7_base.specs.declared.word.Width.TheVariants as width
 use Rattle.st_tree.proofs.Equations.{assign_stops_at_value}
+use Rattle.st_tree.specs.Fitting.{IsOf}
 use Rattle.st_tree.specs.Meaning.{Calls, body_meaning}
 use Rattle.st_tree.specs.State.{State, own_of, read_place}
 use Rattle.st_tree.specs.Value.{value}
-use Rattle.st_tree.specs.Values.{typed}
+use Rattle.st_tree.specs.Values.{pattern, typed}
 use Rattle.st_tree.specs.declared.expr.Expr.{Expr}
 use Rattle.st_tree.specs.declared.expr.StType.TheVariants as type
 use Rattle.st_tree.specs.declared.expr.Var.TheVariants as var
@@ -36,7 +37,7 @@ use Rattle.stl_tree.specs.AddressRegisters.{pointer_in, with_pointer}
 use Rattle.stl_tree.specs.DataBlocks.{db_opened}
 use Rattle.stl_tree.specs.Instructions.{on_registers, pointed_from, pointer_stored}
 use Rattle.stl_tree.specs.Now.{Effect, Now, next, with_memory, with_value}
-use Rattle.stl_tree.specs.Operands.{OperandPlace, aimed_by, aimed_in, place_of_operand, found_at, place_in}
+use Rattle.stl_tree.specs.Operands.{OperandPlace, aimed_by, aimed_in, formal_place, found_at, found_formal, place_in, place_of_operand}
 use Rattle.stl_tree.specs.Reads.{register_of}
 use Rattle.stl_tree.specs.declared.program.Ar.{Ar}
 use Rattle.stl_tree.specs.declared.program.Ar.TheVariants as ar
@@ -65,6 +66,10 @@ module _ (a : Ar) (now : Now) where
   opened_stays ar.One n = refl
   opened_stays ar.Two n = refl
 
+  formal_stays : (o : Option Place) → Where Stays (found_formal o now)
+  formal_stays None = tt
+  formal_stays (Some p) = refl
+
   by_pointer : (there : AreaName) (r : Result ℕ Fault) → Where Stays (and_then r (λ p. found_at (aimed_in there p now) now))
   by_pointer there (Ok p) = refl
   by_pointer there (Err x) = tt
@@ -72,6 +77,7 @@ module _ (a : Ar) (now : Now) where
   stays : (o : Operand) → Where Stays (place_of_operand o now)
   stays (operand.Direct there byte x) = refl
   stays (operand.Opened n byte x) = opened_stays a n
+  stays (operand.Formal k) = formal_stays (formal_place k now.activations)
   stays (operand.ByMemory there pointer_area byte) = by_pointer there (read_dword (place_in pointer_area byte 0 now) now.memory)
   stays (operand.ByRegister there r offset) = refl
   stays (operand.Crossing r offset) =
@@ -89,6 +95,10 @@ module _ (a : Ar) (now : Now) where
   whole small (Ok f) h =
       let same : pointer_in a f.after.registers % 2 ^ 32 ≡ pointer_in a f.after.registers = omega (arith, h) in
       ap (λ (n : ℕ). with_memory (write_number width.Dword f.place n f.after.memory) f.after next) same
+
+-- a pointer is a DWORD
+pointer_is : (n : ℕ) → n < 2 ^ 32 → IsOf type.Dword (dword n)
+pointer_is n h = let same : pattern 32 (pos n) ≡ n = omega arith in record { type = refl; number = ap (λ (k : ℕ). pos k) same }
 
 -- The rows
 
@@ -120,7 +130,7 @@ module _ (g : List Located) (frames : Frames) (calls : Calls) (units : ℕ) (a :
             areas = same_areas frames now s related;
           }
 
-  module _ (now : Now) (s : State) (related : Related frames now s) (used : ℕ) (o : Operand) (lies : IsOperand width.Dword o) where
+  module _ (now : Now) (s : State) (related : Related frames now s) (used : ℕ) (o : Operand) (lies : IsOperand frames.formals width.Dword o) where
     -- LAR1 and LAR2 of an operand
     pub operand_loaded : used + length (types_fetched o width.Dword) ≤ length (own_of s.activations)
         → DoesInstruction (body_meaning g calls (pointer_load_of used a (load.At o)) units s) units used frames s now.memory (pointed_from a (load.At o) now)
@@ -141,6 +151,7 @@ module _ (g : List Located) (frames : Frames) (calls : Calls) (units : ℕ) (a :
         (reach_effect g calls units frames now s related used o width.Dword lies
         (read_of (register_of a)) (λ (after : Now). dword (pointer_in a after.registers))
         (λ after t relates. pointer_worth g t frames after relates a)
+        (λ after t relates. pointer_is (pointer_in a after.registers) (pointer_small g t frames after relates a))
         (λ (p : Place) (after : Now). write_number width.Dword p (pointer_in a after.registers % 2 ^ 32) after.memory)
         (λ p after. refl)
         (λ (done : Now). done) [] room

@@ -6,7 +6,7 @@ use Rattle.pointer_templates.specs.Pointers.{pointer_sum_of, pointed_of, pointer
 use Rattle.template_parts.specs.Builders.{constant_of, read_of, set_of}
 use Rattle.template_parts.specs.Fetching.{fetched_value_of, writing_of}
 use Rattle.template_parts.proofs.FetchBounds.{fetch_plain, fetched_is, reach_plain, writing_plain}
-use Rattle.template_parts.specs.Templates.{AreTyped, IsPlainBody}
+use Rattle.template_parts.specs.Templates.{AreTyped, HasFormals, IsPlainBody}
 use Rattle.template_parts.proofs.Typing.{IsOf, binary_is, constant_is, convert_is, first_typed, local_is, local_plain, more, register_is, set_plain}
 use Rattle.s7_base.specs.declared.register.Reg.TheVariants as reg
 use Rattle.s7_base.specs.declared.word.Width.TheVariants as width
@@ -18,7 +18,7 @@ use Rattle.st_tree.specs.declared.expr.StType.{StType}
 use Rattle.st_tree.specs.declared.expr.StType.TheVariants as type
 use Rattle.st_tree.specs.declared.expr.Var.TheVariants as var
 use Rattle.st_tree.specs.declared.program.Stmt.{Stmt}
-use Rattle.stl_tree.specs.Accepted.{HasOperand}
+use Rattle.stl_tree.specs.Accepted.{HasOperand, Widths}
 use Rattle.stl_tree.specs.AddressRegisters.{other_of}
 use Rattle.stl_tree.specs.Reads.{register_of}
 use Rattle.stl_tree.specs.declared.program.Ar.{Ar}
@@ -59,25 +59,29 @@ module _ (sight : UnitScope) where
     pointed_plain ar.One e small h = set_plain sight reg.Ar1 e rest small h plain
     pointed_plain ar.Two e small h = set_plain sight reg.Ar2 e rest small h plain
 
-    pub pointer_load_plain : (first : ℕ) (a : Ar) (from : ArLoad) → HasOperand (op.LoadAr a from) → AreTyped sight first (types_of_pointer_load from)
+    pub pointer_load_plain : (formals : Widths) → HasFormals sight formals → (first : ℕ) (a : Ar) (from : ArLoad)
+        → HasOperand formals (op.LoadAr a from) → AreTyped sight first (types_of_pointer_load from)
         → IsPlainBody sight (pointer_load_of first a from ++ rest)
-    pointer_load_plain first a load.Accu1 h own = pointed_plain a (read_of reg.Accu1) (omega arith) (register_is sight reg.Accu1)
-    pointer_load_plain first a (load.Constant p) h own = pointed_plain a (constant_of type.Dword (pos p)) (omega arith) (constant_is sight (pointer_value p h))
-    pointer_load_plain first a (load.At o) h own =
+    pointer_load_plain formals named first a load.Accu1 h own = pointed_plain a (read_of reg.Accu1) (omega arith) (register_is sight reg.Accu1)
+    pointer_load_plain formals named first a (load.Constant p) h own =
+        pointed_plain a (constant_of type.Dword (pos p)) (omega arith) (constant_is sight (pointer_value p h))
+    pointer_load_plain formals named first a (load.At o) h own =
         let e : Expr = fetched_value_of first o width.Dword in
-        fetch_plain sight first o width.Dword (pointed_of a e) rest h.1 own (pointed_plain a e (omega arith) (fetched_is sight first o width.Dword h.1 own))
-    pointer_load_plain first a load.OtherAr h own = pointed_plain a (read_of (register_of (other_of a))) (omega arith) (held_is (other_of a))
+        fetch_plain sight formals named first o width.Dword (pointed_of a e) rest h.1 own
+        (pointed_plain a e (omega arith) (fetched_is sight formals named first o width.Dword h.1 own))
+    pointer_load_plain formals named first a load.OtherAr h own = pointed_plain a (read_of (register_of (other_of a))) (omega arith) (held_is (other_of a))
 
-    pub pointer_store_plain : (first : ℕ) (a : Ar) (to : ArStore) → HasOperand (op.StoreAr a to) → AreTyped sight first (types_of_pointer_store to)
+    pub pointer_store_plain : (formals : Widths) → HasFormals sight formals → (first : ℕ) (a : Ar) (to : ArStore)
+        → HasOperand formals (op.StoreAr a to) → AreTyped sight first (types_of_pointer_store to)
         → IsPlainBody sight (pointer_store_of first a to ++ rest)
-    pointer_store_plain first a store.Accu1 h own =
+    pointer_store_plain formals named first a store.Accu1 h own =
         set_plain sight reg.Accu2 (read_of reg.Accu1) (set_of reg.Accu1 (read_of (register_of a)) ∷ rest) (omega arith) (register_is sight reg.Accu1)
         (set_plain sight reg.Accu1 (read_of (register_of a)) rest (omega arith) (held_is a) plain)
-    pointer_store_plain first a (store.At o) h own =
+    pointer_store_plain formals named first a (store.At o) h own =
         let e : Expr = read_of (register_of a) in
-        reach_plain sight first o width.Dword (writing_of first o width.Dword e ∷ []) rest h.1 own
-        (writing_plain sight first o width.Dword e rest (omega arith) h.1 own (held_is a) plain)
-    pointer_store_plain first a store.OtherAr h own = pointed_plain (other_of a) (read_of (register_of a)) (omega arith) (held_is a)
+        reach_plain sight formals named first o width.Dword (writing_of first o width.Dword e ∷ []) rest h.1 own
+        (writing_plain sight formals named first o width.Dword e rest (omega arith) h.1 own (held_is a) plain)
+    pointer_store_plain formals named first a store.OtherAr h own = pointed_plain (other_of a) (read_of (register_of a)) (omega arith) (held_is a)
 
     pub pointer_exchange_plain : (first : ℕ) → AreTyped sight first types_of_pointer_exchange → IsPlainBody sight (pointer_exchange_of first ++ rest)
     pointer_exchange_plain first own =
@@ -85,7 +89,7 @@ module _ (sight : UnitScope) where
         local_plain sight _ _ _ (omega arith) local (held_is ar.One)
         (set_plain sight reg.Ar1 _ _ (omega arith) (held_is ar.Two) (set_plain sight reg.Ar2 _ _ (omega arith) (local_is sight local) plain))
 
-    pub pointer_move_plain : (a : Ar) (amount : Option ℕ) → HasOperand (op.AddAr a amount) → IsPlainBody sight (pointer_move_of a amount ++ rest)
+    pub pointer_move_plain : (a : Ar) (amount : Option ℕ) → HasOperand [] (op.AddAr a amount) → IsPlainBody sight (pointer_move_of a amount ++ rest)
     pointer_move_plain a None h =
         pointed_plain a _ (omega arith) (moved_is a (omega arith) (convert_is sight refl (convert_is sight refl (register_is sight reg.Accu1))))
     pointer_move_plain a (Some offset) h = by (offset == 0)

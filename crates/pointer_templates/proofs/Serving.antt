@@ -58,7 +58,7 @@ module _ (used : ℕ) (g : List Located) (calls : Calls) (units : ℕ) (frames :
       → DoesInstruction (body_meaning g calls body units s) units used frames s now.memory (next (record now { registers = after }))
   does types body after sizes row few = does_effect g s used calls units body frames now after related row (omega (arith, few, sizes.sets))
 
-  load_does : (a : Ar) (from : ArLoad) → HasOperand (op.LoadAr a from) → used + length (types_of_pointer_load from) ≤ room
+  load_does : (a : Ar) (from : ArLoad) → HasOperand frames.formals (op.LoadAr a from) → used + length (types_of_pointer_load from) ≤ room
       → DoesOp (pointer_load_of used a from) (op.LoadAr a from)
   load_does a load.Accu1 h few = does [] (pointer_load_of used a load.Accu1) _ (pointer_load_sizes used a load.Accu1) (accu1_effect g s used r sta range a) few
   load_does a (load.Constant p) h few =
@@ -67,7 +67,7 @@ module _ (used : ℕ) (g : List Located) (calls : Calls) (units : ℕ) (frames :
   load_does a load.OtherAr h few =
       does [] (pointer_load_of used a load.OtherAr) _ (pointer_load_sizes used a load.OtherAr) (other_loaded_effect g s used r sta range a) few
 
-  store_does : (a : Ar) (to : ArStore) → HasOperand (op.StoreAr a to) → used + length (types_of_pointer_store to) ≤ room
+  store_does : (a : Ar) (to : ArStore) → HasOperand frames.formals (op.StoreAr a to) → used + length (types_of_pointer_store to) ≤ room
       → DoesOp (pointer_store_of used a to) (op.StoreAr a to)
   store_does a store.Accu1 h few =
       does [] (pointer_store_of used a store.Accu1) _ (pointer_store_sizes used a store.Accu1) (taken_effect g s used r sta range a) few
@@ -87,22 +87,24 @@ module _ (used : ℕ) (g : List Located) (calls : Calls) (units : ℕ) (frames :
 pub pointers_serve : PointersServe
 pointers_serve =
     record {
-      loads = λ a from h first.
+      loads = λ a from first.
           by_sizes (op.LoadAr a from) first (types_of_pointer_load from) (pointer_load_of first a from) (pointer_load_sizes first a from)
-          (λ g calls units frames now s related room. load_does first g calls units frames now s related a from h room)
+          (λ g calls units frames now s operand related room. load_does first g calls units frames now s related a from operand room)
           (λ P has. pointer_load_reads P [] tt first a from has)
-          (λ sight typed. pointer_load_plain sight [] (no_statement sight) first a from h typed);
-      stores = λ a to h first.
+          (λ sight formals named operand typed. pointer_load_plain sight [] (no_statement sight) formals named first a from operand typed);
+      stores = λ a to first.
           by_sizes (op.StoreAr a to) first (types_of_pointer_store to) (pointer_store_of first a to) (pointer_store_sizes first a to)
-          (λ g calls units frames now s related room. store_does first g calls units frames now s related a to h room)
+          (λ g calls units frames now s operand related room. store_does first g calls units frames now s related a to operand room)
           (λ P has. pointer_store_reads P [] tt first a to has)
-          (λ sight typed. pointer_store_plain sight [] (no_statement sight) first a to h typed);
+          (λ sight formals named operand typed. pointer_store_plain sight [] (no_statement sight) formals named first a to operand typed);
       exchanges = λ first.
-          by_sizes op.ExchangeAr first types_of_pointer_exchange (pointer_exchange_of first) (pointer_exchange_sizes first) (exchange_does first)
-          (λ P has. pointer_exchange_reads P [] tt first has) (λ sight typed. pointer_exchange_plain sight [] (no_statement sight) first typed);
-      moves = λ a amount h first.
+          by_sizes op.ExchangeAr first types_of_pointer_exchange (pointer_exchange_of first) (pointer_exchange_sizes first)
+          (λ g calls units frames now s operand related room. exchange_does first g calls units frames now s related room)
+          (λ P has. pointer_exchange_reads P [] tt first has)
+          (λ sight formals named operand typed. pointer_exchange_plain sight [] (no_statement sight) first typed);
+      moves = λ a amount first.
           by_sizes (op.AddAr a amount) first [] (pointer_move_of a amount) (pointer_move_sizes first a amount)
-          (λ g calls units frames now s related room. move_does first g calls units frames now s related a amount room)
+          (λ g calls units frames now s operand related room. move_does first g calls units frames now s related a amount room)
           (λ P has. pointer_move_reads P [] tt a amount has)
-          (λ sight typed. pointer_move_plain sight [] (no_statement sight) a amount h);
+          (λ sight formals named operand typed. pointer_move_plain sight [] (no_statement sight) a amount operand);
     }

@@ -10,10 +10,10 @@ use Rattle.stl_tree.specs.declared.program.Op.TheVariants as op
 
 -- the statements of each instruction on address registers serve it
 pub record PointersServe : Type 0 where
-  pub loads : (a : Ar) (from : ArLoad) → HasOperand (op.LoadAr a from) → (first : ℕ)
+  pub loads : (a : Ar) (from : ArLoad) → (first : ℕ)
       → Serves (op.LoadAr a from) first (types_of_pointer_load from) (pointer_load_of first a from)
-  pub stores : (a : Ar) (to : ArStore) → HasOperand (op.StoreAr a to) → (first : ℕ)
+  pub stores : (a : Ar) (to : ArStore) → (first : ℕ)
       → Serves (op.StoreAr a to) first (types_of_pointer_store to) (pointer_store_of first a to)
   pub exchanges : (first : ℕ) → Serves op.ExchangeAr first types_of_pointer_exchange (pointer_exchange_of first)
-  pub moves : (a : Ar) (amount : Option ℕ) → HasOperand (op.AddAr a amount) → (first : ℕ)
+  pub moves : (a : Ar) (amount : Option ℕ) → (first : ℕ)
       → Serves (op.AddAr a amount) first [] (pointer_move_of a amount)

@@ -24,7 +24,6 @@ kind_name_of kind.DbLength = codes "DbLength"
 kind_name_of kind.NamePointer = codes "NamePointer"
 kind_name_of kind.Peripheral = codes "Peripheral"
 kind_name_of kind.Accumulators = codes "Accumulators"
-kind_name_of kind.NotBuilt = codes "NotBuilt"
 
 -- the name of a broken rule, without the kind of an unsupported form
 abbrev pub name_of : Reason → List ℕ

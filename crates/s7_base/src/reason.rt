@@ -152,9 +152,6 @@ pub enum Kind {
 
     /// The third and the fourth accumulator of the S7-400: `ENT`, `LEAVE`.
     Accumulators,
-
-    /// A form of the language that a later release will support.
-    NotBuilt,
 }
 
 impl Reason {
@@ -214,7 +211,6 @@ impl Kind {
             Kind::NamePointer => "NamePointer",
             Kind::Peripheral => "Peripheral",
             Kind::Accumulators => "Accumulators",
-            Kind::NotBuilt => "NotBuilt",
         }
     }
 }

@@ -51,30 +51,31 @@ module _ (g : List Located) (s : State) (used : ℕ) (r : RegisterValues) (sta :
 
 module _ (first : ℕ) where
   shift_does : (i : ShiftRow) (by : Option ℕ) → Do (op.Shift i by) first (types_of_shift i by) (shift_template first i by)
-  shift_does i by g calls units frames now s related room =
+  shift_does i by g calls units frames now s operand related room =
       does_effect g s first calls units (shift_template first i by) frames now (after_shift i by now.registers) related
       (any_shift_effect g s first now.registers (s.registers reg.Sta) related.range i by) (omega (arith, room, (shift_sizes first i by).sets))
 
   rlda_does : Do op.Rlda first types_through_cc1 (rlda_template first)
-  rlda_does g calls units frames now s related room =
+  rlda_does g calls units frames now s operand related room =
       does_effect g s first calls units (rlda_template first) frames now (around_left_through_cc1 now.registers) related
       (rlda_effect g s first now.registers (s.registers reg.Sta) related.range) room
 
   rrda_does : Do op.Rrda first types_through_cc1 (rrda_template first)
-  rrda_does g calls units frames now s related room =
+  rrda_does g calls units frames now s operand related room =
       does_effect g s first calls units (rrda_template first) frames now (around_right_through_cc1 now.registers) related
       (rrda_effect g s first now.registers (s.registers reg.Sta) related.range) room
 
 pub shifts_serve : ShiftsServe
 shifts_serve =
     record {
-      shifts = λ s count h first.
+      shifts = λ s count first.
           by_sizes (op.Shift s count) first (types_of_shift s count) (shift_template first s count) (shift_sizes first s count) (shift_does first s count)
-          (λ P has. shift_reads P first [] s count has tt) (λ sight typed. any_shift_plain sight first [] (no_statement sight) s count h typed);
+          (λ P has. shift_reads P first [] s count has tt)
+          (λ sight formals named operand typed. any_shift_plain sight first [] (no_statement sight) s count operand typed);
       left_turns = λ first.
           by_sizes op.Rlda first types_through_cc1 (rlda_template first) (rlda_sizes first) (rlda_does first) (λ P has. rlda_reads P first [] has tt)
-          (λ sight typed. rlda_plain sight first [] (no_statement sight) typed);
+          (λ sight formals named operand typed. rlda_plain sight first [] (no_statement sight) typed);
       right_turns = λ first.
           by_sizes op.Rrda first types_through_cc1 (rrda_template first) (rrda_sizes first) (rrda_does first) (λ P has. rrda_reads P first [] has tt)
-          (λ sight typed. rrda_plain sight first [] (no_statement sight) typed);
+          (λ sight formals named operand typed. rrda_plain sight first [] (no_statement sight) typed);
     }

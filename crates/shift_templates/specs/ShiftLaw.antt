@@ -8,7 +8,7 @@ use Rattle.stl_tree.specs.declared.program.Op.TheVariants as op
 
 -- the statements of each shift and rotation serve it
 pub record ShiftsServe : Type 0 where
-  pub shifts : (s : ShiftRow) (count : Option ℕ) → HasOperand (op.Shift s count) → (first : ℕ)
+  pub shifts : (s : ShiftRow) (count : Option ℕ) → (first : ℕ)
       → Serves (op.Shift s count) first (types_of_shift s count) (shift_template first s count)
   pub left_turns : (first : ℕ) → Serves op.Rlda first types_through_cc1 (rlda_template first)
   pub right_turns : (first : ℕ) → Serves op.Rrda first types_through_cc1 (rrda_template first)

@@ -1,19 +1,17 @@
 -- The verdict accepts the texts of the grammar, and nothing else.
-use Rattle.std.proofs.Common.{◌≡◌, List, [], ◌∷◌, length, Option, Some, None, Result, Ok, Err, refl, ap, ◌∙◌, arith}
+use Rattle.std.proofs.Common.{◌≡◌, List, length, Option, Result, Ok, Err, refl, ap, ◌∙◌, arith}
 use Rattle.s7_base.specs.declared.rule_break.Break.{Break}
 use Rattle.s7_base.specs.declared.reason.Line.{Line}
 use Rattle.s7_base.specs.declared.reason.Rejection.{Rejection}
 use Rattle.s7_base.specs.declared.token.Token.{Token}
-use Rattle.stl_rules.specs.Accepting.{IsKept, IsText, AcceptsTheGrammar}
+use Rattle.stl_rules.specs.Accepting.{IsText, AcceptsTheGrammar}
 use Rattle.stl_grammar.specs.Items.{items_of}
-use Rattle.stl_rules.specs.Programs.{program_of}
 use Rattle.stl_grammar.specs.RawPrograms.{raw_of, raw_by, raw_program}
-use Rattle.stl_rules.specs.Stages.{stages, or_later, first_broken}
+use Rattle.stl_rules.specs.Stages.{stages, first_broken}
 use Rattle.stl_rules.specs.Verdict.{program_unless, checked_program, judged_by}
 use Rattle.stl_grammar.specs.declared.item.Item.{Item}
 use Rattle.stl_grammar.specs.declared.item.Where.TheVariants.{Start}
 use Rattle.stl_tree.specs.declared.program.Program.{Program}
-use Rattle.stl_tree.specs.declared.raw.RawProgram.{RawProgram}
 use Rattle.source_laws.proofs.GrammarLaws.{sound_items, complete_items}
 use Rattle.verdict_laws.proofs.StageLaws.{accepts, kept, none_broken}
 

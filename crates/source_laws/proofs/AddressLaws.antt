@@ -17,7 +17,7 @@ use Rattle.s7_base.specs.declared.word.Width.TheVariants as width
 use Rattle.stl_constants.proofs.Reading.{same_letters, taken}
 use Rattle.stl_grammar.specs.AddressForms.{IsAddress, IsWrittenAddress}
 use Rattle.stl_grammar.specs.AddressForms as form
-use Rattle.stl_grammar.specs.Headings.{kind_word}
+use Rattle.stl_statement_grammar.specs.BlockNames.{kind_word}
 use Rattle.stl_grammar.specs.Symbols.{address_by, address_of, area_by, bit_address, bit_with, is_letter, kind_of, named_address, or_other, place_address, place_of, width_by}
 use Rattle.stl_tree.specs.declared.raw.BlockKind.{BlockKind}
 use Rattle.stl_tree.specs.declared.raw.BlockKind.TheVariants as block
@@ -334,13 +334,6 @@ given_read field its (form.bit letter blanks front back name byte x is blank num
 abbrev IsGiven : List ℕ → Option SymbolAddress → Type 0
 IsGiven field None = Unit {0}
 IsGiven field (Some its) = IsWrittenAddress field its
-
-no_width : (more : List ℕ) → width_by more ≡ Some width.Bit → more ≡ []
-no_width [] e = refl
-no_width (next ∷ more) e =
-    let of = wide_is next more width.Bit e in
-    let odd : None ≡ Some (place_of area.I width.Bit 0 0) = of.reads area.I (codes "0") in
-    absurd cc
 
 digits_are : (letters blanks digits : List ℕ) (kind : BlockKind) → kind_of letters ≡ Some kind → list_all is_blank blanks ≡ true →
     IsGiven (letters ++ (blanks ++ digits)) (option_map (address.Block kind) (kept_number digits))

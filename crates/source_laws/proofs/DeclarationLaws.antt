@@ -1,43 +1,32 @@
 -- Declarations are read exactly where one of their forms stands.
-use Rattle.std.proofs.Common.{◌≡◌, ℕ, zero, suc, ◌+◌, ◌≤◌, inl, inr, ℤ, pos, Bool, true, false, ◌&&◌, ◌||◌, if◌then◌else◌, List, [], ◌∷◌, ◌++◌, length, take, drop, Option, Some, None, refl, sym, ap, subst, ◌∙◌, arith, append_assoc, length-append}
+use Rattle.std.proofs.Common.{◌≡◌, ℕ, ◌+◌, ◌<◌, Bool, true, false, ◌&&◌, if◌then◌else◌, List, [], ◌∷◌, ◌++◌, length, drop, refl, sym, ap, subst, ◌∙◌, arith, append_assoc, length-append}
 use Rattle.std.proofs.Math.Seq.{drop-append_seam}
-use Rattle.std.proofs.lemmas.Bool.{and_from, and_parts}
-use Rattle.std.specs.Char.{to_ascii_lowercase}
-use Rattle.std.specs.List.{list_any}
-use Rattle.std.specs.Prelude.{codes, neg_ℤ, option_map}
-use Rattle.std.specs.Str.{bytes_eq, str_to_ascii_lowercase}
-use Rattle.digit_texts.specs.Digits.{are_digits, kept_number}
+use Rattle.std.proofs.lemmas.Bool.{and_from, and_parts, lt-ltb, or_from, or_left, or_right}
+use Rattle.std.specs.Prelude.{codes}
 use Rattle.s7_base.specs.Tokens.{is_same_word}
 use Rattle.s7_base.specs.declared.reason.Kind.{Kind}
 use Rattle.s7_base.specs.declared.reason.Kind.TheVariants as kind
 use Rattle.s7_base.specs.declared.token.Token.{Token}
-use Rattle.stl_constants.proofs.Reading.{if_false, if_true, mapped, no_sign, other_word, same_letters, taken}
-use Rattle.source_laws.proofs.ConstantFronts.{Stops, stop_by}
+use Rattle.stl_constants.proofs.Reading.{if_false, if_true, other_word}
 use Rattle.source_laws.proofs.InitialLaws.{ending_front, ending_left, ending_out, ending_read}
-use Rattle.source_laws.proofs.ListLaws.{Agrees, Closes, elements_front, elements_read}
-use Rattle.source_laws.proofs.Outs.{OutOf, as_out, dropped, fitting_out, further_out, weaker_out}
-use Rattle.stl_grammar.specs.DeclarationForms.{AreDims, HasEnd, IsBounds, IsDeclaration, BeginsDeclaration, IsType, LeavesOutDeclaration, LeavesOutType, elem_word}
+use Rattle.source_laws.proofs.TypeLaws.{type_front, type_read, type_out, type_left}
+use Rattle.stl_places.proofs.Outs.{OutOf, as_out, dropped, further_out, weaker_out}
+use Rattle.stl_grammar.specs.DeclarationForms.{HasEnd, IsDeclaration, BeginsDeclaration, IsType, LeavesOutDeclaration, LeavesOutType, MayBeOf, elem_word, is_complex}
 use Rattle.stl_grammar.specs.DeclarationForms as form
-use Rattle.stl_grammar.specs.Declarations.{alone, array_at, array_with, before_of, begins_with_number, bounds_at, closed_behind, closed_by, declaration_at, dims_at, has_number, in_array, is_user_type, left_out_type, one_word_at, pointer_types, small_or_other, small_type, time_types, type_at, type_kind, upper_at, upper_behind, wide_or_left_out, wide_type, with_array, with_initial}
-use Rattle.stl_statement_grammar.specs.Lists.{begins_with_word}
+use Rattle.stl_grammar.specs.Declarations.{begins_complex, closed_behind, closed_by, declaration_at, in_array, type_at, type_in, with_initial, is_struct}
 use Rattle.stl_grammar.specs.InitialForms.{IsEnding, LeavesOutEnding}
 use Rattle.stl_grammar.specs.Initials.{ending_at}
-use Rattle.stl_statement_grammar.specs.ListForms.{AreElements}
 use Rattle.stl_grammar.specs.declared.declaration.Innermost.{Innermost}
 use Rattle.stl_grammar.specs.declared.declaration.Innermost.TheVariants as inner
-use Rattle.stl_grammar.specs.Sections.{takes_dates}
+use Rattle.stl_grammar.specs.Sections.{is_formal, takes_dates}
 use Rattle.stl_grammar.specs.declared.declaration.Section.{Section}
 use Rattle.stl_grammar.specs.declared.declaration.Written.{Written}
-use Rattle.stl_places.proofs.Fronts.{Front, FrontOf, as_front, fitting_front, further_front}
-use Rattle.stl_statement_grammar.specs.ConstantForms.{IsAmong}
-use Rattle.stl_statement_grammar.specs.PathForms.{IsWhole}
-use Rattle.stl_statement_grammar.specs.PathForms as path_form
-use Rattle.stl_statement_grammar.specs.Paths.{minus_number, number_word, plain_number, whole_at}
-use Rattle.stl_statement_grammar.specs.Readers.{fitting, further, read_as}
-use Rattle.stl_statement_grammar.specs.Statements.{is_numbered}
-use Rattle.stl_statement_grammar.specs.Words.{is_sign, is_word, is_word_among, is_word_kind}
+use Rattle.stl_places.proofs.Fronts.{Front, FrontOf, as_front, further_front, refined}
+use Rattle.stl_statement_grammar.specs.Readers.{further, read_as}
+use Rattle.stl_statement_grammar.specs.Words.{is_sign, is_word, is_word_kind}
 use Rattle.stl_statement_grammar.specs.declared.mnemonic.Read.{Read}
 use Rattle.stl_statement_grammar.specs.declared.mnemonic.Read.TheVariants.{Fits, LeftOut, No}
+use Rattle.stl_tree.specs.declared.raw.BlockKind.{BlockKind}
 use Rattle.stl_tree.specs.declared.raw.ElemType.{ElemType}
 use Rattle.stl_tree.specs.declared.raw.ElemType.TheVariants as elem
 use Rattle.stl_tree.specs.declared.raw.InitialItem.{InitialItem}
@@ -53,541 +42,53 @@ behind_at {B = B} tokens size P f Q next reads =
     let two : FrontOf tokens Q (further size (next f.rest)) = subst (λ (n : ℕ). FrontOf tokens Q (further n (next f.rest))) f.size_is one in
     subst (λ (ts : List Token). FrontOf tokens Q (further size (next ts))) (sym (dropped tokens size P f)) two
 
--- Whole numbers
+-- Types of formals
 
-whole_front : (tokens : List Token) → FrontOf tokens IsWhole (whole_at tokens)
-whole_front tokens = by tokens
+elementary_plain : (type : ElemType) → (is_same_word (codes "ARRAY") (elem_word type) ≡ false) × (is_same_word (codes "STRUCT") (elem_word type) ≡ false)
+elementary_plain elem.Bool = (refl, refl)
+elementary_plain elem.Byte = (refl, refl)
+elementary_plain elem.Char = (refl, refl)
+elementary_plain elem.Word = (refl, refl)
+elementary_plain elem.Int = (refl, refl)
+elementary_plain elem.Dword = (refl, refl)
+elementary_plain elem.Dint = (refl, refl)
+
+-- a type has an array or a STRUCT where it begins with one
+complex_is : (left : ℕ) (front : List Token) (type : Written) → IsType left front type → (rest : List Token) → begins_complex (front ++ rest) ≡ is_complex type
+complex_is left front type (form.elementary l word its is) rest =
+    let plain = elementary_plain its in
+    or_from (is_word (codes "ARRAY") word) (is_word (codes "STRUCT") word) (other_word (elem_word its) (codes "ARRAY") word is plain.0)
+    (other_word (elem_word its) (codes "STRUCT") word is plain.1)
+complex_is left front type (form.date_and_time l word is) rest =
+    or_from (is_word (codes "ARRAY") word) (is_word (codes "STRUCT") word) (other_word (codes "DATE_AND_TIME") (codes "ARRAY") word is refl)
+    (other_word (codes "DATE_AND_TIME") (codes "STRUCT") word is refl)
+complex_is left front type (form.struct l word is) rest = or_right (is_word (codes "ARRAY") word) (is_word (codes "STRUCT") word) is
+complex_is left front type (form.array l word more tail dims its is are of) rest =
+    let some : 0 < length (dims ∷ its.arrays) = omega arith in
+    or_left (is_word (codes "ARRAY") word) (is_word (codes "STRUCT") word) is
+    ∙ sym (or_left (in_array (length (dims ∷ its.arrays))) (is_struct its.innermost) (lt-ltb _ _ some))
+
+-- a type that may be one of the section
+abbrev IsTypeIn : Section → ℕ → List Token → Written → Type 0
+IsTypeIn section left front type = IsType left front type × MayBeOf section type
+
+type_in_front : (section : Section) (left : ℕ) (tokens : List Token) → FrontOf tokens (IsTypeIn section left) (type_in section left tokens)
+type_in_front section left tokens = by (is_formal section && begins_complex tokens) refl
   where
-    one : (first : Token) (rest : List Token) → FrontOf (first ∷ rest) IsWhole (fitting 1 (plain_number first))
-    one first rest =
-        fitting_front (first ∷ rest) 1 IsWhole (plain_number first)
-        (λ i e.
-        let m = mapped pos (number_word first) i e in
-        record { front = first ∷ []; rest = rest; is = refl; size_is = refl; holds = subst (IsWhole (first ∷ [])) m.made (path_form.plain first m.a m.found) })
+    by : (b : Bool) → (is_formal section && begins_complex tokens) ≡ b →
+        FrontOf tokens (IsTypeIn section left) (if b then LeftOut kind.ComplexParameter else type_at left tokens)
+    by true complex = tt
+    by false plain =
+        refined tokens (IsType left) (IsTypeIn section left)
+        (λ front rest type at is.
+        (is, ap (λ (b : Bool). is_formal section && b) (sym (complex_is left front type is rest) ∙ ap begins_complex at) ∙ plain))
+        (type_at left tokens) (type_front left tokens)
 
-    below : (first second : Token) (rest : List Token) → is_sign (codes "-") first ≡ true
-        → FrontOf (first ∷ second ∷ rest) IsWhole (fitting 2 (minus_number second))
-    below first second rest sign =
-        fitting_front (first ∷ second ∷ rest) 2 IsWhole (minus_number second)
-        (λ i e.
-        let t = taken second.glued (option_map (λ n. neg_ℤ (pos n)) (number_word second)) i e in
-        let m = mapped (λ n. neg_ℤ (pos n)) (number_word second) i t.1 in
-        record {
-          front = first ∷ second ∷ [];
-          rest = rest;
-          is = refl;
-          size_is = refl;
-          holds = subst (IsWhole (first ∷ second ∷ [])) m.made (path_form.minus first second m.a sign t.0 m.found);
-        })
-
-    by : (tokens : List Token) → FrontOf tokens IsWhole (whole_at tokens)
-    by [] = tt
-    by (first ∷ []) = one first []
-    by (first ∷ second ∷ rest) = two (is_sign (codes "-") first) refl
-      where
-        two : (b : Bool) → is_sign (codes "-") first ≡ b →
-            FrontOf (first ∷ second ∷ rest) IsWhole (if b then fitting 2 (minus_number second) else fitting 1 (plain_number first))
-        two true sign = below first second rest sign
-        two false sign = one first (second ∷ rest)
-
-whole_read : (tokens : List Token) (i : ℤ) → IsWhole tokens i → (rest : List Token) → whole_at (tokens ++ rest) ≡ Fits i (length tokens)
-whole_read tokens i (path_form.plain word n number) [] = ap (fitting 1) (ap (option_map pos) number)
-whole_read tokens i (path_form.plain word n number) (next ∷ rest) =
-    if_false (is_sign (codes "-") word) _ _ (no_sign (codes "-") word (taken (is_word_kind word.kind) (kept_number word.text) n number).0)
-    ∙ ap (fitting 1) (ap (option_map pos) number)
-whole_read tokens i (path_form.minus sign word n minus glued number) rest =
-    if_true (is_sign (codes "-") sign) _ _ minus ∙ ap (fitting 2) (if_true word.glued _ None glued ∙ ap (option_map (λ k. neg_ℤ (pos k))) number)
-
-whole_some : (tokens : List Token) (i : ℤ) → IsWhole tokens i → 1 ≤ length tokens
-whole_some tokens i (path_form.plain word n number) = omega arith
-whole_some tokens i (path_form.minus sign word n minus glued number) = omega arith
-
-whole_out : (Q : Kind → Type 0) (tokens : List Token) → OutOf Q (whole_at tokens)
-whole_out Q [] = tt
-whole_out Q (first ∷ []) = fitting_out Q 1 (plain_number first)
-whole_out Q (first ∷ second ∷ rest) = by (is_sign (codes "-") first)
-  where
-    by : (b : Bool) → OutOf Q (if b then fitting 2 (minus_number second) else fitting 1 (plain_number first))
-    by true = fitting_out Q 2 (minus_number second)
-    by false = fitting_out Q 1 (plain_number first)
-
--- Bounds
-
-abbrev Never : List Token → Kind → Type 0
-Never tokens k = ⊥
-
-upper_front : (low : ℤ) (front : List Token) → IsWhole front low → (rest : List Token) →
-    FrontOf (front ++ rest) IsBounds (upper_at low (length front) rest)
-upper_front low front is [] = tt
-upper_front low front is (dots ∷ rest) = by (is_sign (codes "..") dots) refl
-  where
-    by : (b : Bool) → is_sign (codes "..") dots ≡ b →
-        FrontOf (front ++ (dots ∷ rest)) IsBounds (if b then further (length front + 1) (read_as (λ high. (low, high)) (whole_at rest)) else No)
-    by false sign = tt
-    by true sign =
-        let base : FrontOf ((front ++ (dots ∷ [])) ++ rest) IsBounds (further (length (front ++ (dots ∷ []))) (read_as (λ high. (low, high)) (whole_at rest))) =
-        further_front (front ++ (dots ∷ [])) rest IsBounds (read_as (λ high. (low, high)) (whole_at rest))
-        (as_front rest (λ high. (low, high)) IsWhole (λ more both. IsBounds ((front ++ (dots ∷ [])) ++ more) both)
-        (λ more end high at whole. subst (λ (ts : List Token). IsBounds ts (low, high))
-        (sym (append_assoc front (dots ∷ []) more)) (form.bounds front dots more low high is sign whole))
-        (whole_at rest) (whole_front rest)) in
-        let size : length (front ++ (dots ∷ [])) ≡ length front + 1 = omega (arith, length-append front (dots ∷ [])) in
-        subst (λ (ts : List Token). FrontOf ts IsBounds (further (length front + 1) (read_as (λ high. (low, high)) (whole_at rest))))
-        (append_assoc front (dots ∷ []) rest)
-        (subst (λ (n : ℕ). FrontOf ((front ++ (dots ∷ [])) ++ rest) IsBounds (further n (read_as (λ high. (low, high)) (whole_at rest)))) size base)
-
-bounds_front : (tokens : List Token) → FrontOf tokens IsBounds (bounds_at tokens)
-bounds_front tokens = by (whole_at tokens) (whole_front tokens)
-  where
-    by : (r : Read ℤ) → FrontOf tokens IsWhole r → FrontOf tokens IsBounds (upper_behind tokens r)
-    by No f = tt
-    by (LeftOut k) f = tt
-    by (Fits low size) f =
-        let base : FrontOf (f.front ++ f.rest) IsBounds (upper_at low (length f.front) f.rest) = upper_front low f.front f.holds f.rest in
-        let one : FrontOf tokens IsBounds (upper_at low (length f.front) f.rest) =
-        subst (λ (ts : List Token). FrontOf ts IsBounds (upper_at low (length f.front) f.rest)) f.is base in
-        let two : FrontOf tokens IsBounds (upper_at low size f.rest) = subst (λ (n : ℕ). FrontOf tokens IsBounds (upper_at low n f.rest)) f.size_is one in
-        subst (λ (ts : List Token). FrontOf tokens IsBounds (upper_at low size ts)) (sym (dropped tokens size (λ front. IsWhole front low) f)) two
-
-bounds_out : (tokens : List Token) → OutOf (λ k. Never tokens k) (bounds_at tokens)
-bounds_out tokens = by (whole_at tokens)
-  where
-    at : (low : ℤ) (size : ℕ) (rest : List Token) → OutOf {A = ℤ × ℤ} (λ k. Never tokens k) (upper_at low size rest)
-    at low size [] = tt
-    at low size (dots ∷ rest) = choose (is_sign (codes "..") dots)
-      where
-        choose : (b : Bool) → OutOf {A = ℤ × ℤ} (λ k. Never tokens k) (if b then further (size + 1) (read_as (λ high. (low, high)) (whole_at rest)) else No)
-        choose true =
-            further_out (λ k. Never tokens k) (size + 1) (read_as (λ high. (low, high)) (whole_at rest))
-            (as_out (λ k. Never tokens k) (λ high. (low, high)) (whole_at rest) (whole_out (λ k. Never tokens k) rest))
-        choose false = tt
-
-    by : (r : Read ℤ) → OutOf (λ k. Never tokens k) (upper_behind tokens r)
-    by No = tt
-    by (LeftOut k) = tt
-    by (Fits low size) = at low size (drop size tokens)
-
-bounds_read : (tokens : List Token) (both : ℤ × ℤ) → IsBounds tokens both → (rest : List Token)
-    → Stops rest → bounds_at (tokens ++ rest) ≡ Fits both (length tokens)
-bounds_read tokens both (form.bounds front dots more low high is sign whole) rest stop =
-    let all = front ++ (dots ∷ (more ++ rest)) in
-    let size : length front + 1 + length more ≡ length (front ++ (dots ∷ more)) = omega (arith, length-append front (dots ∷ more)) in
-    ap bounds_at (append_assoc front (dots ∷ more) rest)
-    ∙ ap (upper_behind all) (whole_read front low is (dots ∷ (more ++ rest)))
-    ∙ ap (upper_at low (length front)) (drop-append_seam front (dots ∷ (more ++ rest)))
-    ∙ if_true (is_sign (codes "..") dots) _ No sign
-    ∙ ap (λ (r : Read ℤ). further (length front + 1) (read_as (λ x. (low, x)) r)) (whole_read more high whole rest)
-    ∙ ap (λ (n : ℕ). Fits (low, high) n) size
-
-bounds_some : (tokens : List Token) (both : ℤ × ℤ) → IsBounds tokens both → 1 ≤ length tokens
-bounds_some tokens both (form.bounds front dots more low high is sign whole) = omega (arith, length-append front (dots ∷ more))
-
-bounds_agree : Agrees bounds_at IsBounds Never
-bounds_agree = record { front = bounds_front; out = bounds_out; read = bounds_read; left = λ tokens k never. absurd never; some = bounds_some; none = refl }
-
--- Dimensions
-
-closes_square : Closes (codes "]")
-closes_square = record { apart = refl; stop = λ sign is. stop_by (codes "]") sign is refl refl refl }
-
-of_front : (first : Token) (front : List Token) (size : ℕ) (dims : List (ℤ × ℤ)) (rest : List Token)
-    → is_sign (codes "[") first ≡ true → AreElements IsBounds (codes "]") front dims → length front ≡ size
-    → FrontOf (first ∷ (front ++ rest)) AreDims (further 1 (if begins_with_word (codes "OF") rest then Fits dims (size + 1) else No))
-of_front first front size dims [] sign are size_is = tt
-of_front first front size dims (of ∷ rest) sign are size_is = by (is_word (codes "OF") of) refl
-  where
-    by : (b : Bool) → is_word (codes "OF") of ≡ b → FrontOf (first ∷ (front ++ (of ∷ rest))) AreDims (further 1 (if b then Fits dims (size + 1) else No))
-    by false word = tt
-    by true word =
-        record {
-          front = first ∷ (front ++ (of ∷ []));
-          rest = rest;
-          is = ap (λ (ts : List Token). first ∷ ts) (append_assoc front (of ∷ []) rest);
-          size_is = omega (arith, size_is, length-append front (of ∷ []));
-          holds = form.dims first front of dims sign are word;
-        }
-
-dims_front : (tokens : List Token) → FrontOf tokens AreDims (array_at tokens)
-dims_front [] = tt
-dims_front (first ∷ rest) = by (is_sign (codes "[") first) refl
-  where
-    at : is_sign (codes "[") first ≡ true → (r : Read (List (ℤ × ℤ))) → FrontOf rest (AreElements IsBounds (codes "]")) r
-        → FrontOf (first ∷ rest) AreDims (further 1 (before_of rest r))
-    at sign No f = tt
-    at sign (LeftOut k) f = tt
-    at sign (Fits dims size) f =
-        let base : FrontOf (first ∷ (f.front ++ f.rest)) AreDims (further 1 (if begins_with_word (codes "OF") f.rest then Fits dims (size + 1) else No)) =
-        of_front first f.front size dims f.rest sign f.holds f.size_is in
-        let one : FrontOf (first ∷ rest) AreDims (further 1 (if begins_with_word (codes "OF") f.rest then Fits dims (size + 1) else No)) =
-        subst (λ (ts : List Token). FrontOf (first ∷ ts) AreDims (further 1 (if begins_with_word (codes "OF") f.rest then Fits dims (size + 1) else No)))
-        f.is base in
-        subst (λ (ts : List Token). FrontOf (first ∷ rest) AreDims (further 1 (if begins_with_word (codes "OF") ts then Fits dims (size + 1) else No)))
-        (sym (dropped rest size (λ front. AreElements IsBounds (codes "]") front dims) f)) one
-
-    by : (b : Bool) → is_sign (codes "[") first ≡ b → FrontOf (first ∷ rest) AreDims (if b then further 1 (before_of rest (dims_at rest)) else No)
-    by false sign = tt
-    by true sign = at sign (dims_at rest) (elements_front bounds_at IsBounds Never bounds_agree (codes "]") rest)
-
-dims_read : (tokens : List Token) (dims : List (ℤ × ℤ)) → AreDims tokens dims → (rest : List Token) → array_at (tokens ++ rest) ≡ Fits dims (length tokens)
-dims_read tokens its (form.dims before front of dims sign are word) rest =
-    let all = front ++ (of ∷ rest) in
-    let size : 1 + (length front + 1) ≡ length (before ∷ (front ++ (of ∷ []))) = omega (arith, length-append front (of ∷ [])) in
-    ap (λ (ts : List Token). array_at (before ∷ ts)) (append_assoc front (of ∷ []) rest)
-    ∙ if_true (is_sign (codes "[") before) _ No sign
-    ∙ ap (λ (r : Read (List (ℤ × ℤ))). further 1 (before_of all r))
-    (elements_read bounds_at IsBounds Never bounds_agree (codes "]") closes_square front dims are (of ∷ rest))
-    ∙ ap (λ (ts : List Token). further 1 (if begins_with_word (codes "OF") ts then Fits dims (length front + 1) else No)) (drop-append_seam front (of ∷ rest))
-    ∙ ap (further 1) (if_true (is_word (codes "OF") of) _ No word)
-    ∙ ap (λ (n : ℕ). Fits dims n) size
-
--- Words of types, by their letters
-
-abbrev is_spelt : Bool → List ℕ → List ℕ → Bool
-is_spelt k low word = k && bytes_eq low (str_to_ascii_lowercase word)
-
-abbrev is_spelt_among : Bool → List ℕ → List (List ℕ) → Bool
-is_spelt_among k low table = k && list_any (λ entry. bytes_eq low (str_to_ascii_lowercase entry)) table
-
-abbrev small_by : Bool → List ℕ → Option ElemType
-small_by k low =
-    if is_spelt k low (codes "BOOL") then Some elem.Bool
-    else if is_spelt k low (codes "BYTE") then Some elem.Byte
-    else if is_spelt k low (codes "CHAR") then Some elem.Char
-    else None
-
-abbrev wide_by : Bool → List ℕ → Option ElemType
-wide_by k low =
-    if is_spelt k low (codes "WORD") then Some elem.Word
-    else if is_spelt k low (codes "INT") then Some elem.Int
-    else if is_spelt k low (codes "DWORD") then Some elem.Dword
-    else if is_spelt k low (codes "DINT") then Some elem.Dint
-    else None
-
-abbrev kind_by : Bool → List ℕ → Bool → Option Kind
-kind_by k low user =
-    if is_spelt k low (codes "REAL") then Some kind.Real
-    else if is_spelt_among k low pointer_types then Some kind.PointerType
-    else if is_spelt k low (codes "STRING") then Some kind.StringType
-    else if is_spelt_among k low time_types then Some kind.DateTime
-    else if user then Some kind.UserType
-    else None
-
-abbrev one_by : Bool → List ℕ → Bool → Read Written
-one_by k low user =
-    if is_spelt k low (codes "DATE_AND_TIME") then Fits (alone inner.DateAndTime) 1
-    else small_or_other (small_by k low) (wide_or_left_out (wide_by k low) (kind_by k low user))
-
-abbrev opening_by : Bool → List ℕ → Bool → Read Written → Read Written
-opening_by k low user array =
-    if is_spelt k low (codes "STRUCT") then Fits (alone inner.Struct) 1
-    else if is_spelt k low (codes "ARRAY") then array
-    else one_by k low user
-
--- what is read at these letters, where a level may be opened and where none may
-abbrev ReadsAs : Read Written → Bool → List ℕ → Bool → Type 0
-ReadsAs r k low user = (one_by k low user ≡ r) × ((array : Read Written) → opening_by k low user array ≡ r)
-
-reads_at : (left : ℕ) (word : Token) (rest : List Token) (r : Read Written)
-    → ReadsAs r (is_word_kind word.kind) (str_to_ascii_lowercase word.text) (is_user_type word rest)
-    → type_at left (word ∷ rest) ≡ r
-reads_at zero word rest r is = is.0
-reads_at (suc left) word rest r is = is.1 (array_with rest (array_at rest) (λ behind. type_at left behind))
-
--- a word is what its letters are
-word_reads : (left : ℕ) (word : Token) (rest : List Token) (r : Read Written) (text : List ℕ) → is_word text word ≡ true →
-    ((user : Bool) → ReadsAs r true (str_to_ascii_lowercase text) user) → type_at left (word ∷ rest) ≡ r
-word_reads left word rest r text is reads =
-    let p = and_parts (is_word_kind word.kind) (is_same_word word.text text) is in
-    let user = is_user_type word rest in
-    let low = str_to_ascii_lowercase word.text in
-    reads_at left word rest r
-    (subst (λ (k : Bool). ReadsAs r k low user) (sym p.0)
-    (subst (λ (ts : List ℕ). ReadsAs r true ts user) (sym (same_letters word.text text p.1)) (reads user)))
-
-elementary_reads : (type : ElemType) (user : Bool) → ReadsAs (Fits (alone (inner.Elementary type)) 1) true (str_to_ascii_lowercase (elem_word type)) user
-elementary_reads elem.Bool user = (refl, λ array. refl)
-elementary_reads elem.Byte user = (refl, λ array. refl)
-elementary_reads elem.Char user = (refl, λ array. refl)
-elementary_reads elem.Word user = (refl, λ array. refl)
-elementary_reads elem.Int user = (refl, λ array. refl)
-elementary_reads elem.Dword user = (refl, λ array. refl)
-elementary_reads elem.Dint user = (refl, λ array. refl)
-
--- an entry of a table
-record Entry (low : List ℕ) (table : List (List ℕ)) : Type 0 where
-  entry : List ℕ
-  among : IsAmong entry table
-  same : low ≡ str_to_ascii_lowercase entry
-
-entry_of : (text : List ℕ) (table : List (List ℕ)) → list_any (λ entry. is_same_word text entry) table ≡ true → Entry (str_to_ascii_lowercase text) table
-entry_of text [] h = absurd cc
-entry_of text (word ∷ table) h = by (is_same_word text word) refl h (λ more. entry_of text table more)
-  where
-    by : (b : Bool) → is_same_word text word ≡ b → (b || list_any (λ entry. is_same_word text entry) table) ≡ true
-        → (list_any (λ entry. is_same_word text entry) table ≡ true → Entry (str_to_ascii_lowercase text) table)
-        → Entry (str_to_ascii_lowercase text) (word ∷ table)
-    by true is h next = record { entry = word; among = inl refl; same = same_letters text word is }
-    by false is h next = let e = next h in record { entry = e.entry; among = inr e.among; same = e.same }
-
-among_reads : (left : ℕ) (word : Token) (rest : List Token) (r : Read Written) (table : List (List ℕ)) → is_word_among table word ≡ true →
-    ((entry : List ℕ) → IsAmong entry table → (user : Bool) → ReadsAs r true (str_to_ascii_lowercase entry) user) → type_at left (word ∷ rest) ≡ r
-among_reads left word rest r table is reads =
-    let p = and_parts (is_word_kind word.kind) (list_any (λ entry. is_same_word word.text entry) table) is in
-    let e = entry_of word.text table p.1 in
-    let user = is_user_type word rest in
-    let low = str_to_ascii_lowercase word.text in
-    reads_at left word rest r
-    (subst (λ (k : Bool). ReadsAs r k low user) (sym p.0) (subst (λ (ts : List ℕ). ReadsAs r true ts user) (sym e.same) (reads e.entry e.among user)))
-
-abbrev ReadsLeft : Kind → Bool → List ℕ → Type 0
-ReadsLeft k user entry = ReadsAs (LeftOut k) true (str_to_ascii_lowercase entry) user
-
-pointers_left : (entry : List ℕ) → IsAmong entry pointer_types → (user : Bool) → ReadsLeft kind.PointerType user entry
-pointers_left entry (inl e) user = subst (ReadsLeft kind.PointerType user) (sym e) (refl, λ array. refl)
-pointers_left entry (inr (inl e)) user = subst (ReadsLeft kind.PointerType user) (sym e) (refl, λ array. refl)
-pointers_left entry (inr (inr (inl e))) user = subst (ReadsLeft kind.PointerType user) (sym e) (refl, λ array. refl)
-pointers_left entry (inr (inr (inr (inl e)))) user = subst (ReadsLeft kind.PointerType user) (sym e) (refl, λ array. refl)
-pointers_left entry (inr (inr (inr (inr (inl e))))) user = subst (ReadsLeft kind.PointerType user) (sym e) (refl, λ array. refl)
-pointers_left entry (inr (inr (inr (inr (inr (inl e)))))) user = subst (ReadsLeft kind.PointerType user) (sym e) (refl, λ array. refl)
-pointers_left entry (inr (inr (inr (inr (inr (inr (inl e))))))) user = subst (ReadsLeft kind.PointerType user) (sym e) (refl, λ array. refl)
-pointers_left entry (inr (inr (inr (inr (inr (inr (inr (inl e)))))))) user = subst (ReadsLeft kind.PointerType user) (sym e) (refl, λ array. refl)
-pointers_left entry (inr (inr (inr (inr (inr (inr (inr (inr none)))))))) user = elim none [ ]
-
-times_left : (entry : List ℕ) → IsAmong entry time_types → (user : Bool) → ReadsLeft kind.DateTime user entry
-times_left entry (inl e) user = subst (ReadsLeft kind.DateTime user) (sym e) (refl, λ array. refl)
-times_left entry (inr (inl e)) user = subst (ReadsLeft kind.DateTime user) (sym e) (refl, λ array. refl)
-times_left entry (inr (inr (inl e))) user = subst (ReadsLeft kind.DateTime user) (sym e) (refl, λ array. refl)
-times_left entry (inr (inr (inr (inl e)))) user = subst (ReadsLeft kind.DateTime user) (sym e) (refl, λ array. refl)
-times_left entry (inr (inr (inr (inr none)))) user = elim none [ ]
-
--- a word with a number begins as the word does
-
-pub record Starts (b : ℕ) (word : Token) : Type 0 where
-  pub kind_is : is_word_kind word.kind ≡ true
-  pub tail : List ℕ
-  pub low_is : str_to_ascii_lowercase word.text ≡ b ∷ tail
-
-pub number_starts : (letters : List ℕ) (b : ℕ) (more : List ℕ) (word : Token) (rest : List Token)
-    → str_to_ascii_lowercase letters ≡ b ∷ more → has_number letters word rest ≡ true → Starts b word
-number_starts letters b more word rest low h = by (is_word letters word && begins_with_number rest) refl h
-  where
-    text_starts : (n : ℕ) (text : List ℕ) → str_to_ascii_lowercase (take n text) ≡ b ∷ more
-        → is_word_kind word.kind ≡ true → str_to_ascii_lowercase word.text ≡ str_to_ascii_lowercase text → Starts b word
-    text_starts zero text e word_is same = absurd cc
-    text_starts (suc n) [] e word_is same = absurd cc
-    text_starts (suc n) (c ∷ cs) e word_is same =
-        let head : to_ascii_lowercase c ≡ b = cc in
-        record { kind_is = word_is; tail = str_to_ascii_lowercase cs; low_is = same ∙ ap (λ (x : ℕ). x ∷ str_to_ascii_lowercase cs) head }
-
-    by : (is : Bool) → (is_word letters word && begins_with_number rest) ≡ is → (is || is_numbered letters word) ≡ true → Starts b word
-    by true is h =
-        let p = and_parts (is_word letters word) (begins_with_number rest) is in
-        let q = and_parts (is_word_kind word.kind) (is_same_word word.text letters) p.0 in
-        record { kind_is = q.0; tail = more; low_is = same_letters word.text letters q.1 ∙ low }
-    by false is h =
-        let p = and_parts (is_word_kind word.kind && is_same_word (take (length letters) word.text) letters) (are_digits (drop (length letters) word.text)) h in
-        let q = and_parts (is_word_kind word.kind) (is_same_word (take (length letters) word.text) letters) p.0 in
-        text_starts (length letters) word.text (same_letters (take (length letters) word.text) letters q.1 ∙ low) q.0 refl
-
--- a type of the user's own begins with a `U`, as no other word of a type does
-user_starts : (word : Token) (rest : List Token) → is_user_type word rest ≡ true → Starts 117 word
-user_starts word rest h = number_starts (codes "UDT") 117 (100 ∷ 116 ∷ []) word rest refl h
-
-user_reads : (tail : List ℕ) → ReadsAs (LeftOut kind.UserType) true (117 ∷ tail) true
-user_reads tail = (refl, λ array. refl)
-
-user_left : (left : ℕ) (word : Token) (rest : List Token) → is_user_type word rest ≡ true → type_at left (word ∷ rest) ≡ LeftOut kind.UserType
-user_left left word rest is =
-    let s = user_starts word rest is in
-    let r : Read Written = LeftOut kind.UserType in
-    reads_at left word rest r
-    (subst (λ (k : Bool). ReadsAs r k (str_to_ascii_lowercase word.text) (is_user_type word rest)) (sym s.kind_is)
-    (subst (λ (low : List ℕ). ReadsAs r true low (is_user_type word rest)) (sym s.low_is)
-    (subst (λ (user : Bool). ReadsAs r true (117 ∷ s.tail) user) (sym is) (user_reads s.tail))))
-
--- Types
-
-small_word : (word : Token) (type : ElemType) → small_type word ≡ Some type → is_word (elem_word type) word ≡ true
-small_word word type e = by (is_word (codes "BOOL") word) refl (is_word (codes "BYTE") word) refl (is_word (codes "CHAR") word) refl e
-  where
-    so : (its : ElemType) → Some its ≡ Some type → is_word (elem_word its) word ≡ true → is_word (elem_word type) word ≡ true
-    so its e is = let same : its ≡ type = cc in subst (λ (t : ElemType). is_word (elem_word t) word ≡ true) same is
-
-    by : (a : Bool) → is_word (codes "BOOL") word ≡ a → (b : Bool) → is_word (codes "BYTE") word ≡ b → (c : Bool) → is_word (codes "CHAR") word ≡ c →
-        (if a then Some elem.Bool else if b then Some elem.Byte else if c then Some elem.Char else None) ≡ Some type → is_word (elem_word type) word ≡ true
-    by true is b no_b c no_c e = so elem.Bool e is
-    by false no_a true is c no_c e = so elem.Byte e is
-    by false no_a false no_b true is e = so elem.Char e is
-    by false no_a false no_b false no_c e = absurd cc
-
-wide_word : (word : Token) (type : ElemType) → wide_type word ≡ Some type → is_word (elem_word type) word ≡ true
-wide_word word type e =
-    by (is_word (codes "WORD") word) refl (is_word (codes "INT") word) refl (is_word (codes "DWORD") word) refl (is_word (codes "DINT") word) refl e
-  where
-    so : (its : ElemType) → Some its ≡ Some type → is_word (elem_word its) word ≡ true → is_word (elem_word type) word ≡ true
-    so its e is = let same : its ≡ type = cc in subst (λ (t : ElemType). is_word (elem_word t) word ≡ true) same is
-
-    by : (a : Bool) → is_word (codes "WORD") word ≡ a → (b : Bool) → is_word (codes "INT") word ≡ b → (c : Bool) → is_word (codes "DWORD") word ≡ c
-        → (d : Bool) → is_word (codes "DINT") word ≡ d
-        → (if a then Some elem.Word else if b then Some elem.Int else if c then Some elem.Dword else if d then Some elem.Dint else None) ≡ Some type
-        → is_word (elem_word type) word ≡ true
-    by true is b no_b c no_c d no_d e = so elem.Word e is
-    by false no_a true is c no_c d no_d e = so elem.Int e is
-    by false no_a false no_b true is d no_d e = so elem.Dword e is
-    by false no_a false no_b false no_c true is e = so elem.Dint e is
-    by false no_a false no_b false no_c false no_d e = absurd cc
-
-elementary_front : (left : ℕ) (word : Token) (rest : List Token) (type : ElemType) → is_word (elem_word type) word ≡ true →
-    Front (word ∷ rest) 1 (λ front. IsType left front (alone (inner.Elementary type)))
-elementary_front left word rest type is = record { front = word ∷ []; rest = rest; is = refl; size_is = refl; holds = form.elementary left word type is }
-
-one_front : (left : ℕ) (tokens : List Token) → FrontOf tokens (IsType left) (one_word_at tokens)
-one_front left [] = tt
-one_front left (first ∷ rest) = by (is_word (codes "DATE_AND_TIME") first) refl (small_type first) refl (wide_type first) refl (type_kind first rest)
-  where
-    by : (b : Bool) → is_word (codes "DATE_AND_TIME") first ≡ b → (s : Option ElemType)
-        → small_type first ≡ s → (w : Option ElemType) → wide_type first ≡ w → (k : Option Kind)
-        → FrontOf (first ∷ rest) (IsType left) (if b then Fits (alone inner.DateAndTime) 1 else small_or_other s (wide_or_left_out w k))
-    by true is s small w wide k = record { front = first ∷ []; rest = rest; is = refl; size_is = refl; holds = form.date_and_time left first is }
-    by false is (Some type) small w wide k = elementary_front left first rest type (small_word first type small)
-    by false is None small (Some type) wide k = elementary_front left first rest type (wide_word first type wide)
-    by false is None small None wide (Some k) = tt
-    by false is None small None wide None = tt
-
-type_front : (left : ℕ) (tokens : List Token) → FrontOf tokens (IsType left) (type_at left tokens)
-type_front zero tokens = one_front zero tokens
-type_front (suc left) [] = tt
-type_front (suc left) (first ∷ rest) = by (is_word (codes "STRUCT") first) refl (is_word (codes "ARRAY") first) refl (λ more. type_front left more)
-  where
-    at : is_word (codes "ARRAY") first ≡ true → ((more : List Token) → FrontOf more (IsType left) (type_at left more))
-        → (r : Read (List (ℤ × ℤ))) → FrontOf rest AreDims r
-        → FrontOf (first ∷ rest) (IsType (suc left)) (array_with rest r (λ behind. type_at left behind))
-    at word next No f = tt
-    at word next (LeftOut k) f = tt
-    at word next (Fits dims size) f =
-        let G : List Token → Written → Type 0 = IsType (suc left) in
-        let read : List Token → Read Written = λ ts. read_as (with_array dims) (type_at left ts) in
-        let base : FrontOf (first ∷ (f.front ++ f.rest)) G (further (length (first ∷ f.front)) (read f.rest)) =
-        further_front (first ∷ f.front) f.rest G (read f.rest)
-        (as_front f.rest (with_array dims) (IsType left) (λ more type. G (first ∷ (f.front ++ more)) type)
-        (λ more end type split is. form.array left first f.front more dims type word f.holds is) (type_at left f.rest) (next f.rest)) in
-        let whole : length (first ∷ f.front) ≡ size + 1 = omega (arith, f.size_is) in
-        let one : FrontOf (first ∷ rest) G (further (length (first ∷ f.front)) (read f.rest)) =
-        subst (λ (ts : List Token). FrontOf (first ∷ ts) G (further (length (first ∷ f.front)) (read f.rest))) f.is base in
-        let two : FrontOf (first ∷ rest) G (further (size + 1) (read f.rest)) =
-        subst (λ (n : ℕ). FrontOf (first ∷ rest) G (further n (read f.rest))) whole one in
-        subst (λ (ts : List Token). FrontOf (first ∷ rest) G (further (size + 1) (read ts))) (sym (dropped rest size (λ front. AreDims front dims) f)) two
-
-    by : (b : Bool) → is_word (codes "STRUCT") first ≡ b → (c : Bool) → is_word (codes "ARRAY") first ≡ c
-        → ((more : List Token) → FrontOf more (IsType left) (type_at left more))
-        → FrontOf (first ∷ rest) (IsType (suc left))
-        (if b then Fits (alone inner.Struct) 1 else if c then array_with rest (array_at rest) (λ behind. type_at left behind) else one_word_at (first ∷ rest))
-    by true is c word next = record { front = first ∷ []; rest = rest; is = refl; size_is = refl; holds = form.struct left first is }
-    by false is false word next = one_front (suc left) (first ∷ rest)
-    by false is true word next = at word next (array_at rest) (dims_front rest)
-
-array_reads : (left : ℕ) (word : Token) (front rest : List Token) (dims : List (ℤ × ℤ)) → is_word (codes "ARRAY") word ≡ true → AreDims front dims →
-    type_at (suc left) (word ∷ (front ++ rest)) ≡ further (length front + 1) (read_as (with_array dims) (type_at left rest))
-array_reads left word front rest dims is are =
-    let all = front ++ rest in
-    if_false (is_word (codes "STRUCT") word) _ _ (other_word (codes "ARRAY") (codes "STRUCT") word is refl)
-    ∙ if_true (is_word (codes "ARRAY") word) _ (one_word_at (word ∷ all)) is
-    ∙ ap (λ (r : Read (List (ℤ × ℤ))). array_with all r (λ behind. type_at left behind)) (dims_read front dims are rest)
-    ∙ ap (λ (ts : List Token). further (length front + 1) (read_as (with_array dims) (type_at left ts))) (drop-append_seam front rest)
-
-struct_reads : (user : Bool) (array : Read Written) → opening_by true (str_to_ascii_lowercase (codes "STRUCT")) user array ≡ Fits (alone inner.Struct) 1
-struct_reads user array = refl
-
-type_read : (left : ℕ) (tokens : List Token) (type : Written) → IsType left tokens type
-    → (rest : List Token) → type_at left (tokens ++ rest) ≡ Fits type (length tokens)
-type_read left tokens type (form.elementary l word its is) rest =
-    word_reads l word rest (Fits (alone (inner.Elementary its)) 1) (elem_word its) is (elementary_reads its)
-type_read left tokens type (form.date_and_time l word is) rest =
-    word_reads l word rest (Fits (alone inner.DateAndTime) 1) (codes "DATE_AND_TIME") is (λ user. (refl, λ array. refl))
-type_read left tokens type (form.struct l word is) rest = if_true (is_word (codes "STRUCT") word) _ _ is
-type_read left tokens type (form.array l word front more dims its is are of) rest =
-    let size : length front + 1 + length more ≡ length (word ∷ (front ++ more)) = omega (arith, length-append front more) in
-    ap (λ (ts : List Token). type_at (suc l) (word ∷ ts)) (append_assoc front more rest)
-    ∙ array_reads l word front (more ++ rest) dims is are
-    ∙ ap (λ (r : Read Written). further (length front + 1) (read_as (with_array dims) r)) (type_read l more its of rest)
-    ∙ ap (λ (n : ℕ). Fits (with_array dims its) n) size
-
--- types that are left out
-
-kind_out : (left : ℕ) (first : Token) (rest : List Token) (o : Option Kind)
-    → type_kind first rest ≡ o → OutOf (λ k. LeavesOutType left (first ∷ rest) k) (left_out_type o)
-kind_out left first rest o e =
-    by (is_word (codes "REAL") first) refl (is_word_among pointer_types first) refl
-    (is_word (codes "STRING") first) refl (is_word_among time_types first) refl (is_user_type first rest) refl o e
-  where
-    by : (a : Bool) → is_word (codes "REAL") first ≡ a → (b : Bool) → is_word_among pointer_types first ≡ b → (c : Bool) → is_word (codes "STRING") first ≡ c
-        → (d : Bool) → is_word_among time_types first ≡ d → (u : Bool) → is_user_type first rest ≡ u → (o : Option Kind)
-        → (if a then Some kind.Real else if b then Some kind.PointerType else if c then Some kind.StringType
-        else if d then Some kind.DateTime else if u then Some kind.UserType else None) ≡ o
-        → OutOf {A = Written} (λ k. LeavesOutType left (first ∷ rest) k) (left_out_type o)
-    by a is_a b is_b c is_c d is_d u is_u None e = tt
-    by true is b is_b c is_c d is_d u is_u (Some k) e =
-        let same : kind.Real ≡ k = cc in
-        subst (λ (x : Kind). LeavesOutType left (first ∷ rest) x) same (form.real left first rest is)
-    by false no_a true is c is_c d is_d u is_u (Some k) e =
-        let same : kind.PointerType ≡ k = cc in subst (λ (x : Kind). LeavesOutType left (first ∷ rest) x) same (form.pointer left first rest is)
-    by false no_a false no_b true is d is_d u is_u (Some k) e =
-        let same : kind.StringType ≡ k = cc in subst (λ (x : Kind). LeavesOutType left (first ∷ rest) x) same (form.string left first rest is)
-    by false no_a false no_b false no_c true is u is_u (Some k) e =
-        let same : kind.DateTime ≡ k = cc in subst (λ (x : Kind). LeavesOutType left (first ∷ rest) x) same (form.time left first rest is)
-    by false no_a false no_b false no_c false no_d true is (Some k) e =
-        let same : kind.UserType ≡ k = cc in subst (λ (x : Kind). LeavesOutType left (first ∷ rest) x) same (form.user left first rest is)
-    by false no_a false no_b false no_c false no_d false no_u (Some k) e = absurd cc
-
-one_out : (left : ℕ) (tokens : List Token) → OutOf (λ k. LeavesOutType left tokens k) (one_word_at tokens)
-one_out left [] = tt
-one_out left (first ∷ rest) = by (is_word (codes "DATE_AND_TIME") first) (small_type first) (wide_type first)
-  where
-    by : (b : Bool) (s w : Option ElemType)
-        → OutOf (λ k. LeavesOutType left (first ∷ rest) k)
-        (if b then Fits (alone inner.DateAndTime) 1 else small_or_other s (wide_or_left_out w (type_kind first rest)))
-    by true s w = tt
-    by false (Some type) w = tt
-    by false None (Some type) = tt
-    by false None None = kind_out left first rest (type_kind first rest) refl
-
-type_out : (left : ℕ) (tokens : List Token) → OutOf (λ k. LeavesOutType left tokens k) (type_at left tokens)
-type_out zero tokens = one_out zero tokens
-type_out (suc left) [] = tt
-type_out (suc left) (first ∷ rest) = by (is_word (codes "STRUCT") first) (is_word (codes "ARRAY") first) refl (λ more. type_out left more)
-  where
-    at : is_word (codes "ARRAY") first ≡ true → ((more : List Token) → OutOf (λ k. LeavesOutType left more k) (type_at left more))
-        → (r : Read (List (ℤ × ℤ))) → FrontOf rest AreDims r
-        → OutOf (λ k. LeavesOutType (suc left) (first ∷ rest) k) (array_with rest r (λ behind. type_at left behind))
-    at word next No f = tt
-    at word next (LeftOut k) f = tt
-    at word next (Fits dims size) f =
-        let Q : Kind → Type 0 = λ k. LeavesOutType (suc left) (first ∷ rest) k in
-        let behind : List Token = drop size rest in
-        let there : OutOf (λ k. LeavesOutType left f.rest k) (type_at left behind) =
-        subst (λ (ts : List Token). OutOf (λ k. LeavesOutType left f.rest k) (type_at left ts))
-        (sym (dropped rest size (λ front. AreDims front dims) f)) (next f.rest) in
-        further_out Q (size + 1) (read_as (with_array dims) (type_at left behind))
-        (as_out Q (with_array dims) (type_at left behind)
-        (weaker_out (λ k. LeavesOutType left f.rest k) Q
-        (λ k out. subst (λ (ts : List Token). LeavesOutType (suc left) (first ∷ ts) k) f.is (form.array_of left first f.front f.rest dims k word f.holds out))
-        (type_at left behind) there))
-
-    by : (b c : Bool) → is_word (codes "ARRAY") first ≡ c → ((more : List Token) → OutOf (λ k. LeavesOutType left more k) (type_at left more)) →
-        OutOf (λ k. LeavesOutType (suc left) (first ∷ rest) k)
-        (if b then Fits (alone inner.Struct) 1 else if c then array_with rest (array_at rest) (λ behind. type_at left behind) else one_word_at (first ∷ rest))
-    by true c word next = tt
-    by false false word next = one_out (suc left) (first ∷ rest)
-    by false true word next = at word next (array_at rest) (dims_front rest)
-
-type_left : (left : ℕ) (tokens : List Token) (k : Kind) → LeavesOutType left tokens k → type_at left tokens ≡ LeftOut k
-type_left left tokens k (form.real l word rest is) = word_reads l word rest (LeftOut kind.Real) (codes "REAL") is (λ user. (refl, λ array. refl))
-type_left left tokens k (form.pointer l word rest is) = among_reads l word rest (LeftOut kind.PointerType) pointer_types is pointers_left
-type_left left tokens k (form.string l word rest is) = word_reads l word rest (LeftOut kind.StringType) (codes "STRING") is (λ user. (refl, λ array. refl))
-type_left left tokens k (form.time l word rest is) = among_reads l word rest (LeftOut kind.DateTime) time_types is times_left
-type_left left tokens k (form.user l word rest is) = user_left l word rest is
-type_left left tokens k (form.array_of l word front rest dims its is are out) =
-    array_reads l word front rest dims is are ∙ ap (λ (r : Read Written). further (length front + 1) (read_as (with_array dims) r)) (type_left l rest its out)
+type_in_read : (section : Section) (left : ℕ) (front : List Token) (type : Written) → IsType left front type → MayBeOf section type → (rest : List Token)
+    → type_in section left (front ++ rest) ≡ Fits type (length front)
+type_in_read section left front type is may rest =
+    if_false (is_formal section && begins_complex (front ++ rest)) _ _ (ap (λ (b : Bool). is_formal section && b) (complex_is left front type is rest) ∙ may)
+    ∙ type_read left front type is rest
 
 -- Declarations
 
@@ -595,141 +96,163 @@ named_by : (name colon : Token) → (is_word_kind name.kind && is_sign (codes ":
 named_by name colon h = let p = and_parts (is_word_kind name.kind) (is_sign (codes ":") colon) h in record { name_is = p.0; colon_is = p.1 }
 
 -- what ends a declaration that has its own end
-end_at : (section : Section) (what : Innermost) (type : Written) (size : ℕ) (behind : List Token) → HasEnd section what →
-    closed_by section what type size behind ≡ further size (read_as (with_initial type) (ending_at section (in_array (length type.arrays)) behind))
-end_at section (inner.Elementary its) type size behind has = refl
-end_at section inner.DateAndTime type size behind has = if_true (takes_dates section) _ _ has
-end_at section inner.Struct type size behind has = absurd has
+end_at : (of : BlockKind) (section : Section) (what : Innermost) (type : Written) (size : ℕ) (behind : List Token) → HasEnd section what →
+    closed_by of section what type size behind ≡ further size (read_as (with_initial type) (ending_at of section (in_array (length type.arrays)) behind))
+end_at of section (inner.Elementary its) type size behind has = refl
+end_at of section inner.DateAndTime type size behind has = if_true (takes_dates section) _ _ has
+end_at of section inner.Struct type size behind has = absurd has
 
-closed_front : (section : Section) (left : ℕ) (name colon : Token) → BeginsDeclaration name colon
-    → (rest : List Token) (r : Read Written) → FrontOf rest (IsType left) r
-    → FrontOf rest (λ more type. IsDeclaration section left name (colon ∷ more) type) (closed_behind section rest r)
-closed_front section left name colon named rest No f = tt
-closed_front section left name colon named rest (LeftOut k) f = tt
-closed_front section left name colon named rest (Fits type size) f = by type.innermost refl (takes_dates section) refl
+closed_front : (of : BlockKind) (section : Section) (left : ℕ) (name colon : Token) → BeginsDeclaration name colon
+    → (rest : List Token) (r : Read Written) → FrontOf rest (IsTypeIn section left) r
+    → FrontOf rest (λ more type. IsDeclaration of section left name (colon ∷ more) type) (closed_behind of section rest r)
+closed_front of section left name colon named rest No f = tt
+closed_front of section left name colon named rest (LeftOut k) f = tt
+closed_front of section left name colon named rest (Fits type size) f = by type.innermost refl (takes_dates section) refl
   where
     with_end : HasEnd section type.innermost
-        → FrontOf rest (λ more w. IsDeclaration section left name (colon ∷ more) w)
-        (further size (read_as (with_initial type) (ending_at section (in_array (length type.arrays)) (drop size rest))))
+        → FrontOf rest (λ more w. IsDeclaration of section left name (colon ∷ more) w)
+        (further size (read_as (with_initial type) (ending_at of section (in_array (length type.arrays)) (drop size rest))))
     with_end has =
         let a : Bool = in_array (length type.arrays) in
-        behind_at rest size (λ front. IsType left front type) f (λ more w. IsDeclaration section left name (colon ∷ more) w)
-        (λ ts. read_as (with_initial type) (ending_at section a ts))
-        (as_front f.rest (with_initial type) (IsEnding section a) (λ more w. IsDeclaration section left name (colon ∷ (f.front ++ more)) w)
-        (λ more end items at is. form.variable colon f.front more type items named f.holds has is) (ending_at section a f.rest) (ending_front section a f.rest))
+        behind_at rest size (λ front. IsTypeIn section left front type) f (λ more w. IsDeclaration of section left name (colon ∷ more) w)
+        (λ ts. read_as (with_initial type) (ending_at of section a ts))
+        (as_front f.rest (with_initial type) (IsEnding of section a) (λ more w. IsDeclaration of section left name (colon ∷ (f.front ++ more)) w)
+        (λ more end items at is. form.variable colon f.front more type items named f.holds.0 f.holds.1 has is)
+        (ending_at of section a f.rest) (ending_front of section a f.rest))
 
     by : (what : Innermost) → type.innermost ≡ what → (d : Bool) → takes_dates section ≡ d →
-        FrontOf rest (λ more w. IsDeclaration section left name (colon ∷ more) w) (closed_by section what type size (drop size rest))
+        FrontOf rest (λ more w. IsDeclaration of section left name (colon ∷ more) w) (closed_by of section what type size (drop size rest))
     by inner.Struct what d takes =
-        record { front = f.front; rest = f.rest; is = f.is; size_is = f.size_is; holds = form.struct_head colon f.front type named f.holds what }
+        record { front = f.front; rest = f.rest; is = f.is; size_is = f.size_is; holds = form.struct_head colon f.front type named f.holds.0 f.holds.1 what }
     by inner.DateAndTime what true takes =
-        subst (λ (r : Read Written). FrontOf rest (λ more w. IsDeclaration section left name (colon ∷ more) w) r)
+        subst (λ (r : Read Written). FrontOf rest (λ more w. IsDeclaration of section left name (colon ∷ more) w) r)
         (sym (if_true (takes_dates section) _ _ takes))
         (with_end (subst (λ (i : Innermost). HasEnd section i) (sym what) takes))
     by inner.DateAndTime what false takes =
-        subst (λ (r : Read Written). FrontOf rest (λ more w. IsDeclaration section left name (colon ∷ more) w) r)
+        subst (λ (r : Read Written). FrontOf rest (λ more w. IsDeclaration of section left name (colon ∷ more) w) r)
         (sym (if_false (takes_dates section) _ _ takes)) tt
     by (inner.Elementary its) what d takes = with_end (subst (λ (i : Innermost). HasEnd section i) (sym what) tt)
 
-pub declaration_front : (section : Section) (left : ℕ) (name : Token) (tokens : List Token)
-    → FrontOf tokens (IsDeclaration section left name) (declaration_at section left name tokens)
-declaration_front section left name [] = tt
-declaration_front section left name (colon ∷ rest) = by (is_word_kind name.kind && is_sign (codes ":") colon) refl
+pub declaration_front : (of : BlockKind) (section : Section) (left : ℕ) (name : Token) (tokens : List Token)
+    → FrontOf tokens (IsDeclaration of section left name) (declaration_at of section left name tokens)
+declaration_front of section left name [] = tt
+declaration_front of section left name (colon ∷ rest) = by (is_word_kind name.kind && is_sign (codes ":") colon) refl
   where
     by : (b : Bool) → (is_word_kind name.kind && is_sign (codes ":") colon) ≡ b →
-        FrontOf (colon ∷ rest) (IsDeclaration section left name) (if b then further 1 (closed_behind section rest (type_at left rest)) else No)
+        FrontOf (colon ∷ rest) (IsDeclaration of section left name) (if b then further 1 (closed_behind of section rest (type_in section left rest)) else No)
     by false h = tt
     by true h =
-        further_front (colon ∷ []) rest (IsDeclaration section left name) (closed_behind section rest (type_at left rest))
-        (closed_front section left name colon (named_by name colon h) rest (type_at left rest) (type_front left rest))
+        further_front (colon ∷ []) rest (IsDeclaration of section left name) (closed_behind of section rest (type_in section left rest))
+        (closed_front of section left name colon (named_by name colon h) rest (type_in section left rest) (type_in_front section left rest))
 
-closed_out : (section : Section) (left : ℕ) (name colon : Token) → BeginsDeclaration name colon
-    → (rest : List Token) (r : Read Written) → FrontOf rest (IsType left) r → OutOf (λ k. LeavesOutType left rest k) r
-    → OutOf (λ k. LeavesOutDeclaration section left name (colon ∷ rest) k) (closed_behind section rest r)
-closed_out section left name colon named rest No f out = tt
-closed_out section left name colon named rest (LeftOut k) f out = form.in_type colon rest k named out
-closed_out section left name colon named rest (Fits type size) f out = by type.innermost refl (takes_dates section) refl
+closed_out : (of : BlockKind) (section : Section) (left : ℕ) (name colon : Token) → BeginsDeclaration name colon
+    → (rest : List Token) (r : Read Written) → FrontOf rest (IsTypeIn section left) r
+    → OutOf (λ k. LeavesOutDeclaration of section left name (colon ∷ rest) k) r
+    → OutOf (λ k. LeavesOutDeclaration of section left name (colon ∷ rest) k) (closed_behind of section rest r)
+closed_out of section left name colon named rest No f out = tt
+closed_out of section left name colon named rest (LeftOut k) f out = out
+closed_out of section left name colon named rest (Fits type size) f out = by type.innermost refl (takes_dates section) refl
   where
     with_end : HasEnd section type.innermost
-        → OutOf (λ k. LeavesOutDeclaration section left name (colon ∷ rest) k)
-        (further size (read_as (with_initial type) (ending_at section (in_array (length type.arrays)) (drop size rest))))
+        → OutOf (λ k. LeavesOutDeclaration of section left name (colon ∷ rest) k)
+        (further size (read_as (with_initial type) (ending_at of section (in_array (length type.arrays)) (drop size rest))))
     with_end has =
         let a : Bool = in_array (length type.arrays) in
-        let Q : Kind → Type 0 = λ k. LeavesOutDeclaration section left name (colon ∷ rest) k in
-        let there : OutOf (λ k. LeavesOutEnding section a f.rest k) (ending_at section a (drop size rest)) =
-        subst (λ (ts : List Token). OutOf (λ k. LeavesOutEnding section a f.rest k) (ending_at section a ts))
-        (sym (dropped rest size (λ front. IsType left front type) f)) (ending_out section a f.rest) in
-        further_out Q size (read_as (with_initial type) (ending_at section a (drop size rest)))
-        (as_out Q (with_initial type) (ending_at section a (drop size rest))
-        (weaker_out (λ k. LeavesOutEnding section a f.rest k) Q
-        (λ k end. subst (λ (ts : List Token). LeavesOutDeclaration section left name (colon ∷ ts) k) f.is
-        (form.in_ending colon f.front f.rest type k named f.holds has end))
-        (ending_at section a (drop size rest)) there))
+        let Q : Kind → Type 0 = λ k. LeavesOutDeclaration of section left name (colon ∷ rest) k in
+        let there : OutOf (λ k. LeavesOutEnding of section a f.rest k) (ending_at of section a (drop size rest)) =
+        subst (λ (ts : List Token). OutOf (λ k. LeavesOutEnding of section a f.rest k) (ending_at of section a ts))
+        (sym (dropped rest size (λ front. IsTypeIn section left front type) f)) (ending_out of section a f.rest) in
+        further_out Q size (read_as (with_initial type) (ending_at of section a (drop size rest)))
+        (as_out Q (with_initial type) (ending_at of section a (drop size rest))
+        (weaker_out (λ k. LeavesOutEnding of section a f.rest k) Q
+        (λ k end. subst (λ (ts : List Token). LeavesOutDeclaration of section left name (colon ∷ ts) k) f.is
+        (form.in_ending colon f.front f.rest type k named f.holds.0 f.holds.1 has end))
+        (ending_at of section a (drop size rest)) there))
 
     by : (what : Innermost) → type.innermost ≡ what → (d : Bool) → takes_dates section ≡ d
-        → OutOf (λ k. LeavesOutDeclaration section left name (colon ∷ rest) k) (closed_by section what type size (drop size rest))
+        → OutOf (λ k. LeavesOutDeclaration of section left name (colon ∷ rest) k) (closed_by of section what type size (drop size rest))
     by inner.Struct what d takes = tt
     by inner.DateAndTime what true takes =
-        subst (λ (r : Read Written). OutOf (λ k. LeavesOutDeclaration section left name (colon ∷ rest) k) r) (sym (if_true (takes_dates section) _ _ takes))
+        subst (λ (r : Read Written). OutOf (λ k. LeavesOutDeclaration of section left name (colon ∷ rest) k) r) (sym (if_true (takes_dates section) _ _ takes))
         (with_end (subst (λ (i : Innermost). HasEnd section i) (sym what) takes))
     by inner.DateAndTime what false takes =
-        subst (λ (r : Read Written). OutOf (λ k. LeavesOutDeclaration section left name (colon ∷ rest) k) r) (sym (if_false (takes_dates section) _ _ takes))
-        (subst (λ (ts : List Token). LeavesOutDeclaration section left name (colon ∷ ts) kind.DateTime) f.is
-        (form.with_date colon f.front f.rest type named f.holds what takes))
+        subst (λ (r : Read Written). OutOf (λ k. LeavesOutDeclaration of section left name (colon ∷ rest) k) r) (sym (if_false (takes_dates section) _ _ takes))
+        (subst (λ (ts : List Token). LeavesOutDeclaration of section left name (colon ∷ ts) kind.DateTime) f.is
+        (form.with_date colon f.front f.rest type named f.holds.0 f.holds.1 what takes))
     by (inner.Elementary its) what d takes = with_end (subst (λ (i : Innermost). HasEnd section i) (sym what) tt)
 
-pub declaration_out : (section : Section) (left : ℕ) (name : Token) (tokens : List Token)
-    → OutOf (λ k. LeavesOutDeclaration section left name tokens k) (declaration_at section left name tokens)
-declaration_out section left name [] = tt
-declaration_out section left name (colon ∷ rest) = by (is_word_kind name.kind && is_sign (codes ":") colon) refl
+type_in_out : (of : BlockKind) (section : Section) (left : ℕ) (name colon : Token) → BeginsDeclaration name colon → (rest : List Token)
+    → OutOf (λ k. LeavesOutDeclaration of section left name (colon ∷ rest) k) (type_in section left rest)
+type_in_out of section left name colon named rest = by (is_formal section && begins_complex rest) refl
   where
-    by : (b : Bool) → (is_word_kind name.kind && is_sign (codes ":") colon) ≡ b →
-        OutOf (λ k. LeavesOutDeclaration section left name (colon ∷ rest) k) (if b then further 1 (closed_behind section rest (type_at left rest)) else No)
+    by : (b : Bool) → (is_formal section && begins_complex rest) ≡ b →
+        OutOf (λ k. LeavesOutDeclaration of section left name (colon ∷ rest) k) (if b then LeftOut kind.ComplexParameter else type_at left rest)
+    by true complex = let p = and_parts (is_formal section) (begins_complex rest) complex in form.complex_formal colon rest named p.0 p.1
+    by false plain =
+        weaker_out (λ k. LeavesOutType left rest k) (λ k. LeavesOutDeclaration of section left name (colon ∷ rest) k)
+        (λ k out. form.in_type colon rest k named plain out) (type_at left rest) (type_out left rest)
+
+pub declaration_out : (of : BlockKind) (section : Section) (left : ℕ) (name : Token) (tokens : List Token)
+    → OutOf (λ k. LeavesOutDeclaration of section left name tokens k) (declaration_at of section left name tokens)
+declaration_out of section left name [] = tt
+declaration_out of section left name (colon ∷ rest) = by (is_word_kind name.kind && is_sign (codes ":") colon) refl
+  where
+    by : (b : Bool) → (is_word_kind name.kind && is_sign (codes ":") colon) ≡ b
+        → OutOf (λ k. LeavesOutDeclaration of section left name (colon ∷ rest) k)
+        (if b then further 1 (closed_behind of section rest (type_in section left rest)) else No)
     by false h = tt
     by true h =
-        further_out (λ k. LeavesOutDeclaration section left name (colon ∷ rest) k) 1 (closed_behind section rest (type_at left rest))
-        (closed_out section left name colon (named_by name colon h) rest (type_at left rest) (type_front left rest) (type_out left rest))
+        further_out (λ k. LeavesOutDeclaration of section left name (colon ∷ rest) k) 1 (closed_behind of section rest (type_in section left rest))
+        (closed_out of section left name colon (named_by name colon h) rest (type_in section left rest) (type_in_front section left rest)
+        (type_in_out of section left name colon (named_by name colon h) rest))
 
-named_reads : (section : Section) (left : ℕ) (name colon : Token) (rest : List Token) → BeginsDeclaration name colon
-    → declaration_at section left name (colon ∷ rest) ≡ further 1 (closed_behind section rest (type_at left rest))
-named_reads section left name colon rest named = if_true (is_word_kind name.kind && is_sign (codes ":") colon) _ No (and_from _ _ named.name_is named.colon_is)
+named_reads : (of : BlockKind) (section : Section) (left : ℕ) (name colon : Token) (rest : List Token) → BeginsDeclaration name colon
+    → declaration_at of section left name (colon ∷ rest) ≡ further 1 (closed_behind of section rest (type_in section left rest))
+named_reads of section left name colon rest named =
+    if_true (is_word_kind name.kind && is_sign (codes ":") colon) _ No (and_from _ _ named.name_is named.colon_is)
 
 -- a declaration by its type, with what stands behind that
-typed_reads : (section : Section) (left : ℕ) (name colon : Token) (front rest : List Token) (type : Written)
-    → BeginsDeclaration name colon → IsType left front type
-    → declaration_at section left name (colon ∷ (front ++ rest)) ≡ further 1 (closed_by section type.innermost type (length front) rest)
-typed_reads section left name colon front rest type named is =
-    named_reads section left name colon (front ++ rest) named
-    ∙ ap (λ (r : Read Written). further 1 (closed_behind section (front ++ rest) r)) (type_read left front type is rest)
-    ∙ ap (λ (ts : List Token). further 1 (closed_by section type.innermost type (length front) ts)) (drop-append_seam front rest)
+typed_reads : (of : BlockKind) (section : Section) (left : ℕ) (name colon : Token) (front rest : List Token) (type : Written)
+    → BeginsDeclaration name colon → IsType left front type → MayBeOf section type
+    → declaration_at of section left name (colon ∷ (front ++ rest)) ≡ further 1 (closed_by of section type.innermost type (length front) rest)
+typed_reads of section left name colon front rest type named is may =
+    named_reads of section left name colon (front ++ rest) named
+    ∙ ap (λ (r : Read Written). further 1 (closed_behind of section (front ++ rest) r)) (type_in_read section left front type is may rest)
+    ∙ ap (λ (ts : List Token). further 1 (closed_by of section type.innermost type (length front) ts)) (drop-append_seam front rest)
 
-pub declaration_read : (section : Section) (left : ℕ) (name : Token) (tokens : List Token) (type : Written)
-    → IsDeclaration section left name tokens type → (rest : List Token)
-    → declaration_at section left name (tokens ++ rest) ≡ Fits type (length tokens)
-declaration_read section left name tokens type (form.variable colon front more its items named is has ends) rest =
+pub declaration_read : (of : BlockKind) (section : Section) (left : ℕ) (name : Token) (tokens : List Token) (type : Written)
+    → IsDeclaration of section left name tokens type → (rest : List Token)
+    → declaration_at of section left name (tokens ++ rest) ≡ Fits type (length tokens)
+declaration_read of section left name tokens type (form.variable colon front more its items named is may has ends) rest =
     let a : Bool = in_array (length its.arrays) in
     let size : 1 + (length front + length more) ≡ length (colon ∷ (front ++ more)) = omega (arith, length-append front more) in
-    ap (λ (ts : List Token). declaration_at section left name (colon ∷ ts)) (append_assoc front more rest)
-    ∙ typed_reads section left name colon front (more ++ rest) its named is
-    ∙ ap (further 1) (end_at section its.innermost its (length front) (more ++ rest) has)
-    ∙ ap (λ (r : Read (List InitialItem)). further 1 (further (length front) (read_as (with_initial its) r))) (ending_read section a more items ends rest)
+    ap (λ (ts : List Token). declaration_at of section left name (colon ∷ ts)) (append_assoc front more rest)
+    ∙ typed_reads of section left name colon front (more ++ rest) its named is may
+    ∙ ap (further 1) (end_at of section its.innermost its (length front) (more ++ rest) has)
+    ∙ ap (λ (r : Read (List InitialItem)). further 1 (further (length front) (read_as (with_initial its) r))) (ending_read of section a more items ends rest)
     ∙ ap (λ (n : ℕ). Fits (with_initial its items) n) size
-declaration_read section left name tokens type (form.struct_head colon front its named is struct) rest =
+declaration_read of section left name tokens type (form.struct_head colon front its named is may struct) rest =
     let size : 1 + length front ≡ length (colon ∷ front) = omega arith in
-    typed_reads section left name colon front rest its named is
-    ∙ ap (λ (what : Innermost). further 1 (closed_by section what its (length front) rest)) struct
+    typed_reads of section left name colon front rest its named is may
+    ∙ ap (λ (what : Innermost). further 1 (closed_by of section what its (length front) rest)) struct
     ∙ ap (λ (n : ℕ). Fits its n) size
 
-pub declaration_left : (section : Section) (left : ℕ) (name : Token) (tokens : List Token) (k : Kind)
-    → LeavesOutDeclaration section left name tokens k → declaration_at section left name tokens ≡ LeftOut k
-declaration_left section left name tokens k (form.in_type colon rest its named out) =
-    named_reads section left name colon rest named ∙ ap (λ (r : Read Written). further 1 (closed_behind section rest r)) (type_left left rest its out)
-declaration_left section left name tokens k (form.with_date colon front rest type named is date has) =
-    typed_reads section left name colon front rest type named is
-    ∙ ap (λ (what : Innermost). further 1 (closed_by section what type (length front) rest)) date
+pub declaration_left : (of : BlockKind) (section : Section) (left : ℕ) (name : Token) (tokens : List Token) (k : Kind)
+    → LeavesOutDeclaration of section left name tokens k → declaration_at of section left name tokens ≡ LeftOut k
+declaration_left of section left name tokens k (form.complex_formal colon rest named formal complex) =
+    named_reads of section left name colon rest named
+    ∙ ap (λ (r : Read Written). further 1 (closed_behind of section rest r))
+    (if_true (is_formal section && begins_complex rest) _ _ (and_from _ _ formal complex))
+declaration_left of section left name tokens k (form.in_type colon rest its named plain out) =
+    named_reads of section left name colon rest named
+    ∙ ap (λ (r : Read Written). further 1 (closed_behind of section rest r))
+    (if_false (is_formal section && begins_complex rest) _ _ plain ∙ type_left left rest its out)
+declaration_left of section left name tokens k (form.with_date colon front rest type named is may date has) =
+    typed_reads of section left name colon front rest type named is may
+    ∙ ap (λ (what : Innermost). further 1 (closed_by of section what type (length front) rest)) date
     ∙ ap (further 1) (if_false (takes_dates section) _ _ has)
-declaration_left section left name tokens k (form.in_ending colon front rest type its named is has out) =
+declaration_left of section left name tokens k (form.in_ending colon front rest type its named is may has out) =
     let a : Bool = in_array (length type.arrays) in
-    typed_reads section left name colon front rest type named is
-    ∙ ap (further 1) (end_at section type.innermost type (length front) rest has)
-    ∙ ap (λ (r : Read (List InitialItem)). further 1 (further (length front) (read_as (with_initial type) r))) (ending_left section a rest its out)
+    typed_reads of section left name colon front rest type named is may
+    ∙ ap (further 1) (end_at of section type.innermost type (length front) rest has)
+    ∙ ap (λ (r : Read (List InitialItem)). further 1 (further (length front) (read_as (with_initial type) r))) (ending_left of section a rest its out)

@@ -3,7 +3,7 @@ use Rattle.std.proofs.Common.{◌≡◌, ℕ, zero, suc, ◌≤◌, List, [], �
 use Rattle.s7_base.specs.declared.reason.Line.{Line}
 use Rattle.s7_base.specs.declared.reason.Rejection.{Rejection}
 use Rattle.s7_base.specs.declared.token.Token.{Token}
-use Rattle.stl_grammar.specs.Grammar.{IsForm, heading, table, symbol, table_end, skipped_line, begin, first_section, section_end, data_end, struct_end, declaration, begin_behind, later_section, value, values_end, skipped_word, end_word, statement, IsItem, form, left_out, no_instruction, none, at_start, in_a_table, behind_a_block, behind_a_heading, in_a_section, in_a_struct, behind_a_section, in_a_body, among_values, AreItems, none_more, one_more}
+use Rattle.stl_grammar.specs.Grammar.{IsForm, heading, function, table, symbol, table_end, skipped_line, begin, first_section, instance, section_end, data_end, struct_end, declaration, begin_behind, later_section, value, values_end, skipped_word, end_word, statement, IsItem, form, left_out, no_instruction, none, at_start, in_a_table, behind_a_block, behind_a_heading, in_a_section, in_a_struct, behind_a_section, in_a_body, among_values, AreItems, none_more, one_more}
 use Rattle.stl_grammar.specs.Items.{item_at, prepend_item, with_found, items_from}
 use Rattle.stl_grammar.specs.declared.item.NextItem.{NextItem}
 use Rattle.stl_grammar.specs.declared.item.NextItem.TheVariants.{Fits, Misfit, Ended}
@@ -19,12 +19,14 @@ IsSome (first ∷ rest) = Unit {0}
 -- an item has a first token
 form_some : {place next : Where} {tokens : List Token} {item : Item} {size : ℕ} → IsForm place tokens item size next → IsSome tokens
 form_some (heading place kind first rest may is named) = tt
-form_some (table first rest no_heading word) = tt
+form_some (function place first {names = names} colon type rest may word is sign of) = tt
+form_some (table first rest word) = tt
 form_some (symbol line name a its b type c comment rest address no_end behind quoted_name one two three is) = tt
 form_some (table_end line first rest ends) = tt
 form_some (skipped_line kind line first rest is) = tt
 form_some (begin kind line first rest no_line no_data word) = tt
 form_some (first_section kind line its first rest no_line no_begin word may) = tt
+form_some (instance line first names rest name no_line is) = tt
 form_some (section_end kind its first rest no_own word) = tt
 form_some (data_end kind first sign rest word ends) = tt
 form_some (struct_end kind its level levels first front rest items word is) = tt

@@ -1,20 +1,18 @@
 -- Initial values are read exactly where one of their forms stands.
-use Rattle.std.proofs.Common.{◌≡◌, ℕ, zero, suc, ◌+◌, ◌-◌, ◌≤◌, Bool, true, false, ◌&&◌, not, cond, if◌then◌else◌, List, [], ◌∷◌, ◌++◌, length, take, Option, Some, None, refl, sym, ap, subst, ◌∙◌, arith, append_assoc, length-append}
-use Rattle.std.proofs.lemmas.Bool.{and_from, and_left, and_parts}
-use Rattle.std.specs.List.{prefix_len}
+use Rattle.std.proofs.Common.{◌≡◌, ℕ, zero, suc, ◌-◌, ◌≤◌, Bool, true, false, ◌&&◌, if◌then◌else◌, List, [], ◌∷◌, ◌++◌, length, Option, Some, None, refl, sym, ap, subst, ◌∙◌, arith, append_assoc, length-append}
+use Rattle.std.proofs.lemmas.Bool.{and_from, and_left}
 use Rattle.std.specs.Prelude.{codes}
-use Rattle.digit_texts.specs.Digits.{are_digits, kept_number}
-use Rattle.s7_base.specs.Tokens.{is_between}
 use Rattle.s7_base.specs.declared.reason.Kind.{Kind}
 use Rattle.s7_base.specs.declared.reason.Line.{Line}
 use Rattle.s7_base.specs.declared.token.Token.{Token}
 use Rattle.s7_base.specs.declared.word.Width.{Width}
 use Rattle.s7_base.specs.declared.word.Width.TheVariants as width
-use Rattle.stl_constants.proofs.ConstantLaws.{IsNoConstant, constant_no_word, constant_there, pointer_no_constant, word_is}
-use Rattle.stl_constants.proofs.Reading.{if_false, if_true, joined_sign, no_sign, or_no, or_this, other_sign, other_word, taken}
-use Rattle.source_laws.proofs.ConstantFronts.{Stops, constant_before, constant_front, constant_left, constant_out, left_no_bracket, left_no_word, stop_by}
-use Rattle.source_laws.proofs.ListLaws.{Agrees, Closes, elements_front, elements_left, elements_out, elements_read}
-use Rattle.source_laws.proofs.Outs.{OutOf, and_then_left, and_then_out, as_out, fitting_out, further_out, or_left, or_out, weaker_out}
+use Rattle.stl_constants.proofs.ConstantLaws.{constant_there, pointer_no_constant}
+use Rattle.stl_constants.proofs.Reading.{if_false, if_true, joined_sign, no_sign, or_no, or_this, other_sign, other_word}
+use Rattle.source_laws.proofs.LeftOutValues.{constant_left, constant_out, left_no_bracket, left_no_word}
+use Rattle.stl_places.proofs.ConstantFronts.{Stops, constant_before, constant_front, stop_by}
+use Rattle.stl_places.proofs.ListLaws.{Agrees, Closes, elements_front, elements_left, elements_out, elements_read}
+use Rattle.stl_places.proofs.Outs.{OutOf, and_then_left, and_then_out, as_out, fitting_out, further_out, or_left, or_out, weaker_out}
 use Rattle.stl_statement_grammar.specs.Lists.{begins_with_sign}
 use Rattle.stl_grammar.specs.InitialForms.{IsEnding, IsInitial, IsLast, IsListItem, IsValue, LeavesOutEnding, LeavesOutInitial, LeavesOutItem, LeavesOutValue}
 use Rattle.stl_grammar.specs.InitialForms as form
@@ -23,66 +21,27 @@ use Rattle.stl_statement_grammar.specs.ListForms.{AreElements, LeavesOutElement}
 use Rattle.stl_grammar.specs.Sections.{takes_values}
 use Rattle.stl_grammar.specs.declared.declaration.Section.{Section}
 use Rattle.stl_places.proofs.Fronts.{FrontOf, and_then_front, and_then_read, as_front, further_front, further_read, or_front, refined}
-use Rattle.stl_places.proofs.NoPlaces.{no_place_begins}
 use Rattle.stl_places.proofs.PathLaws.{path_front, path_read_before}
-use Rattle.stl_places.proofs.PlaceLaws.{bit_read, glued_before, place_at_read}
-use Rattle.stl_places.proofs.PlaceTokens.{begins_place}
 use Rattle.stl_places.proofs.PointerLaws.{pointer_constant_front, pointer_hashed}
 use Rattle.stl_statement_grammar.specs.ConstantForms.{IsConstant, IsPrefixed, IsSigned}
 use Rattle.stl_statement_grammar.specs.ConstantForms as constant_form
-use Rattle.stl_statement_grammar.specs.Constants.{begins_glued, constant, constant_at, name_behind, prefixes, truth_at}
+use Rattle.stl_statement_grammar.specs.Constants.{constant, constant_at, prefixes, truth_at}
 use Rattle.stl_statement_grammar.specs.PathForms.{IsPath}
-use Rattle.stl_statement_grammar.specs.Paths.{component_at, number_word, path_at, step_at}
-use Rattle.stl_statement_grammar.specs.Places.{bit_at, is_no_digit, letters_of, place_at}
-use Rattle.stl_statement_grammar.specs.PointerForms.{IsOffset, IsPointer, IsPointerConstant}
-use Rattle.stl_statement_grammar.specs.PointerForms as pointing
-use Rattle.stl_statement_grammar.specs.Pointers.{is_in_reach, offset_behind, offset_by, pointer, pointer_at, pointer_behind, pointer_with, value_of}
+use Rattle.stl_statement_grammar.specs.Paths.{component_at, path_at, step_at}
+use Rattle.stl_statement_grammar.specs.PointerForms.{IsPointerConstant}
+use Rattle.stl_statement_grammar.specs.Pointers.{is_in_reach, pointer_at, value_of}
 use Rattle.stl_statement_grammar.specs.Readers.{fitting, further, read_as, all_items, with_item}
 use Rattle.stl_statement_grammar.specs.Words.{is_joined, is_joined_word, is_sign, is_word, is_word_kind}
 use Rattle.stl_statement_grammar.specs.declared.mnemonic.Read.{Read}
 use Rattle.stl_statement_grammar.specs.declared.mnemonic.Read.TheVariants.{Fits, LeftOut, No}
+use Rattle.stl_tree.specs.declared.raw.BlockKind.{BlockKind}
 use Rattle.stl_tree.specs.declared.raw.Constant.{Constant}
 use Rattle.stl_tree.specs.declared.raw.InitialItem.{InitialItem}
 use Rattle.stl_tree.specs.declared.raw.PathStep.{PathStep}
 use Rattle.stl_tree.specs.declared.raw.PathStep.TheVariants as step
 use Rattle.stl_tree.specs.declared.raw.RawInitial.{RawInitial}
 use Rattle.stl_tree.specs.declared.raw.RawPointer.{RawPointer}
-
--- Pointers, whatever stands behind them
-
--- a word that is a number has no letters
-number_letters : (word : Token) (n : ℕ) → number_word word ≡ Some n → begins_place (letters_of word.text) ≡ false
-number_letters word n e = ap begins_place (none word.text (taken (are_digits word.text) _ n (taken (is_word_kind word.kind) (kept_number word.text) n e).1).0)
-  where
-    none : (text : List ℕ) → are_digits text ≡ true → letters_of text ≡ []
-    none [] h = absurd cc
-    none (c ∷ cs) h =
-        let digit = (and_parts (is_between 48 57 c) _ h).0 in
-        ap (λ (b : Bool). take (cond (not b) (1 + prefix_len is_no_digit cs) 0) (c ∷ cs)) digit
-
-offset_before : (tokens : List Token) (p : RawPointer) → IsOffset tokens p → (rest : List Token) → offset_behind (tokens ++ rest) ≡ Fits p (length tokens)
-offset_before tokens p (pointing.offset word more byte bit number is) rest =
-    let size : length more + 1 ≡ length (word ∷ more) = omega arith in
-    ap (λ (o : Option ℕ). offset_by o (bit_at (more ++ rest))) number
-    ∙ ap (offset_by (Some byte)) (bit_read width.Bit more bit is rest)
-    ∙ ap (λ (n : ℕ). Fits (pointer 0 byte bit) n) size
-
-offset_no_place : (tokens : List Token) (p : RawPointer) → IsOffset tokens p → (rest : List Token) → place_at (tokens ++ rest) ≡ No
-offset_no_place tokens p (pointing.offset word more byte bit number is) rest = no_place_begins word (more ++ rest) (number_letters word byte number)
-
-behind_hash_before : (tokens : List Token) (p : RawPointer) → IsPointer tokens p
-    → (rest : List Token) → pointer_behind (tokens ++ rest) ≡ Fits p (length tokens)
-behind_hash_before tokens p (pointing.in_area ts place q is to) rest =
-    or_this (pointer_with (place_at (ts ++ rest))) _ q (length ts) (ap pointer_with (place_at_read ts place is rest) ∙ ap (fitting (length ts)) to)
-behind_hash_before tokens p (pointing.alone ts q is) rest =
-    or_no (pointer_with (place_at (ts ++ rest))) _ (ap pointer_with (offset_no_place ts q is rest)) ∙ offset_before ts q is rest
-
-pointer_before : (tokens : List Token) (p : RawPointer) → IsPointerConstant tokens p
-    → (rest : List Token) → pointer_at (tokens ++ rest) ≡ Fits p (length tokens)
-pointer_before tokens p (pointing.behind word hash more q is joined glued such) rest =
-    if_true (is_word (codes "P") word && is_joined (codes "#") hash && begins_glued (more ++ rest)) _ No
-    (and_from _ _ (and_from _ _ is joined) (glued_before more rest glued))
-    ∙ further_read (word ∷ hash ∷ []) more (pointer_behind (more ++ rest)) q (behind_hash_before more q such rest)
+use Rattle.stl_places.proofs.ValueFronts.{constant_other, name_none, no_truth, pointer_before}
 
 -- Values
 
@@ -128,20 +87,6 @@ value_out tokens =
     let Q : Kind → Type 0 = λ k. LeavesOutValue tokens k in
     or_out Q (truth_at tokens) _ (truth_out Q tokens)
     (or_out Q (constant_at tokens) (pointer_of (pointer_at tokens)) (constant_out tokens) (pointer_out Q (pointer_at tokens)))
-
-no_truth : (tokens : List Token) → word_is (codes "TRUE") tokens ≡ false → word_is (codes "FALSE") tokens ≡ false → truth_at tokens ≡ No
-no_truth [] one two = refl
-no_truth (first ∷ rest) one two = ap (fitting 1) (if_false (is_word (codes "TRUE") first) _ _ one ∙ if_false (is_word (codes "FALSE") first) _ _ two)
-
-constant_other : (tokens : List Token) (c : Constant) (word : List ℕ) → IsConstant tokens c
-    → IsNoConstant word → (rest : List Token) → word_is word (tokens ++ rest) ≡ false
-constant_other [] c word is none rest = absurd (constant_there [] c is refl)
-constant_other (first ∷ more) c word is none rest = constant_no_word (first ∷ more) c word is none
-
-name_none : (front rest : List Token) → name_behind front ≡ No → Stops rest → name_behind (front ++ rest) ≡ No
-name_none [] [] none stop = absurd stop
-name_none [] (sign ∷ rest) none stop = if_false (is_joined (codes "#") sign) _ _ (and_left _ _ stop.hash)
-name_none (first ∷ front) rest none stop = none
 
 pub value_read : (tokens : List Token) (c : Constant) → IsValue tokens c → (rest : List Token) → Stops rest → value_at (tokens ++ rest) ≡ Fits c (length tokens)
 value_read tokens c (form.truth word is) rest stop =
@@ -191,10 +136,10 @@ values_agree = record { front = value_front; out = value_out; read = value_read;
 -- Items of lists
 
 closes_bracket : Closes (codes ")")
-closes_bracket = record { apart = refl; stop = λ sign is. stop_by (codes ")") sign is refl refl refl }
+closes_bracket = record { apart = refl; stop = λ sign is. stop_by (codes ")") sign is refl refl refl refl }
 
 closes_semicolon : Closes (codes ";")
-closes_semicolon = record { apart = refl; stop = λ sign is. stop_by (codes ";") sign is refl refl refl }
+closes_semicolon = record { apart = refl; stop = λ sign is. stop_by (codes ";") sign is refl refl refl refl }
 
 single_front : (tokens : List Token) → FrontOf tokens IsListItem (read_as once (value_at tokens))
 single_front tokens = as_front tokens once IsValue IsListItem (λ front rest c at is. form.value front c is) (value_at tokens) (value_front tokens)
@@ -253,17 +198,9 @@ item_out (first ∷ before ∷ more) = by (is_sign (codes "(") before) refl
 
 -- no bracket stands behind the first token of a value
 
-behind_first : List Token → Bool
-behind_first [] = false
-behind_first (first ∷ rest) = begins_with_sign (codes "(") rest
-
 stop_no_bracket : (rest : List Token) → Stops rest → begins_with_sign (codes "(") rest ≡ false
 stop_no_bracket [] stop = absurd stop
 stop_no_bracket (sign ∷ rest) stop = stop.bracket
-
-after_first_no_bracket : (first : Token) (more rest : List Token) → more ≡ [] → Stops rest → begins_with_sign (codes "(") (more ++ rest) ≡ false
-after_first_no_bracket first [] rest none stop = stop_no_bracket rest stop
-after_first_no_bracket first (next ∷ more) rest none stop = absurd cc
 
 constant_no_bracket : (first : Token) (more : List Token) (c : Constant) → IsConstant (first ∷ more) c
     → (rest : List Token) → Stops rest → begins_with_sign (codes "(") (more ++ rest) ≡ false
@@ -374,7 +311,7 @@ last_read : (tokens : List Token) (c : Constant) → IsLast tokens c → (rest :
 last_read tokens c (form.last front sign k is ends) rest =
     ap last_value (append_assoc front (sign ∷ []) rest)
     ∙ and_then_read front (sign ∷ rest) (value_at (front ++ (sign ∷ rest))) k closed_value
-    (value_read front k is (sign ∷ rest) (stop_by (codes ";") sign ends refl refl refl))
+    (value_read front k is (sign ∷ rest) (stop_by (codes ";") sign ends refl refl refl refl))
     ∙ further_read front (sign ∷ []) (closed_value k (sign ∷ rest)) k (if_true (is_sign (codes ";") sign) _ _ ends)
 
 last_left : (tokens : List Token) (k : Kind) → LeavesOutValue tokens k → last_value tokens ≡ LeftOut k
@@ -385,70 +322,73 @@ last_left tokens k out = and_then_left tokens (value_at tokens) closed_value k (
 list_front : (tokens : List Token) → FrontOf tokens (AreElements IsListItem (codes ";")) (list_at tokens)
 list_front tokens = elements_front item_of_list IsListItem LeavesOutItem items_agree (codes ";") tokens
 
-pub ending_front : (section : Section) (in_array : Bool) (tokens : List Token) → FrontOf tokens (IsEnding section in_array) (ending_at section in_array tokens)
-ending_front section in_array [] = tt
-ending_front section in_array (sign ∷ rest) = by in_array (takes_values section) refl (is_sign (codes ";") sign) refl (is_sign (codes ":=") sign) refl
+pub ending_front : (of : BlockKind) (section : Section) (in_array : Bool) (tokens : List Token)
+    → FrontOf tokens (IsEnding of section in_array) (ending_at of section in_array tokens)
+ending_front of section in_array [] = tt
+ending_front of section in_array (sign ∷ rest) = by in_array (takes_values of section) refl (is_sign (codes ";") sign) refl (is_sign (codes ":=") sign) refl
   where
-    by : (in_array : Bool) (v : Bool) → takes_values section ≡ v → (b : Bool) → is_sign (codes ";") sign ≡ b → (c : Bool) → is_sign (codes ":=") sign ≡ c →
-        FrontOf (sign ∷ rest) (IsEnding section in_array) (if b then Fits [] 1 else if v && c then further 1 (initial_at in_array rest) else No)
+    by : (in_array : Bool) (v : Bool) → takes_values of section ≡ v → (b : Bool) → is_sign (codes ";") sign ≡ b → (c : Bool) → is_sign (codes ":=") sign ≡ c →
+        FrontOf (sign ∷ rest) (IsEnding of section in_array) (if b then Fits [] 1 else if v && c then further 1 (initial_at in_array rest) else No)
     by in_array v takes true ends c assign = record { front = sign ∷ []; rest = rest; is = refl; size_is = refl; holds = form.nothing in_array sign ends }
     by in_array false takes false ends c assign = tt
     by in_array true takes false ends false assign = tt
     by true true takes false ends true assign =
-        further_front (sign ∷ []) rest (IsEnding section true) (list_at rest)
-        (refined rest (AreElements IsListItem (codes ";")) (λ more items. IsEnding section true (sign ∷ more) items)
+        further_front (sign ∷ []) rest (IsEnding of section true) (list_at rest)
+        (refined rest (AreElements IsListItem (codes ";")) (λ more items. IsEnding of section true (sign ∷ more) items)
         (λ more end items at are. form.with_list sign more items takes assign are) (list_at rest) (list_front rest))
     by false true takes false ends true assign =
-        further_front (sign ∷ []) rest (IsEnding section false) (read_as alone (last_value rest))
-        (as_front rest alone IsLast (λ more items. IsEnding section false (sign ∷ more) items) (λ more end c at is. form.with_value sign more c takes assign is)
+        further_front (sign ∷ []) rest (IsEnding of section false) (read_as alone (last_value rest))
+        (as_front rest alone IsLast (λ more items. IsEnding of section false (sign ∷ more) items)
+        (λ more end c at is. form.with_value sign more c takes assign is)
         (last_value rest) (last_front rest))
 
-pub ending_out : (section : Section) (in_array : Bool) (tokens : List Token)
-    → OutOf (λ k. LeavesOutEnding section in_array tokens k) (ending_at section in_array tokens)
-ending_out section in_array [] = tt
-ending_out section in_array (sign ∷ rest) = by in_array (takes_values section) refl (is_sign (codes ";") sign) (is_sign (codes ":=") sign) refl
+pub ending_out : (of : BlockKind) (section : Section) (in_array : Bool) (tokens : List Token)
+    → OutOf (λ k. LeavesOutEnding of section in_array tokens k) (ending_at of section in_array tokens)
+ending_out of section in_array [] = tt
+ending_out of section in_array (sign ∷ rest) = by in_array (takes_values of section) refl (is_sign (codes ";") sign) (is_sign (codes ":=") sign) refl
   where
-    by : (in_array : Bool) (v : Bool) → takes_values section ≡ v → (b : Bool) → (c : Bool) → is_sign (codes ":=") sign ≡ c
-        → OutOf {A = List InitialItem} (λ k. LeavesOutEnding section in_array (sign ∷ rest) k)
+    by : (in_array : Bool) (v : Bool) → takes_values of section ≡ v → (b : Bool) → (c : Bool) → is_sign (codes ":=") sign ≡ c
+        → OutOf {A = List InitialItem} (λ k. LeavesOutEnding of section in_array (sign ∷ rest) k)
         (if b then Fits [] 1 else if v && c then further 1 (initial_at in_array rest) else No)
     by in_array v takes true c assign = tt
     by in_array false takes false c assign = tt
     by in_array true takes false false assign = tt
     by true true takes false true assign =
-        let Q : Kind → Type 0 = λ k. LeavesOutEnding section true (sign ∷ rest) k in
+        let Q : Kind → Type 0 = λ k. LeavesOutEnding of section true (sign ∷ rest) k in
         further_out Q 1 (list_at rest)
         (weaker_out (λ k. LeavesOutElement IsListItem LeavesOutItem rest k) Q (λ k out. form.in_list sign rest k takes assign out) (list_at rest)
         (elements_out item_of_list IsListItem LeavesOutItem items_agree (codes ";") rest))
     by false true takes false true assign =
-        let Q : Kind → Type 0 = λ k. LeavesOutEnding section false (sign ∷ rest) k in
+        let Q : Kind → Type 0 = λ k. LeavesOutEnding of section false (sign ∷ rest) k in
         further_out Q 1 (read_as alone (last_value rest))
         (as_out Q alone (last_value rest)
         (weaker_out (λ k. LeavesOutValue rest k) Q (λ k out. form.in_value sign rest k takes assign out) (last_value rest) (last_out rest)))
 
-assigns : (section : Section) (sign : Token) (in_array : Bool) (rest : List Token) → takes_values section ≡ true → is_sign (codes ":=") sign ≡ true →
-    ending_at section in_array (sign ∷ rest) ≡ further 1 (initial_at in_array rest)
-assigns section sign in_array rest takes assign =
+assigns : (of : BlockKind) (section : Section) (sign : Token) (in_array : Bool) (rest : List Token)
+    → takes_values of section ≡ true → is_sign (codes ":=") sign ≡ true
+    → ending_at of section in_array (sign ∷ rest) ≡ further 1 (initial_at in_array rest)
+assigns of section sign in_array rest takes assign =
     if_false (is_sign (codes ";") sign) _ _ (other_sign (codes ":=") (codes ";") sign assign refl)
-    ∙ if_true (takes_values section && is_sign (codes ":=") sign) _ No (and_from (takes_values section) _ takes assign)
+    ∙ if_true (takes_values of section && is_sign (codes ":=") sign) _ No (and_from (takes_values of section) _ takes assign)
 
-pub ending_read : (section : Section) (in_array : Bool) (tokens : List Token) (items : List InitialItem)
-    → IsEnding section in_array tokens items → (rest : List Token)
-    → ending_at section in_array (tokens ++ rest) ≡ Fits items (length tokens)
-ending_read section in_array tokens items (form.nothing a sign ends) rest = if_true (is_sign (codes ";") sign) _ _ ends
-ending_read section in_array tokens items (form.with_value sign more c takes assign is) rest =
-    assigns section sign false (more ++ rest) takes assign
+pub ending_read : (of : BlockKind) (section : Section) (in_array : Bool) (tokens : List Token) (items : List InitialItem)
+    → IsEnding of section in_array tokens items → (rest : List Token)
+    → ending_at of section in_array (tokens ++ rest) ≡ Fits items (length tokens)
+ending_read of section in_array tokens items (form.nothing a sign ends) rest = if_true (is_sign (codes ";") sign) _ _ ends
+ending_read of section in_array tokens items (form.with_value sign more c takes assign is) rest =
+    assigns of section sign false (more ++ rest) takes assign
     ∙ further_read (sign ∷ []) more (read_as alone (last_value (more ++ rest))) (once c ∷ []) (ap (read_as alone) (last_read more c is rest))
-ending_read section in_array tokens items (form.with_list sign more its takes assign are) rest =
-    assigns section sign true (more ++ rest) takes assign
+ending_read of section in_array tokens items (form.with_list sign more its takes assign are) rest =
+    assigns of section sign true (more ++ rest) takes assign
     ∙ further_read (sign ∷ []) more (list_at (more ++ rest)) its
     (elements_read item_of_list IsListItem LeavesOutItem items_agree (codes ";") closes_semicolon more its are rest)
 
-pub ending_left : (section : Section) (in_array : Bool) (tokens : List Token) (k : Kind)
-    → LeavesOutEnding section in_array tokens k → ending_at section in_array tokens ≡ LeftOut k
-ending_left section in_array tokens k (form.in_value sign rest its takes assign out) =
-    assigns section sign false rest takes assign ∙ ap (λ (r : Read Constant). further 1 (read_as alone r)) (last_left rest its out)
-ending_left section in_array tokens k (form.in_list sign rest its takes assign out) =
-    assigns section sign true rest takes assign
+pub ending_left : (of : BlockKind) (section : Section) (in_array : Bool) (tokens : List Token) (k : Kind)
+    → LeavesOutEnding of section in_array tokens k → ending_at of section in_array tokens ≡ LeftOut k
+ending_left of section in_array tokens k (form.in_value sign rest its takes assign out) =
+    assigns of section sign false rest takes assign ∙ ap (λ (r : Read Constant). further 1 (read_as alone r)) (last_left rest its out)
+ending_left of section in_array tokens k (form.in_list sign rest its takes assign out) =
+    assigns of section sign true rest takes assign
     ∙ ap (λ (r : Read (List InitialItem)). further 1 r)
     (elements_left item_of_list IsListItem LeavesOutItem items_agree (codes ";") closes_semicolon rest its out)
 

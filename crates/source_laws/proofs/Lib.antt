@@ -1,12 +1,12 @@
 pub mod AcceptingLaws
 pub mod AddressLaws
-pub mod ConstantFronts
 pub mod DeclarationLaws
+pub mod FunctionLaws
 pub mod GrammarLaws
 pub mod InitialLaws
 pub mod ItemLaws
-pub mod ListLaws
+pub mod LeftOutValues
 pub mod MisfitLaws
-pub mod Outs
 pub mod SectionLaws
 pub mod StatementSizes
+pub mod TypeLaws

@@ -1,13 +1,18 @@
 -- The section that a word opens.
-use Rattle.std.proofs.Common.{◌≡◌, ℕ, Bool, true, false, if◌then◌else◌, List, Option, Some, None, refl, ap, ◌∙◌}
+use Rattle.std.proofs.Common.{◌≡◌, ℕ, Bool, true, false, ◌&&◌, if◌then◌else◌, List, [], ◌∷◌, Option, Some, None, refl, ap, ◌∙◌, arith}
+use Rattle.std.proofs.lemmas.Bool.{and_parts, or_parts}
 use Rattle.std.specs.Prelude.{codes}
+use Rattle.std.specs.Str.{str_to_ascii_lowercase}
 use Rattle.s7_base.specs.Tokens.{is_same_word}
 use Rattle.s7_base.specs.declared.token.Token.{Token}
-use Rattle.stl_constants.proofs.Reading.{if_false, if_true, other_word}
+use Rattle.stl_constants.proofs.Reading.{if_false, if_true, other_word, same_letters, word_no_quoted}
+use Rattle.stl_places.proofs.BlockNameLaws.{Starts, no_name, other_start}
+use Rattle.stl_statement_grammar.specs.BlockNames.{begins_with_number, is_numbered, name_at}
 use Rattle.stl_grammar.specs.Sections.{formal_or_inner, formal_section, if_open, inner_section, may_open, section_at, section_named, section_word}
 use Rattle.stl_grammar.specs.declared.declaration.Section.{Section}
 use Rattle.stl_grammar.specs.declared.declaration.Section.TheVariants as part
-use Rattle.stl_statement_grammar.specs.Words.{is_word}
+use Rattle.stl_statement_grammar.specs.Words.{is_word, is_word_kind}
+use Rattle.stl_statement_grammar.specs.declared.mnemonic.Read.TheVariants as read
 use Rattle.stl_tree.specs.declared.raw.BlockKind.{BlockKind}
 
 -- From a word to its section
@@ -112,3 +117,23 @@ section_is kind before word = by (section_named word) (named_is word)
     by : (o : Option Section) → Named word o → OpensHere kind before word (if_open kind before o)
     by None is = tt
     by (Some section) is = at section is (may_open kind before section) refl
+
+-- No section begins as the name of a function block does
+
+word_no_block : (word : Token) (text : List ℕ) (b : ℕ) (more : List ℕ) → is_word text word ≡ true → str_to_ascii_lowercase text ≡ b ∷ more
+    → (b ≡ 102 → ⊥) → is_same_word (codes "FB") text ≡ false → (rest : List Token) → name_at (codes "FB") (word ∷ rest) ≡ read.No
+word_no_block word text b more is low apart_from differ rest =
+    let p = and_parts (is_word_kind word.kind) (is_same_word word.text text) is in
+    let starts : Starts b word = record { kind_is = p.0; tail = more; low_is = same_letters word.text text p.1 ∙ low } in
+    let number = or_parts (is_word (codes "FB") word && begins_with_number rest) (is_numbered (codes "FB") word)
+    (other_start (codes "FB") b 102 (98 ∷ []) word rest refl apart_from starts) in
+    no_name (codes "FB") word rest (word_no_quoted word p.0) (other_word text (codes "FB") word is differ) number.1
+
+pub section_no_block : (its : Section) (word : Token) (rest : List Token) → is_word (section_word its) word ≡ true
+    → name_at (codes "FB") (word ∷ rest) ≡ read.No
+section_no_block part.Input word rest is = word_no_block word (codes "VAR_INPUT") 118 _ is refl (λ (same : 118 ≡ 102). omega (arith, same)) refl rest
+section_no_block part.Output word rest is = word_no_block word (codes "VAR_OUTPUT") 118 _ is refl (λ (same : 118 ≡ 102). omega (arith, same)) refl rest
+section_no_block part.InOut word rest is = word_no_block word (codes "VAR_IN_OUT") 118 _ is refl (λ (same : 118 ≡ 102). omega (arith, same)) refl rest
+section_no_block part.Static word rest is = word_no_block word (codes "VAR") 118 _ is refl (λ (same : 118 ≡ 102). omega (arith, same)) refl rest
+section_no_block part.Temp word rest is = word_no_block word (codes "VAR_TEMP") 118 _ is refl (λ (same : 118 ≡ 102). omega (arith, same)) refl rest
+section_no_block part.Own word rest is = word_no_block word (codes "STRUCT") 115 _ is refl (λ (same : 115 ≡ 102). omega (arith, same)) refl rest

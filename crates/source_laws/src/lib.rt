@@ -1,8 +1,8 @@
 //! Laws of STL sources: what is written at a place of a text is what the forms of items, declarations,
 //! initial values and addresses say, and the verdict accepts exactly the texts of this grammar.
 //!
-//! Uses `stl_grammar` and `stl_rules`, which have all definitions, and laws of constants and places of
-//! `stl_constants` and `stl_places`. It computes nothing: the contracts of its functions are the laws.
+//! Uses `stl_grammar` and `stl_rules`, which have all definitions, and laws of constants, places and stages of
+//! `stl_constants`, `stl_places` and `verdict_laws`. It computes nothing: the contracts of its functions are the laws.
 #![tactic(auto)]
 
 ghost use Rattle.stl_grammar.specs.Grammar.{ItemsHaveForms};

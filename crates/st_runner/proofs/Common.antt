@@ -1,4 +1,5 @@
 -- The names that proofs on this crate and above it cite most, passed on from one place. Declares nothing.
+pub use Rattle.memory_areas.specs.Memory.{Decides}
 pub use Rattle.st_runner.specs.Standing.{Shows}
 pub use Rattle.st_runner.specs.declared.frame.At.{At}
 pub use Rattle.st_runner.specs.declared.frame.Frame.{Frame}
@@ -6,7 +7,6 @@ pub use Rattle.st_runner.specs.declared.steps.TheConstants.{UNIT_FRAMES}
 pub use Rattle.st_runner.specs.inner.Choice.{case_body, if_body}
 unfoldable pub use Rattle.st_runner.specs.inner.Choice.{has_label}
 pub use Rattle.st_runner.specs.inner.Costs.{Costs, arm_most, body_most, case_most, most, most_step}
-pub use Rattle.st_runner.specs.inner.Fitting.{Decides}
 pub use Rattle.st_runner.specs.inner.Leaving.{Leaves}
 pub use Rattle.st_runner.specs.inner.Measures.{body_weight, depth_costs, frame_tall, frame_weight, reach, size, sizes, stack_costs, tall, unit_costs, units, weight, work_weight}
 pub use Rattle.st_runner.specs.inner.Ready.{Done, IsReady, IsSettled, most_formals, most_locals}

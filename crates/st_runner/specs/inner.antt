@@ -1,6 +1,5 @@
 pub mod Choice
 pub mod Costs
-pub mod Fitting
 pub mod Leaving
 pub mod Measures
 pub mod Plain

@@ -1,17 +1,15 @@
 //! Calls from outside: the unit that one means, whether it fits, and what it gives the unit.
 ghost use Rattle.std.specs.Prelude.{◌≡◌, ◌++◌, [], codes, decimal, length, vec_capacity, ◌≤◌, ◌<◌, IfOk, MatchOption, None, OnOk, List, slice_get, ℕ};
 ghost use Rattle.std.specs.Str.{str_eq_ignore_ascii_case};
-ghost use Rattle.memory_areas.specs.Access.{aim_of_place, fault_of};
-ghost use Rattle.memory_areas.specs.Areas.{IsMemoryOf, block_of};
-ghost use Rattle.memory_areas.specs.Memory.{IsActivation};
+ghost use Rattle.memory_areas.specs.Areas.{IsMemoryOf};
 ghost use Rattle.memory_areas.specs.declared.data_block.DataBlock.{DataBlock};
-ghost use Rattle.st_runner.specs.inner.Fitting.{Decides};
+ghost use Rattle.memory_areas.specs.Memory.{Decides};
 ghost use Rattle.st_runner.specs.inner.View.{AreReachable};
-ghost use Rattle.st_tree.specs.StRun.{FitFormals, FitsFormal, FitsUnit, IsOutsidePlace, called_name, formals_given, is_meant, references, unit_called};
+ghost use Rattle.st_tree.specs.StRun.{FitFormals, FitsUnit, called_name, formals_given, is_meant, references, unit_called};
 
-use memory_areas::{Area, BlockName, Call, Memory, Place};
+use memory_areas::{BlockName, Call, Memory, Place, fits_width};
 use s7_base::{NoMemory, Width};
-use st_tree::{Local, Pou, Reference, width_at};
+use st_tree::{Local, Pou, width_at};
 use std::alloc::Global;
 
 fn put_text(out: &mut Vec<u8>, text: &str) -> Result<(), NoMemory>
@@ -69,42 +67,6 @@ pub fn unit_called(block: BlockName, name: &[u8], units: &[Pou]) -> Option<usize
     None
 }
 
-/// Whether a call from outside may give places of an area.
-fn is_outside(area: Area) -> bool
-    ensures { Decides result (IsOutsidePlace area) }
-{
-    match area {
-        Area::I => true,
-        Area::Q => true,
-        Area::M => true,
-        Area::Db(_) => true,
-        Area::Local(_) => false,
-        Area::Cell(_) => false,
-    }
-}
-
-/// Whether a place of an area that calls may give exists in a memory.
-fn is_there(memory: &Memory, place: Place, width: Width) -> bool
-    requires { IsOutsidePlace place.area }
-    ensures { Decides result (fault_of (aim_of_place place) width memory.now ≡ None) }
-{
-    memory.find(place, width).is_ok()
-}
-
-/// Whether an actual fits a formal.
-fn fits_formal(memory: &Memory, formal: &Local, place: Place, width: Width) -> bool
-    ensures { (blocks : List DataBlock) → IsMemoryOf blocks memory.now.areas
-        → Decides result (FitsFormal blocks formal.now (place, width)) }
-{
-    if width != width_at(formal.ty) {
-        return false;
-    }
-    if !is_outside(place.area) {
-        return false;
-    }
-    is_there(memory, place, width)
-}
-
 /// Whether the actuals fit the formals.
 fn fit_formals(memory: &Memory, formals: &[Local], actuals: &[(Place, Width)]) -> bool
     ensures { (blocks : List DataBlock) → IsMemoryOf blocks memory.now.areas
@@ -116,7 +78,7 @@ fn fit_formals(memory: &Memory, formals: &[Local], actuals: &[(Place, Width)]) -
         let Some((actual, actuals_behind)) = actuals_left.split_first() else {
             return false;
         };
-        if !fits_formal(memory, formal, actual.0, actual.1) {
+        if !fits_width(memory, width_at(formal.ty), actual.0, actual.1) {
             return false;
         }
         formals_left = formals_behind;

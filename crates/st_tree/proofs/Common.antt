@@ -58,7 +58,8 @@ pub use Rattle.st_tree.specs.PlaceRules.{is_block_number, is_place}
 pub use Rattle.st_tree.specs.Proper.{IsDataBlock, IsFormal, IsGlobal, IsLocal, IsProperUnit, Proper, outer_keys}
 pub use Rattle.st_tree.specs.Spelling.{ArmText, CaseText, Text, arm_text, bit_text, blanks, body_text, byte_text, case_text, else_text, expr_text, formals_of, integer_text, line, list_behind, names_in, place_text, statement_step, statement_text, texts_at, unit_name, var_text, form_text}
 unfoldable pub use Rattle.st_tree.specs.Spelling.{block_text, global_text, hexadecimal, label_text, literal_text, local_text, unit_text}
-pub use Rattle.st_tree.specs.StRun.{FitFormals, FitsIfThere, FitsSt, FitsUnit, IsOutsidePlace, all_zero, end_seen, formals_given, is_meant, references, run_of_unit, st_run, state_at_start, unit_called}
+pub use Rattle.memory_areas.specs.OutsideActuals.{IsOutsidePlace}
+pub use Rattle.st_tree.specs.StRun.{FitFormals, FitsIfThere, FitsSt, FitsUnit, all_zero, end_seen, formals_given, is_meant, references, run_of_unit, st_run, state_at_start, unit_called}
 pub use Rattle.st_tree.specs.State.{Activation, State, depth, pointed_at, there, type_of_register, with_local, write, write_place}
 pub use Rattle.st_tree.specs.TypeRules.{has_bits, has_width, is_selector, is_type, type_of_binary, type_of_choice, type_of_conversion, type_of_read, type_of_shift, type_of_unary, type_on_equals, where_true}
 pub use Rattle.st_tree.specs.Typing.{Names, type_of}

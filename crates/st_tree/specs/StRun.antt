@@ -1,14 +1,12 @@
 -- The run of a called unit. What a text does when one of its units is called from outside, within a number of units
 -- of work, and which calls fit.
 -- Held against: IEC 61131-3, 'Program organization units', and this project's own runs.
-use Rattle.std.specs.Prelude.{◌≡◌, ℕ, pos, Bool, true, false, not, ◌&&◌, ℤ, List, [], ◌∷◌, ◌++◌, codes, decimal, find, IsSome, Option, Some, None}
+use Rattle.std.specs.Prelude.{◌≡◌, ℕ, pos, Bool, true, false, not, ◌&&◌, ℤ, List, [], ◌∷◌, ◌++◌, codes, decimal, find, map, IsSome, Option, Some, None}
 use Rattle.std.specs.Str.{str_eq_ignore_ascii_case}
-use Rattle.memory_areas.specs.Access.{aim_of_place, fault_of}
-use Rattle.memory_areas.specs.Areas.{Areas, block_of, fresh, with_areas}
+use Rattle.memory_areas.specs.Areas.{Areas, block_of, with_areas}
 use Rattle.memory_areas.specs.End.{End, Ended, Going}
+use Rattle.memory_areas.specs.OutsideActuals.{FitWidths}
 use Rattle.memory_areas.specs.declared.data_block.DataBlock.{DataBlock}
-use Rattle.memory_areas.specs.declared.place.Area.{Area}
-use Rattle.memory_areas.specs.declared.place.Area.TheVariants as area
 use Rattle.memory_areas.specs.declared.place.Place.{Place}
 use Rattle.s7_base.specs.declared.register.Reg.{Reg}
 use Rattle.s7_base.specs.declared.register.Reg.TheVariants.{DiNo}
@@ -54,28 +52,9 @@ is_meant called unit =
 abbrev pub unit_called : BlockName → List Pou → Option Pou
 unit_called called units = find (is_meant called) units
 
--- a place that a call may give from outside is one of I, Q, M or a data block
-abbrev pub IsOutsidePlace : Area → Type 0
-IsOutsidePlace area.I = Unit {0}
-IsOutsidePlace area.Q = Unit {0}
-IsOutsidePlace area.M = Unit {0}
-IsOutsidePlace (area.Db n) = Unit {0}
-IsOutsidePlace (area.Local d) = ⊥
-IsOutsidePlace (area.Cell d) = ⊥
-
--- an actual fits a formal: it has its width, and lies in a memory of these data blocks
-pub record FitsFormal (blocks : List DataBlock) (formal : Local) (actual : Place × Width) : Type 0 where
-  pub width : actual.1 ≡ width_at formal.ty
-  pub outside : IsOutsidePlace actual.0.area
-  pub lies : fault_of (aim_of_place actual.0) actual.1 (fresh blocks) ≡ None
-
 -- there are as many actuals as formals, and each fits
 abbrev pub FitFormals : List DataBlock → List Local → List (Place × Width) → Type 0
-FitFormals blocks [] [] = Unit {0}
-FitFormals blocks [] (actual ∷ actuals) = ⊥
-FitFormals blocks (formal ∷ formals) [] = ⊥
-FitFormals blocks (formal ∷ formals) (actual ∷ actuals) =
-    FitsFormal blocks formal actual × FitFormals blocks formals actuals
+FitFormals blocks formals actuals = FitWidths blocks (map (λ (f : Local). width_at f.ty) formals) actuals
 
 -- the unit of a function block has no formals, and the instance exists
 pub record FitsInstance (blocks : List DataBlock) (unit : Pou) (instance : ℕ) : Type 0 where

@@ -1,5 +1,5 @@
 -- What is accepted keeps the rules.
-use Rattle.std.proofs.Common.{◌≡◌, ℕ, List, Result, Ok, Err, sym, subst}
+use Rattle.std.proofs.Common.{◌≡◌, ℕ, List, Result, Ok, Err, sym, ap, subst}
 use Rattle.std.specs.Prelude.{IfOk}
 use Rattle.s7_base.specs.Answers.{Answers}
 use Rattle.s7_base.specs.declared.reason.Rejection.{Rejection}
@@ -11,10 +11,17 @@ use Rattle.stl_rules.specs.Verdict.{checked_program, judged_by, verdict}
 use Rattle.stl_tree.specs.declared.program.Program.{Program}
 use Rattle.stl_tree.specs.declared.raw.RawProgram.{RawProgram}
 
-answers_verdict : (bytes : List ℕ) (raw : RawProgram) (answer : Result Program Rejection)
+pub answers_verdict : (bytes : List ℕ) (raw : RawProgram) (answer : Result Program Rejection)
     → raw_text bytes ≡ Ok raw → Answers answer (checked_program raw) → Answers answer (verdict bytes)
 unfolding verdict
 answers_verdict bytes raw answer e h = let P : Result RawProgram Rejection → Type 0 = λ r. Answers answer (judged_by r) in subst P (sym e) h
+
+-- the answer to a text that is not read
+pub answers_unread : (bytes : List ℕ) (refused : Rejection) → Answers {X = RawProgram} (Err refused) (raw_text bytes)
+    → Answers {X = Program} (Err refused) (verdict bytes)
+unfolding verdict
+answers_unread bytes (Refused line reason) e = ap judged_by e
+answers_unread bytes NoMemory e = tt
 
 answer_accepted : (bytes : List ℕ) (answer : Result Program Rejection) → Answers answer (verdict bytes) → IfOk answer IsAccepted
 answer_accepted bytes (Ok program) e = verdict_accepted bytes program e

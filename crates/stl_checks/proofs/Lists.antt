@@ -1,10 +1,14 @@
 -- Lists of instructions, item by item.
-use Rattle.std.proofs.Common.{◌≡◌, ◌≤◌, ◌<◌, ℕ, ◌+◌, List, [], ◌∷◌, ◌++◌, length, drop, get_or, sym, ap, ◌∙◌, arith, append_assoc}
+use Rattle.std.proofs.Common.{◌≡◌, ◌≤◌, ◌<◌, ℕ, ◌+◌, Bool, List, [], ◌∷◌, ◌++◌, length, drop, get_or, slice_get, None, sym, ap, ◌∙◌, arith, append_assoc}
 use Rattle.std.proofs.lemmas.List.{append-nil}
 use Rattle.s7_base.specs.declared.rule_break.Break.{Break}
 use Rattle.s7_base.specs.declared.reason.Line.{Line}
-use Rattle.stl_rules.specs.BodyRules.{brackets_at, brackets_from, label_closed, labels_at, labels_from, open_then}
+use Rattle.stl_rules.specs.BodyRules.{brackets_at, brackets_from, broken_if, label_closed, labels_at, labels_from, open_then}
+use Rattle.s7_base.specs.declared.reason.Reason.TheVariants.{CallTooDeep}
+use Rattle.stl_checks.specs.inner.Chains.{headings_of}
+use Rattle.stl_rules.specs.Stages.{deep_breaks}
 use Rattle.stl_statement_grammar.specs.Mnemonics.{mnemonic_named}
+use Rattle.stl_tree.specs.declared.program.Block.{Block}
 use Rattle.stl_tree.specs.declared.raw.RawInstr.{RawInstr}
 
 -- the rules that an instruction and those after it break
@@ -44,3 +48,28 @@ pub labels_all : (breaks : List Break) (body : List RawInstr) (at : ℕ) (rest :
     → breaks ++ labels_from body at rest ≡ whole → breaks ≡ whole
 labels_all breaks body at [] whole none e = sym (append-nil breaks) ∙ e
 labels_all breaks body at (raw ∷ rest) whole none e = absurd (omega arith)
+
+-- one heading more of those that are judged
+pub deep_more : (breaks : List Break) (begins : List Bool) (blocks : List Block) (whole : List Break) (b : Bool) (block : Block)
+    → 1 ≤ length begins → 1 ≤ length blocks → b ≡ get_or begins 0 b → block ≡ get_or blocks 0 block
+    → breaks ++ deep_breaks begins (headings_of blocks) ≡ whole
+    → (breaks ++ broken_if b block.line CallTooDeep) ++ deep_breaks (drop 1 begins) (headings_of (drop 1 blocks)) ≡ whole
+deep_more breaks [] blocks whole b block some others is at e = absurd (omega arith)
+deep_more breaks (t ∷ begins) [] whole b block some others is at e = absurd (omega arith)
+deep_more breaks (t ∷ begins) (x ∷ blocks) whole b block some others is at e =
+    append_assoc breaks (broken_if b block.line CallTooDeep) (deep_breaks begins (headings_of blocks))
+    ∙ ap (λ c. breaks ++ (broken_if c block.line CallTooDeep ++ deep_breaks begins (headings_of blocks))) is
+    ∙ ap (λ (y : Block). breaks ++ (broken_if t y.line CallTooDeep ++ deep_breaks begins (headings_of blocks))) at ∙ e
+
+-- where none is left
+pub deep_all : (breaks : List Break) (begins : List Bool) (blocks : List Block) (whole : List Break) → length begins < 1
+    → breaks ++ deep_breaks begins (headings_of blocks) ≡ whole → breaks ≡ whole
+deep_all breaks [] blocks whole none e = sym (append-nil breaks) ∙ e
+deep_all breaks (t ∷ begins) blocks whole none e = absurd (omega arith)
+
+-- where there is no block left
+pub deep_end : (breaks : List Break) (begins : List Bool) (blocks : List Block) (whole : List Break) → slice_get blocks 0 ≡ None
+    → breaks ++ deep_breaks begins (headings_of blocks) ≡ whole → breaks ≡ whole
+deep_end breaks [] [] whole none e = sym (append-nil breaks) ∙ e
+deep_end breaks (t ∷ begins) [] whole none e = sym (append-nil breaks) ∙ e
+deep_end breaks begins (b ∷ blocks) whole none e = absurd cc

@@ -10,7 +10,7 @@ use stl_tree::RawInstr;
 /// The most brackets that may be open.
 const MOST_OPEN: usize = 7;
 
-/// Notes the rule that is broken where brackets are open at a label, a jump or an end.
+/// Notes the rule that is broken where brackets are open at a label, a jump, a call or an end.
 #[tactic(auto, using(crate::proofs::Turns::end_closed, crate::proofs::Turns::end_open))]
 fn note_open(breaks: &mut List<Break>, line: Line, count: usize) -> Result<(), NoMemory>
     ensures { OnOk result (breaks.new ≡ breaks.old ++ none_open line count) }
@@ -41,6 +41,9 @@ fn note_at(
             note_open(breaks, line, count)
         }
         Some(Mnemonic::BlockEnd) | Some(Mnemonic::BlockEndIf) => note_open(breaks, line, count),
+        Some(Mnemonic::Call) | Some(Mnemonic::CallAlone) | Some(Mnemonic::CallIf) => {
+            note_open(breaks, line, count)
+        }
         _ => Ok(()),
     }
 }

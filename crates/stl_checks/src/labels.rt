@@ -4,17 +4,19 @@ ghost use Rattle.stl_rules.specs.BodyRules.{broken_if, is_list, label_breaks, la
 ghost use Rattle.stl_rules.specs.Labels.{label_of, listed_in, target_in};
 ghost use Rattle.stl_statement_grammar.specs.Mnemonics.{mnemonic_named};
 
-use body_labels::{Labels, listed_in};
+use body_labels::{Labels, MOST_LISTED, listed_in};
 use s7_base::{Break, Line, List, NoMemory, Reason, note, rest_after};
 use stl_mnemonics::mnemonic_named;
 use stl_statement_grammar::Mnemonic;
 use stl_tree::{RawInstr, RawOperand};
 
-/// The most `JU` in a jump list.
-const MOST_LISTED: usize = 255;
-
 /// Notes the rule that is broken on a line where a condition is true.
-fn note_if(breaks: &mut List<Break>, holds: bool, line: Line, rule: Reason) -> Result<(), NoMemory>
+pub fn note_if(
+    breaks: &mut List<Break>,
+    holds: bool,
+    line: Line,
+    rule: Reason,
+) -> Result<(), NoMemory>
     ensures { OnOk result (breaks.new ≡ breaks.old ++ broken_if holds line rule) }
 {
     if holds {

@@ -405,13 +405,15 @@ marked_read : (table : List Prefixed) (tokens : List Token) (c : Constant) → a
 marked_read table tokens c apart is = or_this (prefixed_at table tokens) (real_at tokens) c (length tokens) (prefixed_read table tokens c apart is)
 
 -- tokens of a number, of a place or of an operand with a bracket, on which no mark is: one word, a sign and a word, two
--- words, a word that is no number before a point, a bracket, or a word before one
+-- words, a word that is no number before a point, a word before another sign, a bracket, or a word before one
 pub data AreUnmarked : List Token → Type 0 where
   one : (word : Token) → is_word_kind word.kind ≡ true → AreUnmarked (word ∷ [])
   signed : (sign word : Token) → is_sign (codes "-") sign ≡ true → is_word_kind word.kind ≡ true → AreUnmarked (sign ∷ word ∷ [])
   two : (first word : Token) (rest : List Token) → is_word_kind first.kind ≡ true → is_word_kind word.kind ≡ true → AreUnmarked (first ∷ word ∷ rest)
   pointed : (first point : Token) (rest : List Token) → is_word_kind first.kind ≡ true → are_digits first.text ≡ false → is_sign (codes ".") point ≡ true →
       AreUnmarked (first ∷ point ∷ rest)
+  stopped : (first stop : Token) (rest : List Token) → is_word_kind first.kind ≡ true
+      → is_sign (codes "#") stop ≡ false → is_sign (codes ".") stop ≡ false → AreUnmarked (first ∷ stop ∷ rest)
   bracket : (first : Token) (rest : List Token) → is_sign (codes "[") first ≡ true → AreUnmarked (first ∷ rest)
   before_bracket : (first before : Token) (rest : List Token) → is_word_kind first.kind ≡ true
       → is_sign (codes "[") before ≡ true → AreUnmarked (first ∷ before ∷ rest)
@@ -421,6 +423,7 @@ no_prefix tokens (one word w) row = refl
 no_prefix tokens (signed sign word minus w) row = and_right _ _ (and_left _ _ (no_sign (codes "#") word w))
 no_prefix tokens (two first word rest f w) row = and_right _ _ (and_left _ _ (no_sign (codes "#") word w))
 no_prefix tokens (pointed first point rest f d at) row = and_right _ _ (and_left _ _ (other_sign (codes ".") (codes "#") point at refl))
+no_prefix tokens (stopped first stop rest f hash point) row = and_right _ _ (and_left _ _ hash)
 no_prefix tokens (bracket first [] sign) row = refl
 no_prefix tokens (bracket first (hash ∷ rest) sign) row = and_left _ _ (and_left _ _ (no_word (codes "[") first sign))
 no_prefix tokens (before_bracket first before rest w sign) row = and_right _ _ (and_left _ _ (other_sign (codes "[") (codes "#") before sign refl))
@@ -439,6 +442,9 @@ no_real tokens (two first word rest f w) =
     ∙ no_whole first word rest (and_right _ _ (and_left _ _ (no_sign (codes ".") word w)))
 no_real tokens (pointed first point rest f d at) =
     if_false (is_sign (codes "-") first) _ _ (no_sign (codes "-") first f) ∙ no_whole first point rest (and_left _ _ (and_right _ _ d))
+no_real tokens (stopped first stop rest f hash point) =
+    if_false (is_sign (codes "-") first) _ _ (no_sign (codes "-") first f)
+    ∙ no_whole first stop rest (and_right _ _ (and_left _ _ point))
 no_real tokens (bracket first [] sign) = if_false (is_sign (codes "-") first) _ _ (other_sign (codes "[") (codes "-") first sign refl)
 no_real tokens (bracket first (point ∷ rest) sign) =
     if_false (is_sign (codes "-") first) _ _ (other_sign (codes "[") (codes "-") first sign refl)
@@ -461,6 +467,7 @@ unmarked_no_text tokens (one word w) = no_text word [] (word_no_text word w)
 unmarked_no_text tokens (signed sign word minus w) = no_text sign (word ∷ []) (sign_no_text (codes "-") sign minus)
 unmarked_no_text tokens (two first word rest f w) = no_text first (word ∷ rest) (word_no_text first f)
 unmarked_no_text tokens (pointed first point rest f d at) = no_text first (point ∷ rest) (word_no_text first f)
+unmarked_no_text tokens (stopped first stop rest f hash point) = no_text first (stop ∷ rest) (word_no_text first f)
 unmarked_no_text tokens (bracket first rest sign) = no_text first rest (sign_no_text (codes "[") first sign)
 unmarked_no_text tokens (before_bracket first before rest w sign) = no_text first (before ∷ rest) (word_no_text first w)
 

@@ -1,3 +1,4 @@
 pub mod ConstantLaws
+pub mod ListReading
 pub mod Reading
 pub mod Tables

@@ -1,7 +1,7 @@
 //! Numbers, digit by digit.
 ghost use Rattle.std.specs.Prelude.{◌≡◌, ◌≤◌, IfSome};
 ghost use Rattle.stl_statement_grammar.specs.Numbers.{bits_of, has_bits_at_ends, hex_number, is_bit, with_hex_digit, with_next};
-ghost use Rattle.stl_statement_grammar.specs.Statements.{is_numbered};
+ghost use Rattle.stl_statement_grammar.specs.BlockNames.{is_numbered};
 ghost use Rattle.stl_constants.specs.inner.Bits.{AreBits};
 
 use crate::words::is_word_kind;

@@ -1,22 +1,22 @@
 //! Declarations.
 ghost use Rattle.std.specs.Prelude.{◌≡◌, ◌+◌, ◌++◌, length, IfOk, OnOk};
-ghost use Rattle.stl_grammar.specs.Declarations.{alone, array_at, array_with, before_of, begins_with_number, bounds_at, closed_behind, closed_by, declaration_at, depth_of, dims_at, ends_level, has_number, in_array, is_user_type, left_of, left_out_type, levels_behind, one_word, one_word_at, opening_type, pointer_types, small_or_other, small_type, time_types, type_at, type_kind, upper_at, wide_or_left_out, wide_type, with_array, with_initial};
+ghost use Rattle.stl_grammar.specs.Declarations.{alone, array_at, array_with, before_of, begins_complex, bounds_at, closed_behind, closed_by, declaration_at, depth_of, dims_at, elementary_or, elementary_type, ends_level, in_array, instance_kind, is_user_type, left_of, left_out_type, levels_behind, one_word, one_word_at, opening_type, pointer_types, small_type, time_types, type_at, type_in, type_kind, upper_at, variable_kind, wide_type, with_array, with_initial};
 ghost use Rattle.stl_grammar.specs.Initials.{ending_at};
 ghost use Rattle.stl_statement_grammar.specs.Readers.{further, read_as};
 
-use crate::elements::{Next, begins_with_word, further, next_of, one_more};
 use crate::initial::ending_at;
-use crate::section::{end_of_section, takes_dates};
+use crate::section::{end_of_section, is_formal, takes_dates};
 use crate::words::{is_pointer_type, is_time_type};
-use digit_texts::are_digits;
 use s7_base::{Kind, Line, List, NoMemory, Token, rest_after};
 use std::alloc::Global;
 use std::collections::LinkedList;
-use stl_constants::{is_numbered, is_sign, is_word, is_word_kind};
+use stl_constants::{
+    Next, begins_with_word, further, is_sign, is_word, is_word_kind, next_of, one_more,
+};
 use stl_grammar::{Innermost, Level, Section, Written};
-use stl_places::whole_at;
+use stl_places::{has_number, whole_at};
 use stl_statement_grammar::Read;
-use stl_tree::{ElemType, InitialItem};
+use stl_tree::{BlockKind, ElemType, InitialItem};
 
 fn with_lower(low: i64, high: Read<i64>) -> Read<(i64, i64)>
     ensures { result ≡ read_as (λ high. (low, high)) high }
@@ -140,20 +140,14 @@ fn wide_type(word: &Token) -> Option<ElemType>
     }
 }
 
-fn begins_with_number(tokens: &[Token]) -> bool
-    ensures { result ≡ begins_with_number tokens.now }
+/// An elementary type.
+pub fn elementary_type(word: &Token) -> Option<ElemType>
+    ensures { result ≡ elementary_type word.now }
 {
-    match tokens {
-        [first, ..] => is_word_kind(first) && are_digits(first.text.as_slice()),
-        [] => false,
+    match small_type(word) {
+        Some(ty) => Some(ty),
+        None => wide_type(word),
     }
-}
-
-/// Whether the tokens are a word with a number, `UDT 5` or `UDT5`.
-pub fn has_number(word: &str, first: &Token, rest: &[Token]) -> bool
-    ensures { result ≡ has_number word.now first.now rest.now }
-{
-    (is_word(first, word) && begins_with_number(rest)) || is_numbered(first, word)
 }
 
 /// Whether the tokens are a user-defined type, by its number.
@@ -164,7 +158,7 @@ pub fn is_user_type(first: &Token, rest: &[Token]) -> bool
 }
 
 /// The kind of a type that is not supported.
-fn type_kind(first: &Token, rest: &[Token]) -> Option<Kind>
+pub fn type_kind(first: &Token, rest: &[Token]) -> Option<Kind>
     ensures { result ≡ type_kind first.now rest.now }
 {
     if is_word(first, "REAL") {
@@ -182,6 +176,29 @@ fn type_kind(first: &Token, rest: &[Token]) -> Option<Kind>
     }
 }
 
+/// The kind of an instance that is a variable: of a function block, or of a block of the system.
+fn instance_kind(first: &Token, rest: &[Token]) -> Option<Kind>
+    ensures { result ≡ instance_kind first.now rest.now }
+{
+    if has_number("FB", first, rest) {
+        Some(Kind::MultiInstance)
+    } else if has_number("SFB", first, rest) {
+        Some(Kind::SystemCall)
+    } else {
+        None
+    }
+}
+
+/// The kind of a variable's type that is not supported.
+fn variable_kind(first: &Token, rest: &[Token]) -> Option<Kind>
+    ensures { result ≡ variable_kind first.now rest.now }
+{
+    match type_kind(first, rest) {
+        Some(kind) => Some(kind),
+        None => instance_kind(first, rest),
+    }
+}
+
 /// A type without arrays.
 fn alone(alloc: Global, innermost: Innermost) -> Written
     ensures { result ≡ alone innermost }
@@ -193,10 +210,14 @@ fn alone(alloc: Global, innermost: Innermost) -> Written
     }
 }
 
-fn wide_or_left_out(alloc: Global, wide: Option<ElemType>, left_out: Option<Kind>) -> Read<Written>
-    ensures { result ≡ wide_or_left_out wide left_out }
+fn elementary_or(
+    alloc: Global,
+    elementary: Option<ElemType>,
+    left_out: Option<Kind>,
+) -> Read<Written>
+    ensures { result ≡ elementary_or elementary left_out }
 {
-    match (wide, left_out) {
+    match (elementary, left_out) {
         (Some(ty), _) => Read::Fits(alone(alloc, Innermost::Elementary(ty)), 1),
         (None, Some(kind)) => Read::LeftOut(kind),
         (None, None) => Read::No,
@@ -210,10 +231,7 @@ fn one_word(alloc: Global, first: &Token, rest: &[Token]) -> Read<Written>
     if is_word(first, "DATE_AND_TIME") {
         return Read::Fits(alone(alloc, Innermost::DateAndTime), 1);
     }
-    match small_type(first) {
-        Some(ty) => Read::Fits(alone(alloc, Innermost::Elementary(ty)), 1),
-        None => wide_or_left_out(alloc, wide_type(first), type_kind(first, rest)),
-    }
+    elementary_or(alloc, elementary_type(first), variable_kind(first, rest))
 }
 
 fn one_word_at(alloc: Global, tokens: &[Token]) -> Read<Written>
@@ -294,68 +312,102 @@ fn with_initial(written: Written, read: Read<List<InitialItem>>) -> Read<Written
 /// A declaration by its type, and what follows the type.
 fn with_ending(
     alloc: Global,
+    kind: BlockKind,
     section: Section,
     written: Written,
     size: usize,
     behind: &[Token],
 ) -> Result<Read<Written>, NoMemory>
-    ensures { IfOk result (λ found. found ≡ further size (read_as (with_initial written) (ending_at section (in_array (length written.arrays)) behind.now))) }
+    ensures { IfOk result (λ found. found ≡ further size (read_as (with_initial written) (ending_at kind section (in_array (length written.arrays)) behind.now))) }
 {
     let in_array = written.arrays.len() > 0;
-    let items = ending_at(alloc, section, in_array, behind)?;
+    let items = ending_at(alloc, kind, section, in_array, behind)?;
     further(size, with_initial(written, items))
 }
 
 /// A declaration by its type; one of a STRUCT has its members and its end after this.
 fn closed_by(
     alloc: Global,
+    kind: BlockKind,
     section: Section,
     written: Written,
     size: usize,
     behind: &[Token],
 ) -> Result<Read<Written>, NoMemory>
-    ensures { IfOk result (λ found. found ≡ closed_by section written.innermost written size behind.now) }
+    ensures { IfOk result (λ found. found ≡ closed_by kind section written.innermost written size behind.now) }
 {
     match written.innermost {
         Innermost::Struct => Ok(Read::Fits(written, size)),
         Innermost::DateAndTime if !takes_dates(section) => Ok(Read::LeftOut(Kind::DateTime)),
         Innermost::Elementary(_) | Innermost::DateAndTime => {
-            with_ending(alloc, section, written, size, behind)
+            with_ending(alloc, kind, section, written, size, behind)
         }
     }
 }
 
 fn closed_behind(
     alloc: Global,
+    kind: BlockKind,
     section: Section,
     tokens: &[Token],
     read: Read<Written>,
 ) -> Result<Read<Written>, NoMemory>
-    ensures { IfOk result (λ found. found ≡ closed_behind section tokens.now read) }
+    ensures { IfOk result (λ found. found ≡ closed_behind kind section tokens.now read) }
 {
     match read {
         Read::Fits(written, size) => {
-            closed_by(alloc, section, written, size, rest_after(tokens, size))
+            closed_by(
+                alloc,
+                kind,
+                section,
+                written,
+                size,
+                rest_after(tokens, size),
+            )
         }
-        Read::LeftOut(kind) => Ok(Read::LeftOut(kind)),
+        Read::LeftOut(left_out) => Ok(Read::LeftOut(left_out)),
         Read::No => Ok(Read::No),
     }
 }
 
-/// The declaration of a section, after its name, at a place where a number of levels may be opened.
+/// Whether the tokens begin with an ARRAY or a STRUCT.
+fn begins_complex(tokens: &[Token]) -> bool
+    ensures { result ≡ begins_complex tokens.now }
+{
+    begins_with_word("ARRAY", tokens) || begins_with_word("STRUCT", tokens)
+}
+
+/// The type of a declaration of a section: formals are elementary.
+fn type_in(
+    alloc: Global,
+    section: Section,
+    left: usize,
+    tokens: &[Token],
+) -> Result<Read<Written>, NoMemory>
+    ensures { IfOk result (λ found. found ≡ type_in section left tokens.now) }
+{
+    if is_formal(section) && begins_complex(tokens) {
+        return Ok(Read::LeftOut(Kind::ComplexParameter));
+    }
+    type_at(alloc, left, tokens)
+}
+
+/// The declaration of a section in a block of a kind, after its name, at a place where a number of levels may
+/// be opened.
 pub fn declaration_at(
     alloc: Global,
+    kind: BlockKind,
     section: Section,
     left: usize,
     name: &Token,
     tokens: &[Token],
 ) -> Result<Read<Written>, NoMemory>
-    ensures { IfOk result (λ found. found ≡ declaration_at section left name.now tokens.now) }
+    ensures { IfOk result (λ found. found ≡ declaration_at kind section left name.now tokens.now) }
 {
     match tokens {
         [colon, rest @ ..] if is_word_kind(name) && is_sign(colon, ":") => {
-            let read = type_at(alloc, left, rest)?;
-            further(1, closed_behind(alloc, section, rest, read)?)
+            let read = type_in(alloc, section, left, rest)?;
+            further(1, closed_behind(alloc, kind, section, rest, read)?)
         }
         _ => Ok(Read::No),
     }

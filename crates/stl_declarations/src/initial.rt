@@ -1,54 +1,22 @@
 //! Initial values.
 ghost use Rattle.std.specs.Prelude.{◌≡◌, ◌++◌, IfOk};
 ghost use Rattle.stl_grammar.specs.Initials.{alone, closed_value, count_of, ending_at, group_behind, initial, initial_at, initial_behind, item_of_list, last_value, list_at, once, path_value_at, pointer_of, pointer_value, times, value_at, values_at};
-ghost use Rattle.s7_base.specs.declared.word.Width.TheVariants as width;
-ghost use Rattle.stl_statement_grammar.specs.Constants.{constant, constant_at, truth, truth_at};
+ghost use Rattle.stl_statement_grammar.specs.Constants.{constant_at};
 ghost use Rattle.stl_statement_grammar.specs.Pointers.{pointer_at};
 ghost use Rattle.stl_statement_grammar.specs.Readers.{further, or_else, read_as};
 
-use crate::elements::{Next, begins_with_sign, further, next_of, one_more};
 use crate::section::takes_values;
 use digit_texts::number_up_to;
 use s7_base::{Line, List, NoMemory, Token, Width, rest_after};
 use std::alloc::Global;
-use stl_constants::{constant_at, fitting, is_sign, is_word, is_word_kind};
+use stl_constants::{
+    Next, begins_with_sign, constant_at, fitting, further, is_sign, is_word_kind, next_of,
+    one_more, truth_at,
+};
 use stl_grammar::Section;
 use stl_places::{path_at, pointer_at, pointer_value};
 use stl_statement_grammar::Read;
-use stl_tree::{Constant, InitialItem, PathStep, RawInitial, RawPointer};
-
-fn bit(value: u32) -> Constant
-    ensures { result ≡ constant width.Bit value }
-{
-    Constant {
-        width: Width::Bit,
-        signed: false,
-        binary: false,
-        value,
-    }
-}
-
-fn truth(word: &Token) -> Option<Constant>
-    ensures { result ≡ truth word.now }
-{
-    if is_word(word, "TRUE") {
-        Some(bit(1))
-    } else if is_word(word, "FALSE") {
-        Some(bit(0))
-    } else {
-        None
-    }
-}
-
-/// The constant `TRUE` or `FALSE`.
-fn truth_at(tokens: &[Token]) -> Read<Constant>
-    ensures { result ≡ truth_at tokens.now }
-{
-    match tokens {
-        [first, ..] => fitting(1, truth(first)),
-        [] => Read::No,
-    }
-}
+use stl_tree::{BlockKind, Constant, InitialItem, PathStep, RawInitial, RawPointer};
 
 /// A pointer, where its byte and its bit are ones that pointers have.
 fn pointer(written: RawPointer) -> Option<Constant>
@@ -264,18 +232,20 @@ fn initial_at(
     }
 }
 
-/// What ends a declaration of a section: `;`, and where it may have one, `:=` and an initial value before it.
+/// What ends a declaration of a section in a block of a kind: `;`, and where it may have one, `:=` and an
+/// initial value before it.
 pub fn ending_at(
     alloc: Global,
+    kind: BlockKind,
     section: Section,
     in_array: bool,
     tokens: &[Token],
 ) -> Result<Read<List<InitialItem>>, NoMemory>
-    ensures { IfOk result (λ read. read ≡ ending_at section in_array tokens.now) }
+    ensures { IfOk result (λ read. read ≡ ending_at kind section in_array tokens.now) }
 {
     match tokens {
         [sign, ..] if is_sign(sign, ";") => Ok(Read::Fits(List::new(alloc), 1)),
-        [sign, rest @ ..] if takes_values(section) && is_sign(sign, ":=") => {
+        [sign, rest @ ..] if takes_values(kind, section) && is_sign(sign, ":=") => {
             further(1, initial_at(alloc, in_array, rest)?)
         }
         _ => Ok(Read::No),

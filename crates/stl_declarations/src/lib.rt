@@ -9,16 +9,16 @@
 //! that fits no form, are not known here.
 #![tactic(auto)]
 
-pub use declaration::{declaration_at, ends_level, has_number, is_user_type, left_of, open_level};
+pub use declaration::{
+    declaration_at, elementary_type, ends_level, is_user_type, left_of, open_level, type_kind,
+};
 pub use declared::{put_closed, put_type};
-pub use elements::{begins_with_sign, begins_with_word};
 pub use initial::{ending_at, path_value_at};
 pub use section::section_at;
 pub use words::is_listed;
 
 mod declaration;
 mod declared;
-mod elements;
 mod initial;
 mod section;
 mod words;

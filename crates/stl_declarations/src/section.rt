@@ -1,6 +1,6 @@
 //! Sections of declarations: which one a word opens, what may be in it, and the word that ends it.
 ghost use Rattle.std.specs.Prelude.{◌≡◌};
-ghost use Rattle.stl_grammar.specs.Sections.{end_of_section, formal_section, has_section, inner_section, is_later, may_open, rank_of, section_at, section_named, takes_dates, takes_values};
+ghost use Rattle.stl_grammar.specs.Sections.{end_of_section, formal_section, has_section, inner_section, is_formal, is_later, may_open, rank_of, section_at, section_named, takes_dates, takes_values};
 
 use s7_base::Token;
 use stl_constants::is_word;
@@ -52,8 +52,13 @@ fn has_section(kind: BlockKind, section: Section) -> bool
     ensures { result ≡ has_section kind section }
 {
     match kind {
+        BlockKind::Ob => matches!(section, Section::Temp),
+        BlockKind::Fc => matches!(
+            section,
+            Section::Input | Section::Output | Section::InOut | Section::Temp
+        ),
+        BlockKind::Fb => !matches!(section, Section::Own),
         BlockKind::Db => matches!(section, Section::Own),
-        BlockKind::Ob | BlockKind::Fc | BlockKind::Fb => matches!(section, Section::Temp),
     }
 }
 
@@ -98,13 +103,20 @@ pub fn section_at(kind: BlockKind, before: Option<Section>, word: &Token) -> Opt
     }
 }
 
-/// Whether the declarations of a section may have initial values.
-pub fn takes_values(section: Section) -> bool
-    ensures { result ≡ takes_values section }
+/// Whether a section is one of formals.
+pub fn is_formal(section: Section) -> bool
+    ensures { result ≡ is_formal section }
 {
-    match section {
-        Section::Temp => false,
-        Section::Input | Section::Output | Section::InOut | Section::Static | Section::Own => true,
+    matches!(section, Section::Input | Section::Output | Section::InOut)
+}
+
+/// Whether the declarations of a section in a block of this kind may have initial values.
+pub fn takes_values(kind: BlockKind, section: Section) -> bool
+    ensures { result ≡ takes_values kind section }
+{
+    match kind {
+        BlockKind::Fc => false,
+        BlockKind::Ob | BlockKind::Fb | BlockKind::Db => !matches!(section, Section::Temp),
     }
 }
 

@@ -1,2 +1,3 @@
+mod BlockCases
 pub mod ItemCases
 pub mod Skipping

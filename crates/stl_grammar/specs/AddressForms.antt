@@ -7,7 +7,7 @@ use Rattle.memory_areas.specs.declared.place.AreaName.{AreaName}
 use Rattle.s7_base.specs.Tokens.{is_blank, is_same_word}
 use Rattle.s7_base.specs.declared.word.Width.{Width}
 use Rattle.s7_base.specs.declared.word.Width.TheVariants as width
-use Rattle.stl_grammar.specs.Headings.{kind_word}
+use Rattle.stl_statement_grammar.specs.BlockNames.{kind_word}
 use Rattle.stl_grammar.specs.Symbols.{area_by, place_of, width_by}
 use Rattle.stl_tree.specs.declared.raw.BlockKind.{BlockKind}
 use Rattle.stl_tree.specs.declared.raw.SymbolAddress.{SymbolAddress}

@@ -1,18 +1,20 @@
 -- Declarations, form by form: what each is, and which begin with something that is left out.
-use Rattle.std.specs.Prelude.{◌≡◌, ℕ, suc, ℤ, true, false, List, [], ◌∷◌, ◌++◌, length, codes}
+use Rattle.std.specs.Prelude.{◌≡◌, ℕ, suc, ℤ, Bool, true, false, ◌&&◌, ◌||◌, List, [], ◌∷◌, ◌++◌, length, codes}
 use Rattle.s7_base.specs.declared.reason.Kind.{Kind}
 use Rattle.s7_base.specs.declared.reason.Kind.TheVariants as kind
 use Rattle.s7_base.specs.declared.token.Token.{Token}
-use Rattle.stl_grammar.specs.Declarations.{alone, in_array, is_user_type, pointer_types, time_types, with_array, with_initial}
+use Rattle.stl_grammar.specs.Declarations.{alone, begins_complex, in_array, is_struct, is_user_type, pointer_types, time_types, with_array, with_initial}
 use Rattle.stl_grammar.specs.InitialForms.{IsEnding, LeavesOutEnding}
 use Rattle.stl_statement_grammar.specs.ListForms.{AreElements}
 use Rattle.stl_grammar.specs.declared.declaration.Innermost.{Innermost}
 use Rattle.stl_grammar.specs.declared.declaration.Innermost.TheVariants as inner
-use Rattle.stl_grammar.specs.Sections.{takes_dates}
+use Rattle.stl_grammar.specs.Sections.{is_formal, takes_dates}
 use Rattle.stl_grammar.specs.declared.declaration.Section.{Section}
 use Rattle.stl_grammar.specs.declared.declaration.Written.{Written}
 use Rattle.stl_statement_grammar.specs.PathForms.{IsWhole}
 use Rattle.stl_statement_grammar.specs.Words.{is_sign, is_word, is_word_among, is_word_kind}
+use Rattle.stl_statement_grammar.specs.BlockNames.{has_number}
+use Rattle.stl_tree.specs.declared.raw.BlockKind.{BlockKind}
 use Rattle.stl_tree.specs.declared.raw.ElemType.{ElemType}
 use Rattle.stl_tree.specs.declared.raw.ElemType.TheVariants as elem
 use Rattle.stl_tree.specs.declared.raw.InitialItem.{InitialItem}
@@ -53,18 +55,24 @@ pub data IsType : ℕ → List Token → Written → Type 0 where
       is_word (codes "ARRAY") word ≡ true → AreDims front dims → IsType left rest type
       → IsType (suc left) (word ∷ (front ++ rest)) (with_array dims type)
 
--- tokens begin with a type of a kind that is not supported, or with an array of one
+-- a word, before other tokens, is a type of a kind that is not supported
+pub data IsLeftOut : Token → List Token → Kind → Type 0 where
+  real : (word : Token) (rest : List Token) → is_word (codes "REAL") word ≡ true → IsLeftOut word rest kind.Real
+  pointer : (word : Token) (rest : List Token) →
+      is_word_among pointer_types word ≡ true → IsLeftOut word rest kind.PointerType
+  string : (word : Token) (rest : List Token) → is_word (codes "STRING") word ≡ true
+      → IsLeftOut word rest kind.StringType
+  time : (word : Token) (rest : List Token) → is_word_among time_types word ≡ true → IsLeftOut word rest kind.DateTime
+  user : (word : Token) (rest : List Token) → is_user_type word rest ≡ true → IsLeftOut word rest kind.UserType
+
+-- tokens begin with a type of a variable of a kind that is not supported, or with an array of one
 pub data LeavesOutType : ℕ → List Token → Kind → Type 0 where
-  real : (left : ℕ) (word : Token) (rest : List Token)
-      → is_word (codes "REAL") word ≡ true → LeavesOutType left (word ∷ rest) kind.Real
-  pointer : (left : ℕ) (word : Token) (rest : List Token) →
-      is_word_among pointer_types word ≡ true → LeavesOutType left (word ∷ rest) kind.PointerType
-  string : (left : ℕ) (word : Token) (rest : List Token) →
-      is_word (codes "STRING") word ≡ true → LeavesOutType left (word ∷ rest) kind.StringType
-  time : (left : ℕ) (word : Token) (rest : List Token) →
-      is_word_among time_types word ≡ true → LeavesOutType left (word ∷ rest) kind.DateTime
-  user : (left : ℕ) (word : Token) (rest : List Token) → is_user_type word rest ≡ true
-      → LeavesOutType left (word ∷ rest) kind.UserType
+  left_out : (left : ℕ) (word : Token) (rest : List Token) (k : Kind) → IsLeftOut word rest k
+      → LeavesOutType left (word ∷ rest) k
+  instance : (left : ℕ) (word : Token) (rest : List Token) → has_number (codes "FB") word rest ≡ true
+      → LeavesOutType left (word ∷ rest) kind.MultiInstance
+  of_system : (left : ℕ) (word : Token) (rest : List Token) → has_number (codes "SFB") word rest ≡ true
+      → LeavesOutType left (word ∷ rest) kind.SystemCall
   array_of : (left : ℕ) (word : Token) (front rest : List Token) (dims : List (ℤ × ℤ)) (k : Kind) →
       is_word (codes "ARRAY") word ≡ true → AreDims front dims → LeavesOutType left rest k
       → LeavesOutType (suc left) (word ∷ (front ++ rest)) k
@@ -78,32 +86,45 @@ HasEnd section (inner.Elementary type) = Unit {0}
 HasEnd section inner.DateAndTime = takes_dates section ≡ true
 HasEnd section inner.Struct = ⊥
 
+-- a type may be one of a section: a formal has no ARRAY and no STRUCT
+abbrev pub is_complex : Written → Bool
+is_complex type = in_array (length type.arrays) || is_struct type.innermost
+
+abbrev pub MayBeOf : Section → Written → Type 0
+MayBeOf section type = (is_formal section && is_complex type) ≡ false
+
 -- a declaration begins with a name and a colon
 pub record BeginsDeclaration (name colon : Token) : Type 0 where
   pub name_is : is_word_kind name.kind ≡ true
   pub colon_is : is_sign (codes ":") colon ≡ true
 
--- the tokens after a name are a declaration of a section that opens this many levels at most: a type and what ends
--- it, or the type alone where the members of a STRUCT follow
-pub data IsDeclaration (section : Section) (left : ℕ) (name : Token) : List Token → Written → Type 0 where
+-- the tokens after a name are a declaration of a section, in a block of a kind, that opens this many levels at most: a
+-- type and what ends it, or the type alone where the members of a STRUCT follow
+pub data IsDeclaration (of : BlockKind) (section : Section) (left : ℕ) (name : Token)
+    : List Token → Written → Type 0 where
   variable : (colon : Token) (front rest : List Token) (type : Written) (items : List InitialItem) →
-      BeginsDeclaration name colon → IsType left front type → HasEnd section type.innermost
-      → IsEnding section (in_array (length type.arrays)) rest items
-      → IsDeclaration section left name (colon ∷ (front ++ rest)) (with_initial type items)
+      BeginsDeclaration name colon → IsType left front type → MayBeOf section type → HasEnd section type.innermost
+      → IsEnding of section (in_array (length type.arrays)) rest items
+      → IsDeclaration of section left name (colon ∷ (front ++ rest)) (with_initial type items)
   struct_head : (colon : Token) (front : List Token) (type : Written) →
-      BeginsDeclaration name colon → IsType left front type → type.innermost ≡ inner.Struct
-      → IsDeclaration section left name (colon ∷ front) type
+      BeginsDeclaration name colon → IsType left front type → MayBeOf section type → type.innermost ≡ inner.Struct
+      → IsDeclaration of section left name (colon ∷ front) type
 
--- the tokens after a name begin a declaration with a type or a value of a kind that is not supported; DATE_AND_TIME
--- is one where the section does not take it
-pub data LeavesOutDeclaration (section : Section) (left : ℕ) (name : Token) : List Token → Kind → Type 0 where
-  in_type : (colon : Token) (rest : List Token) (k : Kind) →
-      BeginsDeclaration name colon → LeavesOutType left rest k → LeavesOutDeclaration section left name (colon ∷ rest) k
+-- the tokens after a name begin a declaration with a type or a value of a kind that is not supported: an ARRAY or a
+-- STRUCT of formals, and DATE_AND_TIME where the section does not take it
+pub data LeavesOutDeclaration (of : BlockKind) (section : Section) (left : ℕ) (name : Token)
+    : List Token → Kind → Type 0 where
+  complex_formal : (colon : Token) (rest : List Token) →
+      BeginsDeclaration name colon → is_formal section ≡ true → begins_complex rest ≡ true
+      → LeavesOutDeclaration of section left name (colon ∷ rest) kind.ComplexParameter
+  in_type : (colon : Token) (rest : List Token) (k : Kind)
+      → BeginsDeclaration name colon → (is_formal section && begins_complex rest) ≡ false
+      → LeavesOutType left rest k → LeavesOutDeclaration of section left name (colon ∷ rest) k
   with_date : (colon : Token) (front rest : List Token) (type : Written)
-      → BeginsDeclaration name colon → IsType left front type
+      → BeginsDeclaration name colon → IsType left front type → MayBeOf section type
       → type.innermost ≡ inner.DateAndTime → takes_dates section ≡ false
-      → LeavesOutDeclaration section left name (colon ∷ (front ++ rest)) kind.DateTime
+      → LeavesOutDeclaration of section left name (colon ∷ (front ++ rest)) kind.DateTime
   in_ending : (colon : Token) (front rest : List Token) (type : Written) (k : Kind) →
-      BeginsDeclaration name colon → IsType left front type → HasEnd section type.innermost
-      → LeavesOutEnding section (in_array (length type.arrays)) rest k
-      → LeavesOutDeclaration section left name (colon ∷ (front ++ rest)) k
+      BeginsDeclaration name colon → IsType left front type → MayBeOf section type → HasEnd section type.innermost
+      → LeavesOutEnding of section (in_array (length type.arrays)) rest k
+      → LeavesOutDeclaration of section left name (colon ∷ (front ++ rest)) k

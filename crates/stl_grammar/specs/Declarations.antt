@@ -1,7 +1,8 @@
 -- Declarations as they are written. A declaration is a name, a type with its arrays and STRUCTs, initial values, and
 -- what ends them.
 -- Held against: this project's own source form.
-use Rattle.std.specs.Prelude.{ℕ, zero, suc, ◌+◌, ◌-◌, ℤ, Bool, false, ◌&&◌, ◌||◌, nat_lt, if◌then◌else◌, List, [], ◌∷◌, length, drop, codes, Option, Some, None}
+use Rattle.std.specs.Prelude.{ℕ, zero, suc, ◌+◌, ◌-◌, ℤ, Bool, true, false, ◌&&◌, ◌||◌, nat_lt, if◌then◌else◌, List, [], ◌∷◌, length, drop, codes, Option, Some, None}
+use Rattle.std.specs.Option.{option_or}
 use Rattle.s7_base.specs.declared.reason.Kind.{Kind}
 use Rattle.s7_base.specs.declared.reason.Kind.TheVariants as kind
 use Rattle.s7_base.specs.declared.reason.Line.{Line}
@@ -11,16 +12,16 @@ use Rattle.stl_grammar.specs.Initials.{ending_at}
 use Rattle.stl_grammar.specs.declared.declaration.Innermost.{Innermost}
 use Rattle.stl_grammar.specs.declared.declaration.Innermost.TheVariants as inner
 use Rattle.stl_grammar.specs.declared.declaration.Level.{Level}
-use Rattle.stl_grammar.specs.Sections.{end_of_section, takes_dates}
+use Rattle.stl_grammar.specs.Sections.{end_of_section, is_formal, takes_dates}
 use Rattle.stl_grammar.specs.declared.declaration.Section.{Section}
 use Rattle.stl_grammar.specs.declared.declaration.Written.{Written}
-use Rattle.digit_texts.specs.Digits.{are_digits}
 use Rattle.stl_statement_grammar.specs.Paths.{whole_at}
 use Rattle.stl_statement_grammar.specs.Readers.{further, read_as}
-use Rattle.stl_statement_grammar.specs.Statements.{is_numbered}
+use Rattle.stl_statement_grammar.specs.BlockNames.{has_number}
 use Rattle.stl_statement_grammar.specs.Words.{is_word, is_sign, is_word_kind, is_word_among}
 use Rattle.stl_statement_grammar.specs.declared.mnemonic.Read.{Read}
 use Rattle.stl_statement_grammar.specs.declared.mnemonic.Read.TheVariants.{Fits, LeftOut, No}
+use Rattle.stl_tree.specs.declared.raw.BlockKind.{BlockKind}
 use Rattle.stl_tree.specs.declared.raw.ElemType.{ElemType}
 use Rattle.stl_tree.specs.declared.raw.ElemType.TheVariants as elem
 use Rattle.stl_tree.specs.declared.raw.InitialItem.{InitialItem}
@@ -77,6 +78,10 @@ wide_type word =
     else if is_word (codes "DINT") word then Some elem.Dint
     else None
 
+-- an elementary type
+abbrev pub elementary_type : Token → Option ElemType
+elementary_type word = option_or (small_type word) (wide_type word)
+
 -- the types of pointers, which are not supported
 abbrev pub pointer_types : List (List ℕ)
 pointer_types =
@@ -86,15 +91,6 @@ pointer_types =
 -- the types of times and dates, which are not supported
 abbrev pub time_types : List (List ℕ)
 time_types = codes "TIME" ∷ codes "S5TIME" ∷ codes "DATE" ∷ codes "TIME_OF_DAY" ∷ []
-
--- the tokens begin with a number
-abbrev pub begins_with_number : List Token → Bool
-begins_with_number [] = false
-begins_with_number (first ∷ rest) = is_word_kind first.kind && are_digits first.text
-
--- the tokens are a word with a number, `UDT 5` or `UDT5`
-abbrev pub has_number : List ℕ → Token → List Token → Bool
-has_number word first rest = (is_word word first && begins_with_number rest) || is_numbered word first
 
 -- the tokens are a user-defined type, by its number
 abbrev pub is_user_type : Token → List Token → Bool
@@ -110,6 +106,17 @@ type_kind first rest =
     else if is_user_type first rest then Some kind.UserType
     else None
 
+-- the kind of an instance that is a variable: of a function block, or of a block of the system
+abbrev pub instance_kind : Token → List Token → Option Kind
+instance_kind first rest =
+    if has_number (codes "FB") first rest then Some kind.MultiInstance
+    else if has_number (codes "SFB") first rest then Some kind.SystemCall
+    else None
+
+-- the kind of a variable's type that is not supported
+abbrev pub variable_kind : Token → List Token → Option Kind
+variable_kind first rest = option_or (type_kind first rest) (instance_kind first rest)
+
 -- a type without arrays
 abbrev pub alone : Innermost → Written
 alone what = record { arrays = []; innermost = what; initial = [] }
@@ -118,19 +125,15 @@ abbrev pub left_out_type : Option Kind → Read Written
 left_out_type None = No
 left_out_type (Some kind) = LeftOut kind
 
-abbrev pub wide_or_left_out : Option ElemType → Option Kind → Read Written
-wide_or_left_out (Some type) kind = Fits (alone (inner.Elementary type)) 1
-wide_or_left_out None kind = left_out_type kind
-
-abbrev pub small_or_other : Option ElemType → Read Written → Read Written
-small_or_other (Some type) other = Fits (alone (inner.Elementary type)) 1
-small_or_other None other = other
+abbrev pub elementary_or : Option ElemType → Option Kind → Read Written
+elementary_or (Some type) kind = Fits (alone (inner.Elementary type)) 1
+elementary_or None kind = left_out_type kind
 
 -- the type of one word at a place, by its first token
 abbrev pub one_word : Token → List Token → Read Written
 one_word first rest =
     if is_word (codes "DATE_AND_TIME") first then Fits (alone inner.DateAndTime) 1
-    else small_or_other (small_type first) (wide_or_left_out (wide_type first) (type_kind first rest))
+    else elementary_or (elementary_type first) (variable_kind first rest)
 
 abbrev pub one_word_at : List Token → Read Written
 one_word_at [] = No
@@ -163,32 +166,48 @@ type_at (suc left) tokens = opening_type (λ behind. type_at left behind) tokens
 abbrev pub with_initial : Written → List InitialItem → Written
 with_initial type items = record type { initial = items }
 
+-- a type is a STRUCT inside its arrays
+abbrev pub is_struct : Innermost → Bool
+is_struct inner.Struct = true
+is_struct other = false
+
 -- the number of arrays is not 0
 abbrev pub in_array : ℕ → Bool
 in_array arrays = nat_lt 0 arrays
 
 -- a declaration of a section by its type; one of a STRUCT has its members and its end after this, and DATE_AND_TIME
 -- is not supported where the section does not take it
-abbrev pub closed_by : Section → Innermost → Written → ℕ → List Token → Read Written
-closed_by section inner.Struct type size behind = Fits type size
-closed_by section inner.DateAndTime type size behind =
+abbrev pub closed_by : BlockKind → Section → Innermost → Written → ℕ → List Token → Read Written
+closed_by of section inner.Struct type size behind = Fits type size
+closed_by of section inner.DateAndTime type size behind =
     if takes_dates section
-    then further size (read_as (with_initial type) (ending_at section (in_array (length type.arrays)) behind))
+    then further size (read_as (with_initial type) (ending_at of section (in_array (length type.arrays)) behind))
     else LeftOut kind.DateTime
-closed_by section (inner.Elementary its) type size behind =
-    further size (read_as (with_initial type) (ending_at section (in_array (length type.arrays)) behind))
+closed_by of section (inner.Elementary its) type size behind =
+    further size (read_as (with_initial type) (ending_at of section (in_array (length type.arrays)) behind))
 
-abbrev pub closed_behind : Section → List Token → Read Written → Read Written
-closed_behind section tokens No = No
-closed_behind section tokens (LeftOut kind) = LeftOut kind
-closed_behind section tokens (Fits type size) = closed_by section type.innermost type size (drop size tokens)
+abbrev pub closed_behind : BlockKind → Section → List Token → Read Written → Read Written
+closed_behind of section tokens No = No
+closed_behind of section tokens (LeftOut kind) = LeftOut kind
+closed_behind of section tokens (Fits type size) = closed_by of section type.innermost type size (drop size tokens)
 
--- the declaration of a section, after its name, at a place where at most this many levels may be opened
-abbrev pub declaration_at : Section → ℕ → Token → List Token → Read Written
-declaration_at section left name [] = No
-declaration_at section left name (colon ∷ rest) =
+-- the tokens begin with an ARRAY or a STRUCT
+abbrev pub begins_complex : List Token → Bool
+begins_complex tokens = begins_with_word (codes "ARRAY") tokens || begins_with_word (codes "STRUCT") tokens
+
+-- the type of a declaration of a section, where at most this many levels may be opened: formals are elementary, and an
+-- ARRAY or a STRUCT is not supported there
+abbrev pub type_in : Section → ℕ → List Token → Read Written
+type_in section left tokens =
+    if is_formal section && begins_complex tokens then LeftOut kind.ComplexParameter else type_at left tokens
+
+-- the declaration of a section in a block of a kind, after its name, at a place where at most this many levels may be
+-- opened
+abbrev pub declaration_at : BlockKind → Section → ℕ → Token → List Token → Read Written
+declaration_at of section left name [] = No
+declaration_at of section left name (colon ∷ rest) =
     if is_word_kind name.kind && is_sign (codes ":") colon
-    then further 1 (closed_behind section rest (type_at left rest))
+    then further 1 (closed_behind of section rest (type_in section left rest))
     else No
 
 -- Levels

@@ -1,42 +1,42 @@
 -- The grammar of a source text: the forms of items, as a relation with a case each, and the texts that are
 -- items up to their end.
-use Rattle.std.specs.Prelude.{◌≡◌, ℕ, Bool, true, false, ◌||◌, if◌then◌else◌, List, [], ◌∷◌, ◌++◌, length, drop, codes, Some, None, Ok, Err}
+use Rattle.std.specs.Prelude.{◌≡◌, ℕ, ◌+◌, Bool, true, false, List, [], ◌∷◌, ◌++◌, length, drop, codes, Option, Some, None, Ok, Err}
 use Rattle.s7_base.specs.declared.reason.Kind.{Kind}
-use Rattle.s7_base.specs.declared.reason.Kind.TheVariants.{NotBuilt, SystemCall, UserType}
+use Rattle.s7_base.specs.declared.reason.Kind.TheVariants.{DateTime, SystemCall, UserType}
 use Rattle.s7_base.specs.declared.reason.Line.{Line}
 use Rattle.s7_base.specs.declared.reason.Reason.{Reason}
 use Rattle.s7_base.specs.declared.reason.Reason.TheVariants.{BadStatement, Unsupported}
 use Rattle.s7_base.specs.declared.reason.Rejection.TheVariants.{Refused}
 use Rattle.s7_base.specs.declared.token.Token.{Token}
-use Rattle.stl_grammar.specs.Items.{begins_body, begins_with_name, body_of, is_complete, is_data, is_end, is_instance, is_not_built, is_semicolon, is_skipped_alone, item_at, misfit_line, statement_at, statement_reason, statement_size}
+use Rattle.stl_grammar.specs.Items.{begins_body, body_of, is_complete, is_data, is_end, is_semicolon, is_skipped_alone, item_at, misfit_line, statement_at, statement_size}
 use Rattle.stl_grammar.specs.AddressForms.{IsAddress}
-use Rattle.stl_grammar.specs.DeclarationForms.{IsDeclaration, LeavesOutDeclaration}
-use Rattle.stl_grammar.specs.Declarations.{ends_level, has_number, is_user_type, left_of, levels_behind}
+use Rattle.stl_grammar.specs.DeclarationForms.{IsDeclaration, IsLeftOut, LeavesOutDeclaration, elem_word}
+use Rattle.stl_grammar.specs.Declarations.{ends_level, is_user_type, left_of, levels_behind}
 use Rattle.stl_grammar.specs.InitialForms.{IsEnding, IsInitial, LeavesOutEnding, LeavesOutInitial}
 use Rattle.stl_grammar.specs.declared.declaration.Level.{Level}
 use Rattle.stl_grammar.specs.Sections.{is_own, may_open, section_word}
 use Rattle.stl_grammar.specs.declared.declaration.Section.{Section}
 use Rattle.stl_grammar.specs.declared.declaration.Section.TheVariants as part
 use Rattle.stl_grammar.specs.declared.declaration.Written.{Written}
-use Rattle.stl_grammar.specs.Headings.{heading_kind, is_behind, is_heading_cut_off, is_skipped, kind_word, size_on}
-use Rattle.digit_texts.specs.Digits.{kept_number}
-use Rattle.stl_statement_grammar.specs.Paths.{number_word}
+use Rattle.stl_grammar.specs.Headings.{heading_kind, is_behind, is_skipped, size_on}
 use Rattle.stl_grammar.specs.Symbols.{ends_table, is_next, symbol_with, trimmed_field}
-use Rattle.stl_statement_grammar.specs.Statements.{begins_with_label, instruction_of, is_numbered}
-use Rattle.stl_statement_grammar.specs.Words.{is_word, is_quoted_kind}
+use Rattle.stl_statement_grammar.specs.BlockNames.{has_number, kind_word}
+use Rattle.stl_statement_grammar.specs.CallForms.{IsName}
+use Rattle.stl_statement_grammar.specs.Statements.{instruction_of}
+use Rattle.stl_statement_grammar.specs.Words.{is_quoted_kind, is_sign, is_word}
 use Rattle.stl_grammar.specs.declared.item.NextItem.{NextItem}
 use Rattle.stl_grammar.specs.declared.item.NextItem.TheVariants.{Fits, Misfit, Ended}
 use Rattle.stl_grammar.specs.declared.item.Item.{Item}
-use Rattle.stl_grammar.specs.declared.item.Item.TheVariants.{Opens, Mark, Starts, Symbol, Declares, Closes, Instr, Initial, Ends}
+use Rattle.stl_grammar.specs.declared.item.Item.TheVariants.{Opens, Mark, Starts, Symbol, Declares, InstanceOf, Closes, Instr, Initial, Ends}
 use Rattle.stl_grammar.specs.declared.item.Where.{Where}
 use Rattle.stl_grammar.specs.declared.item.Where.TheVariants.{Start, Table, Between, Heading, Inside, Behind, Body, Values}
 use Rattle.stl_tree.specs.declared.raw.BlockKind.{BlockKind}
 use Rattle.stl_tree.specs.declared.raw.BlockKind.TheVariants as block
+use Rattle.stl_tree.specs.declared.raw.ElemType.{ElemType}
 use Rattle.stl_tree.specs.declared.raw.InitialItem.{InitialItem}
 use Rattle.stl_tree.specs.declared.raw.RawInitial.{RawInitial}
 use Rattle.stl_tree.specs.declared.raw.RawInstr.{RawInstr}
 use Rattle.stl_tree.specs.declared.raw.RawName.{RawName}
-use Rattle.stl_tree.specs.declared.raw.RawName.TheVariants.{Number, Name}
 use Rattle.stl_tree.specs.declared.raw.SymbolAddress.{SymbolAddress}
 
 -- Items
@@ -52,15 +52,17 @@ abbrev pub last_line : Line → List Token → Line
 last_line line [] = line
 last_line line (first ∷ rest) = last_line first.line rest
 
--- the name of a block of this kind: a name in quotes, `OB 1` or `OB1`
-pub data IsName : List ℕ → List Token → RawName → Type 0 where
-  quoted : (kind : List ℕ) (word : Token) → is_quoted_kind word.kind ≡ true → IsName kind (word ∷ []) (Name word.text)
-  apart : (kind : List ℕ) (word number : Token) (n : ℕ) →
-      is_quoted_kind word.kind ≡ false → is_word kind word ≡ true → number_word number ≡ Some n
-      → IsName kind (word ∷ number ∷ []) (Number n)
-  together : (kind : List ℕ) (word : Token) (n : ℕ) →
-      is_quoted_kind word.kind ≡ false → is_word kind word ≡ false → is_numbered kind word ≡ true
-      → kept_number (drop (length kind) word.text) ≡ Some n → IsName kind (word ∷ []) (Number n)
+-- the type of a function: VOID, or an elementary type
+pub data IsResult : Token → Option ElemType → Type 0 where
+  no_result : (word : Token) → is_word (codes "VOID") word ≡ true → IsResult word None
+  elementary_result : (word : Token) (type : ElemType)
+      → is_word (elem_word type) word ≡ true → IsResult word (Some type)
+
+-- tokens begin with the type of a function that is of a kind that is not supported
+pub data LeavesOutResult : Token → List Token → Kind → Type 0 where
+  date_result : (word : Token) (rest : List Token) →
+      is_word (codes "DATE_AND_TIME") word ≡ true → LeavesOutResult word rest DateTime
+  other_result : (word : Token) (rest : List Token) (k : Kind) → IsLeftOut word rest k → LeavesOutResult word rest k
 
 -- the tokens from a place on begin with an item, which takes this many tokens after its first; and the place of the
 -- next item
@@ -69,8 +71,14 @@ pub data IsForm : Where → List Token → Item → ℕ → Where → Type 0 whe
       → MayOpen place → heading_kind first ≡ Some kind → IsName (kind_word kind) names name
       → IsForm place (first ∷ (names ++ rest)) (Opens first.line kind name None) (length names)
       (Heading kind (last_line first.line names))
+  function : (place : Where) (first : Token) {names : List Token} (colon type : Token) (rest : List Token)
+      {name : RawName} {result : Option ElemType}
+      → MayOpen place → is_word (codes "FUNCTION") first ≡ true → IsName (codes "FC") names name
+      → is_sign (codes ":") colon ≡ true → IsResult type result
+      → IsForm place (first ∷ (names ++ (colon ∷ type ∷ rest))) (Opens first.line block.Fc name result)
+      (length names + 2) (Heading block.Fc type.line)
   table : (first : Token) (rest : List Token)
-      → heading_kind first ≡ None → is_word (codes "SYMBOL_TABLE") first ≡ true
+      → is_word (codes "SYMBOL_TABLE") first ≡ true
       → IsForm Start (first ∷ rest) Mark 0 (Table first.line)
   symbol : (line : Line) (name a its b type c comment : Token) (rest : List Token) (address : SymbolAddress) →
       ends_table line name (a ∷ its ∷ b ∷ type ∷ c ∷ comment ∷ rest) ≡ false → is_behind line name ≡ true
@@ -90,6 +98,10 @@ pub data IsForm : Where → List Token → Item → ℕ → Where → Type 0 whe
       is_skipped line first rest ≡ false → begins_body kind first ≡ false → is_word (section_word its) first ≡ true
       → may_open kind None its ≡ true
       → IsForm (Heading kind line) (first ∷ rest) (Starts its) 0 (Inside kind its [])
+  instance : (line : Line) (first : Token) (names rest : List Token) (name : RawName) →
+      is_skipped line first (names ++ rest) ≡ false → IsName (codes "FB") (first ∷ names) name
+      → IsForm (Heading block.Db line) (first ∷ (names ++ rest)) (InstanceOf name) (length names)
+      (Behind block.Db part.Own)
   section_end : (kind : BlockKind) (its : Section) (first : Token) (rest : List Token) →
       is_own its ≡ false → is_word (codes "END_VAR") first ≡ true
       → IsForm (Inside kind its []) (first ∷ rest) Mark 0 (Behind kind its)
@@ -99,12 +111,12 @@ pub data IsForm : Where → List Token → Item → ℕ → Where → Type 0 whe
   struct_end : (kind : BlockKind) (its : Section) (level : Level)
       (levels : List Level) (first : Token) (front rest : List Token)
       (items : List InitialItem) →
-      is_word (codes "END_STRUCT") first ≡ true → IsEnding its level.in_array front items
+      is_word (codes "END_STRUCT") first ≡ true → IsEnding kind its level.in_array front items
       → IsForm (Inside kind its (level ∷ levels)) (first ∷ (front ++ rest))
       (Closes items) (length front) (Inside kind its levels)
   declaration : (kind : BlockKind) (its : Section) (levels : List Level)
       (name : Token) (front rest : List Token) (type : Written)
-      → ends_level its levels name ≡ false → IsDeclaration its (left_of levels) name front type
+      → ends_level its levels name ≡ false → IsDeclaration kind its (left_of levels) name front type
       → IsForm (Inside kind its levels) (name ∷ (front ++ rest)) (Declares name.text name.line type) (length front)
       (Inside kind its (levels_behind levels name.line type.innermost (length type.arrays)))
   begin_behind : (kind : BlockKind) (before : Section) (first : Token) (rest : List Token) →
@@ -131,53 +143,31 @@ pub data IsForm : Where → List Token → Item → ℕ → Where → Type 0 whe
 
 -- What is refused
 
--- an item has a form of a kind that is not supported: a user-defined type where a block may open, a data block by
--- such a type or by a block of the system, or a complete declaration, end of a STRUCT or initial value with something
--- unsupported in it
+-- an item has a form of a kind that is not supported: a user-defined type where a block may open, a function by its
+-- type, a data block by such a type or by a block of the system, or a complete declaration, end of a STRUCT or initial
+-- value with something unsupported in it
 pub data LeavesOutForm : Where → List Token → Kind → Type 0 where
   user_type : (place : Where) (first : Token) (rest : List Token) →
       MayOpen place → is_word (codes "TYPE") first ≡ true → LeavesOutForm place (first ∷ rest) UserType
+  function_of_a_type : (place : Where) (first : Token) (names : List Token) (colon type : Token) (rest : List Token)
+      (name : RawName) (k : Kind)
+      → MayOpen place → is_word (codes "FUNCTION") first ≡ true → IsName (codes "FC") names name
+      → is_sign (codes ":") colon ≡ true → LeavesOutResult type rest k
+      → LeavesOutForm place (first ∷ (names ++ (colon ∷ type ∷ rest))) k
   data_of_a_type : (line : Line) (first : Token) (rest : List Token) →
       is_user_type first rest ≡ true → LeavesOutForm (Heading block.Db line) (first ∷ rest) UserType
   data_of_the_system : (line : Line) (first : Token) (rest : List Token) →
       has_number (codes "SFB") first rest ≡ true → LeavesOutForm (Heading block.Db line) (first ∷ rest) SystemCall
   in_a_declaration : (kind : BlockKind) (its : Section)
       (levels : List Level) (name : Token) (rest : List Token) (k : Kind)
-      → ends_level its levels name ≡ false → LeavesOutDeclaration its (left_of levels) name rest k
+      → ends_level its levels name ≡ false → LeavesOutDeclaration kind its (left_of levels) name rest k
       → is_complete (name ∷ rest) ≡ true → LeavesOutForm (Inside kind its levels) (name ∷ rest) k
   at_a_struct_end : (kind : BlockKind) (its : Section) (level : Level)
       (levels : List Level) (first : Token) (rest : List Token) (k : Kind)
-      → is_word (codes "END_STRUCT") first ≡ true → LeavesOutEnding its level.in_array rest k
+      → is_word (codes "END_STRUCT") first ≡ true → LeavesOutEnding kind its level.in_array rest k
       → is_complete (first ∷ rest) ≡ true → LeavesOutForm (Inside kind its (level ∷ levels)) (first ∷ rest) k
   in_a_value : (first : Token) (rest : List Token) (k : Kind) →
       LeavesOutInitial (first ∷ rest) k → is_complete (first ∷ rest) ≡ true → LeavesOutForm Values (first ∷ rest) k
-
--- the tokens begin with a function block, of which a data block would be an instance
-abbrev pub begins_with_instance : List Token → Bool
-begins_with_instance [] = false
-begins_with_instance (first ∷ rest) = is_instance first rest
-
--- the tokens begin with the word that ends declarations, or with a name and a colon
-abbrev pub begins_inside : Section → List Level → List Token → Bool
-begins_inside section levels [] = false
-begins_inside section levels (first ∷ rest) = ends_level section levels first || begins_with_name (first ∷ rest)
-
--- the item has a form that is not built yet, where it has no other. All forms of a data block are built.
-abbrev pub is_unbuilt : Where → List Token → Bool
-is_unbuilt Start tokens = is_not_built false (is_heading_cut_off tokens) tokens
-is_unbuilt (Table line) tokens = is_not_built false false tokens
-is_unbuilt Between tokens = is_not_built false (is_heading_cut_off tokens) tokens
-is_unbuilt (Heading kind line) tokens =
-    if is_data kind then begins_with_instance tokens else is_not_built false false tokens
-is_unbuilt (Inside kind section levels) tokens =
-    if begins_inside section levels tokens then false else is_not_built false false tokens
-is_unbuilt (Behind kind section) tokens = if is_data kind then false else is_not_built false false tokens
-is_unbuilt (Body kind) tokens = is_not_built (begins_with_label tokens) false tokens
-is_unbuilt Values tokens = false
-
--- why an item is refused that has no form, nor one of a kind that is not supported
-abbrev pub plain_reason : Where → List Token → Reason
-plain_reason place tokens = if is_unbuilt place tokens then Unsupported NotBuilt else BadStatement
 
 -- a complete statement is at a place in a body
 abbrev pub has_statement : Where → List Token → Bool
@@ -202,11 +192,11 @@ pub data IsItem : Line → Where → List Token → NextItem → Type 0 where
   no_instruction : {end its_line : Line} (kind : BlockKind) (first : Token) (rest : List Token) {reason : Reason} →
       is_skipped_alone first ≡ false → is_end kind first ≡ false → is_complete (first ∷ rest) ≡ true
       → instruction_of (statement_at (first ∷ rest)) ≡ Err (Refused its_line reason)
-      → IsItem end (Body kind) (first ∷ rest) (Misfit first.line (statement_reason (first ∷ rest) reason))
+      → IsItem end (Body kind) (first ∷ rest) (Misfit first.line reason)
   none : {end : Line} {place : Where} (first : Token) (rest : List Token) →
       HasNoForm place (first ∷ rest) → ((kind : Kind) → LeavesOutForm place (first ∷ rest) kind → ⊥)
       → has_statement place (first ∷ rest) ≡ false
-      → IsItem end place (first ∷ rest) (Misfit (misfit_line place first) (plain_reason place (first ∷ rest)))
+      → IsItem end place (first ∷ rest) (Misfit (misfit_line place first) BadStatement)
   at_start : {end : Line} → IsItem end Start [] Ended
   in_a_table : {end : Line} (line : Line) → IsItem end (Table line) [] (Misfit end BadStatement)
   behind_a_block : {end : Line} → IsItem end Between [] Ended

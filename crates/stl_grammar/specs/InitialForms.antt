@@ -17,6 +17,7 @@ use Rattle.stl_statement_grammar.specs.Pointers.{is_in_reach, value_of}
 use Rattle.stl_statement_grammar.specs.Words.{is_joined, is_sign, is_word}
 use Rattle.stl_statement_grammar.specs.declared.mnemonic.Prefix.{Prefix}
 use Rattle.stl_statement_grammar.specs.declared.mnemonic.Prefix.TheVariants as prefix
+use Rattle.stl_tree.specs.declared.raw.BlockKind.{BlockKind}
 use Rattle.stl_tree.specs.declared.raw.Constant.{Constant}
 use Rattle.stl_tree.specs.declared.raw.InitialItem.{InitialItem}
 use Rattle.stl_tree.specs.declared.raw.PathStep.{PathStep}
@@ -43,17 +44,18 @@ pub data IsLast : List Token → Constant → Type 0 where
   last : (front : List Token) (sign : Token) (c : Constant) →
       IsValue front c → is_sign (codes ";") sign ≡ true → IsLast (front ++ (sign ∷ [])) c
 
--- what ends a declaration of a section, given whether it has an array around it: `;`, or `:=` with a value or a list
--- before it, where the section takes initial values
-pub data IsEnding (section : Section) : Bool → List Token → List InitialItem → Type 0 where
+-- what ends a declaration of a section in a block of a kind, given whether it has an array around it: `;`, or `:=` with
+-- a value or a list before it, where the section takes initial values
+pub data IsEnding (of : BlockKind) (section : Section) : Bool → List Token → List InitialItem → Type 0 where
   nothing : (in_array : Bool) (sign : Token) → is_sign (codes ";") sign ≡ true
-      → IsEnding section in_array (sign ∷ []) []
+      → IsEnding of section in_array (sign ∷ []) []
   with_value : (assign : Token) (rest : List Token) (c : Constant) →
-      takes_values section ≡ true → is_sign (codes ":=") assign ≡ true → IsLast rest c
-      → IsEnding section false (assign ∷ rest) (once c ∷ [])
-  with_list : (assign : Token) (rest : List Token) (items : List InitialItem) →
-      takes_values section ≡ true → is_sign (codes ":=") assign ≡ true → AreElements IsListItem (codes ";") rest items
-      → IsEnding section true (assign ∷ rest) items
+      takes_values of section ≡ true → is_sign (codes ":=") assign ≡ true → IsLast rest c
+      → IsEnding of section false (assign ∷ rest) (once c ∷ [])
+  with_list : (assign : Token) (rest : List Token) (items : List InitialItem)
+      → takes_values of section ≡ true → is_sign (codes ":=") assign ≡ true
+      → AreElements IsListItem (codes ";") rest items
+      → IsEnding of section true (assign ∷ rest) items
 
 -- an initial value of a data block, on a line: `path := value;`
 pub data IsInitial (line : Line) : List Token → RawInitial → Type 0 where
@@ -85,14 +87,14 @@ pub data LeavesOutItem : List Token → Kind → Type 0 where
       → LeavesOutItem (number ∷ before ∷ rest) k
 
 -- a declaration ends with an initial value of a kind that is not supported
-pub data LeavesOutEnding (section : Section) : Bool → List Token → Kind → Type 0 where
+pub data LeavesOutEnding (of : BlockKind) (section : Section) : Bool → List Token → Kind → Type 0 where
   in_value : (assign : Token) (rest : List Token) (k : Kind) →
-      takes_values section ≡ true → is_sign (codes ":=") assign ≡ true → LeavesOutValue rest k
-      → LeavesOutEnding section false (assign ∷ rest) k
+      takes_values of section ≡ true → is_sign (codes ":=") assign ≡ true → LeavesOutValue rest k
+      → LeavesOutEnding of section false (assign ∷ rest) k
   in_list : (assign : Token) (rest : List Token) (k : Kind)
-      → takes_values section ≡ true → is_sign (codes ":=") assign ≡ true
+      → takes_values of section ≡ true → is_sign (codes ":=") assign ≡ true
       → LeavesOutElement IsListItem LeavesOutItem rest k
-      → LeavesOutEnding section true (assign ∷ rest) k
+      → LeavesOutEnding of section true (assign ∷ rest) k
 
 -- a value of a kind that is not supported follows a path
 pub data LeavesOutInitial : List Token → Kind → Type 0 where

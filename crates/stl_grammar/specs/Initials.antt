@@ -15,6 +15,7 @@ use Rattle.stl_statement_grammar.specs.Readers.{and_then, fitting, further, numb
 use Rattle.stl_statement_grammar.specs.Words.{is_sign}
 use Rattle.stl_statement_grammar.specs.declared.mnemonic.Read.{Read}
 use Rattle.stl_statement_grammar.specs.declared.mnemonic.Read.TheVariants.{Fits, No}
+use Rattle.stl_tree.specs.declared.raw.BlockKind.{BlockKind}
 use Rattle.stl_tree.specs.declared.raw.Constant.{Constant}
 use Rattle.stl_tree.specs.declared.raw.InitialItem.{InitialItem}
 use Rattle.stl_tree.specs.declared.raw.PathStep.{PathStep}
@@ -89,12 +90,13 @@ abbrev pub initial_at : Bool → List Token → Read (List InitialItem)
 initial_at in_array tokens =
     if in_array then list_at tokens else read_as alone (last_value tokens)
 
--- what ends a declaration of a section: `;`, and where it may have an initial value, `:=` and the value before it
-abbrev pub ending_at : Section → Bool → List Token → Read (List InitialItem)
-ending_at section in_array [] = No
-ending_at section in_array (sign ∷ rest) =
+-- what ends a declaration of a section in a block of a kind: `;`, and where it may have an initial value, `:=` and the
+-- value before it
+abbrev pub ending_at : BlockKind → Section → Bool → List Token → Read (List InitialItem)
+ending_at kind section in_array [] = No
+ending_at kind section in_array (sign ∷ rest) =
     if is_sign (codes ";") sign then Fits [] 1
-    else if takes_values section && is_sign (codes ":=") sign then further 1 (initial_at in_array rest)
+    else if takes_values kind section && is_sign (codes ":=") sign then further 1 (initial_at in_array rest)
     else No
 
 -- Initial values of a data block

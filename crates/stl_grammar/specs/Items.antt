@@ -1,34 +1,34 @@
--- The items of a source. What may be at a place of a text, and why it is refused where it fits no form that is built.
+-- The items of a source. What may be at a place of a text, and why it is refused where it fits no form.
 -- Held against: this project's own source form.
 use Rattle.std.specs.Prelude.{ℕ, zero, suc, Bool, true, false, not, ◌-◌, ◌&&◌, ◌||◌, nat_lt, if◌then◌else◌, List, [], ◌∷◌, length, take, codes, Option, Some, None, Result, Ok, Err}
 use Rattle.std.specs.List.{prefix_len}
 use Rattle.s7_base.specs.declared.reason.Kind.{Kind}
-use Rattle.s7_base.specs.declared.reason.Kind.TheVariants.{NotBuilt, SystemCall, UserType}
+use Rattle.s7_base.specs.declared.reason.Kind.TheVariants.{SystemCall, UserType}
 use Rattle.s7_base.specs.declared.reason.Line.{Line}
 use Rattle.s7_base.specs.declared.reason.Reason.{Reason}
 use Rattle.s7_base.specs.declared.reason.Reason.TheVariants.{BadStatement, Unsupported}
 use Rattle.s7_base.specs.declared.reason.Rejection.{Rejection}
 use Rattle.s7_base.specs.declared.reason.Rejection.TheVariants.{Refused, NoMemory}
 use Rattle.s7_base.specs.declared.token.Token.{Token}
-use Rattle.stl_statement_grammar.specs.Mnemonics.{begins_with_mnemonic}
-use Rattle.stl_statement_grammar.specs.Statements.{begins_with_label, instruction_of}
-use Rattle.stl_statement_grammar.specs.Words.{is_word, is_sign, is_quoted_kind, is_word_kind, is_word_among, block_words}
+use Rattle.stl_statement_grammar.specs.BlockNames.{has_number, name_at}
+use Rattle.stl_statement_grammar.specs.Statements.{instruction_of}
+use Rattle.stl_statement_grammar.specs.Words.{is_word, is_sign}
 use Rattle.stl_statement_grammar.specs.declared.mnemonic.Read.{Read}
 use Rattle.stl_statement_grammar.specs.declared.mnemonic.Read.TheVariants as read
-use Rattle.stl_grammar.specs.Declarations.{declaration_at, ends_level, has_number, is_user_type, left_of, levels_behind}
+use Rattle.stl_grammar.specs.Declarations.{declaration_at, ends_level, is_user_type, left_of, levels_behind}
 use Rattle.stl_statement_grammar.specs.Lists.{begins_with_sign, begins_with_word}
 use Rattle.stl_grammar.specs.Initials.{ending_at, path_value_at}
 use Rattle.stl_grammar.specs.declared.declaration.Level.{Level}
 use Rattle.stl_grammar.specs.declared.declaration.Section.{Section}
 use Rattle.stl_grammar.specs.declared.declaration.Section.TheVariants as part
 use Rattle.stl_grammar.specs.declared.declaration.Written.{Written}
-use Rattle.stl_grammar.specs.Headings.{heading_kind, is_heading_cut_off, is_skipped, opened_by, size_on}
+use Rattle.stl_grammar.specs.Headings.{heading_kind, is_skipped, opened_by, size_on}
 use Rattle.stl_grammar.specs.Sections.{section_at}
 use Rattle.stl_grammar.specs.Symbols.{ends_table, symbol_behind}
 use Rattle.stl_grammar.specs.declared.item.NextItem.{NextItem}
 use Rattle.stl_grammar.specs.declared.item.NextItem.TheVariants.{Fits, Misfit, Ended}
 use Rattle.stl_grammar.specs.declared.item.Item.{Item}
-use Rattle.stl_grammar.specs.declared.item.Item.TheVariants.{Mark, Starts, Symbol, Declares, Closes, Instr, Initial, Ends}
+use Rattle.stl_grammar.specs.declared.item.Item.TheVariants.{Mark, Starts, Symbol, Declares, InstanceOf, Closes, Instr, Initial, Ends}
 use Rattle.stl_grammar.specs.declared.item.Where.{Where}
 use Rattle.stl_grammar.specs.declared.item.Where.TheVariants.{Start, Table, Between, Heading, Inside, Behind, Body, Values}
 use Rattle.stl_tree.specs.declared.raw.BlockKind.{BlockKind}
@@ -36,6 +36,7 @@ use Rattle.stl_tree.specs.declared.raw.BlockKind.TheVariants as block
 use Rattle.stl_tree.specs.declared.raw.InitialItem.{InitialItem}
 use Rattle.stl_tree.specs.declared.raw.RawInitial.{RawInitial}
 use Rattle.stl_tree.specs.declared.raw.RawInstr.{RawInstr}
+use Rattle.stl_tree.specs.declared.raw.RawName.{RawName}
 use Rattle.stl_tree.specs.declared.raw.SymbolLine.{SymbolLine}
 
 -- the token is `;`
@@ -60,11 +61,6 @@ is_end kind token = is_word (end_word kind) token
 
 -- What is refused
 
--- the tokens begin with a word of a heading, section or end
-abbrev pub begins_with_block_word : List Token → Bool
-begins_with_block_word [] = false
-begins_with_block_word (first ∷ rest) = is_word_among block_words first
-
 -- how many tokens come before the next `;`, or before the end of the text
 abbrev pub statement_size : List Token → ℕ
 statement_size tokens = prefix_len (λ token. not (is_semicolon token)) tokens
@@ -77,90 +73,31 @@ is_complete tokens = nat_lt (statement_size tokens) (length tokens)
 abbrev pub statement_at : List Token → List Token
 statement_at tokens = take (statement_size tokens) tokens
 
--- the item has a form that is not built yet, given whether it begins with a label and whether the end of the
--- text cuts its heading off: a word of a heading, section or end has one by itself, a mnemonic where its statement
--- is complete
-unfoldable pub is_not_built : Bool → Bool → List Token → Bool
-is_not_built label cut tokens =
-    (begins_with_block_word tokens && not label && not cut) || (is_complete tokens && begins_with_mnemonic tokens)
-
--- why an item that fits no form is refused, given whether it begins with a label and whether the end of the text cuts
--- its heading off
-abbrev pub reason_with : Bool → Bool → List Token → Reason
-reason_with label cut tokens = if is_not_built label cut tokens then Unsupported NotBuilt else BadStatement
-
 -- why an item that fits no form is refused where a heading may come: a user-defined type is not supported
 abbrev pub heading_reason : List Token → Reason
-heading_reason tokens =
-    if begins_with_word (codes "TYPE") tokens
-    then Unsupported UserType
-    else reason_with false (is_heading_cut_off tokens) tokens
+heading_reason tokens = if begins_with_word (codes "TYPE") tokens then Unsupported UserType else BadStatement
 
--- the tokens begin with the name of a function block, of which a data block would be an instance
-abbrev pub is_instance : Token → List Token → Bool
-is_instance first rest = is_quoted_kind first.kind || has_number (codes "FB") first rest
-
--- why what comes after the heading of a data block is refused, where its STRUCT may begin
+-- why what comes after the heading of a data block is refused, where its STRUCT or its function block may stand
 abbrev pub data_reason : List Token → Reason
 data_reason [] = BadStatement
 data_reason (first ∷ rest) =
-    if is_instance first rest then Unsupported NotBuilt
-    else if is_user_type first rest then Unsupported UserType
+    if is_user_type first rest then Unsupported UserType
     else if has_number (codes "SFB") first rest then Unsupported SystemCall
     else BadStatement
-
--- why an item that fits no form is refused after a heading or after declarations, given the reason in a data block
-abbrev pub reason_in : BlockKind → Reason → List Token → Reason
-reason_in kind in_data tokens = if is_data kind then in_data else reason_with false false tokens
-
--- the tokens begin with a name and a colon: a declaration, whatever word its name is
-abbrev pub begins_with_name : List Token → Bool
-begins_with_name [] = false
-begins_with_name (name ∷ []) = false
-begins_with_name (name ∷ colon ∷ rest) = is_word_kind name.kind && is_sign (codes ":") colon
 
 -- why a statement is refused that has a form of a kind that is not supported: its kind where it is complete
 abbrev pub left_out_reason : List Token → Kind → Reason
 left_out_reason tokens kind = if is_complete tokens then Unsupported kind else BadStatement
 
+-- why what comes after the heading of a block of a kind is refused
+abbrev pub behind_reason : BlockKind → List Token → Reason
+behind_reason block.Db tokens = data_reason tokens
+behind_reason kind tokens = BadStatement
+
 -- why an item is refused by what was read of it: a kind that is not supported, else `BadStatement`
 abbrev pub read_reason : {A : Type 0} → List Token → Read A → Reason
 read_reason tokens (read.LeftOut kind) = left_out_reason tokens kind
 read_reason tokens other = BadStatement
-
--- why an item is refused where a declaration may come
-abbrev pub declaration_reason : List Token → Read Written → Reason
-declaration_reason tokens (read.LeftOut left) = left_out_reason tokens left
-declaration_reason tokens other = if begins_with_name tokens then BadStatement else reason_with false false tokens
-
--- why an item is refused that begins with the word that ends the innermost STRUCT or the section
-abbrev pub closing_reason : Section → List Level → List Token → List Token → Reason
-closing_reason section [] tokens rest = BadStatement
-closing_reason section (level ∷ levels) tokens rest = read_reason tokens (ending_at section level.in_array rest)
-
--- why an item is refused among declarations
-abbrev pub inside_reason : Section → List Level → List Token → Reason
-inside_reason section levels [] = BadStatement
-inside_reason section levels (first ∷ rest) =
-    if ends_level section levels first
-    then closing_reason section levels (first ∷ rest) rest
-    else declaration_reason (first ∷ rest) (declaration_at section (left_of levels) first rest)
-
--- why an item is refused among the initial values of a data block
-abbrev pub value_reason : List Token → Reason
-value_reason [] = BadStatement
-value_reason (first ∷ rest) = read_reason (first ∷ rest) (path_value_at first.line (first ∷ rest))
-
--- why an item is refused at a place
-abbrev pub misfit_reason : Where → List Token → Reason
-misfit_reason Start tokens = heading_reason tokens
-misfit_reason Between tokens = heading_reason tokens
-misfit_reason (Heading kind line) tokens = reason_in kind (data_reason tokens) tokens
-misfit_reason (Inside kind section levels) tokens = inside_reason section levels tokens
-misfit_reason (Behind kind section) tokens = reason_in kind BadStatement tokens
-misfit_reason Values tokens = value_reason tokens
-misfit_reason (Body kind) tokens = reason_with (begins_with_label tokens) false tokens
-misfit_reason elsewhere tokens = reason_with false false tokens
 
 -- the line of a STRUCT whose end does not fit, or that of the token
 abbrev pub level_line : List Level → Token → Line
@@ -172,35 +109,27 @@ abbrev pub misfit_line : Where → Token → Line
 misfit_line (Inside kind section levels) first = level_line levels first
 misfit_line elsewhere first = first.line
 
--- why a complete statement is refused that is no instruction: one that begins with a word of a heading, section or
--- end, which is no label, has a form that is not built, any other has this reason
-abbrev pub statement_reason : List Token → Reason → Reason
-statement_reason tokens reason =
-    if begins_with_block_word tokens && not (begins_with_label tokens) then Unsupported NotBuilt else reason
+-- Forms
 
--- Forms that are built
-
--- the heading at a place where other items may come too, given the tokens from there, the first of them and the rest
-abbrev pub heading_at : Where → NextItem → List Token → Token → List Token → NextItem
-heading_at place other tokens first rest = opened_by (misfit_reason place tokens) (heading_kind first) other first rest
+-- the heading at a place where another item may come too, given the first token there and the rest
+abbrev pub heading_at : NextItem → Token → List Token → NextItem
+heading_at other first rest = opened_by (heading_kind first) other first rest
 
 -- the symbol table, where one may open before the first block
 abbrev pub table_at : List Token → Token → NextItem
 table_at tokens first =
     if is_word (codes "SYMBOL_TABLE") first then Fits Mark 0 (Table first.line)
-    else Misfit first.line (misfit_reason Start tokens)
+    else Misfit first.line (heading_reason tokens)
 
 -- a line of the symbol table, if there is one
-abbrev pub symbol_found : Line → List Token → Token → Option SymbolLine → NextItem
-symbol_found line tokens first None = Misfit first.line (misfit_reason (Table line) tokens)
-symbol_found line tokens first (Some its) = Fits (Symbol its) 6 (Table first.line)
+abbrev pub symbol_found : Token → Option SymbolLine → NextItem
+symbol_found first None = Misfit first.line BadStatement
+symbol_found first (Some its) = Fits (Symbol its) 6 (Table first.line)
 
 -- the item in the symbol table after a line
-abbrev pub in_table : Line → List Token → Token → List Token → NextItem
-in_table line tokens first rest =
-    if ends_table line first rest
-    then Fits Mark 0 Between
-    else symbol_found line tokens first (symbol_behind line first rest)
+abbrev pub in_table : Line → Token → List Token → NextItem
+in_table line first rest =
+    if ends_table line first rest then Fits Mark 0 Between else symbol_found first (symbol_behind line first rest)
 
 -- the token is the BEGIN of a block's body after its heading; in a data block only declarations may come there
 abbrev pub begins_body : BlockKind → Token → Bool
@@ -211,12 +140,23 @@ abbrev pub section_found : BlockKind → Reason → Token → Option Section →
 section_found kind reason first None = Misfit first.line reason
 section_found kind reason first (Some section) = Fits (Starts section) 0 (Inside kind section [])
 
+-- the function block of a data block, by what was read of its name, or a section
+abbrev pub instance_or : Read RawName → NextItem → NextItem
+instance_or (read.Fits name size) other = Fits (InstanceOf name) (size - 1) (Behind block.Db part.Own)
+instance_or none other = other
+
+-- a data block's function block: `FB 1` or a name in quotes
+abbrev pub instance_found : BlockKind → List Token → NextItem → NextItem
+instance_found block.Db tokens other = instance_or (name_at (codes "FB") tokens) other
+instance_found kind tokens other = other
+
 -- the item after a heading whose last line this is
 abbrev pub behind_heading : BlockKind → Line → List Token → Token → List Token → NextItem
 behind_heading kind line tokens first rest =
     if is_skipped line first rest then Fits Mark (size_on first.line rest) (Heading kind first.line)
     else if begins_body kind first then Fits Mark 0 (Body kind)
-    else section_found kind (misfit_reason (Heading kind line) tokens) first (section_at kind None first)
+    else instance_found kind tokens
+    (section_found kind (behind_reason kind tokens) first (section_at kind None first))
 
 -- the end of the innermost STRUCT, which is on a line, by what was read after its word
 abbrev pub struct_found : BlockKind → Section → Line → List Level → List Token → Read (List InitialItem) → NextItem
@@ -234,7 +174,7 @@ section_end_found kind section first rest = Fits Mark 0 (Behind kind section)
 abbrev pub closing_at : BlockKind → Section → List Level → List Token → Token → List Token → NextItem
 closing_at kind section [] tokens first rest = section_end_found kind section first rest
 closing_at kind section (level ∷ levels) tokens first rest =
-    struct_found kind section level.line levels tokens (ending_at section level.in_array rest)
+    struct_found kind section level.line levels tokens (ending_at kind section level.in_array rest)
 
 -- a declaration of this many tokens after its name
 abbrev pub declaration_item : BlockKind → Section → List Level → Token → Written → ℕ → NextItem
@@ -246,14 +186,14 @@ declaration_item kind section levels first type size =
 abbrev pub declaration_found : BlockKind → Section → List Level → List Token → Token → Read Written → NextItem
 declaration_found kind section levels tokens first (read.Fits type size) =
     declaration_item kind section levels first type size
-declaration_found kind section levels tokens first other = Misfit first.line (declaration_reason tokens other)
+declaration_found kind section levels tokens first other = Misfit first.line (read_reason tokens other)
 
 -- the item at a place among declarations
 abbrev pub inside_at : BlockKind → Section → List Level → List Token → Token → List Token → NextItem
 inside_at kind section levels tokens first rest =
     if ends_level section levels first
     then closing_at kind section levels tokens first rest
-    else declaration_found kind section levels tokens first (declaration_at section (left_of levels) first rest)
+    else declaration_found kind section levels tokens first (declaration_at kind section (left_of levels) first rest)
 
 -- the place of the body of a block
 abbrev pub body_of : BlockKind → Where
@@ -261,11 +201,11 @@ body_of block.Db = Values
 body_of kind = Body kind
 
 -- the item after a section
-abbrev pub behind_at : BlockKind → Section → List Token → Token → NextItem
-behind_at kind section tokens first =
+abbrev pub behind_at : BlockKind → Section → Token → NextItem
+behind_at kind section first =
     if is_word (codes "BEGIN") first
     then Fits Mark 0 (body_of kind)
-    else section_found kind (misfit_reason (Behind kind section) tokens) first (section_at kind (Some section) first)
+    else section_found kind BadStatement first (section_at kind (Some section) first)
 
 -- an initial value of a data block, by what was read
 abbrev pub value_found : List Token → Token → Read RawInitial → NextItem
@@ -282,7 +222,7 @@ values_at tokens first =
 -- a complete statement on a line, by what it is read as, with its `;` after this many tokens
 abbrev pub statement_found : Where → List Token → Line → Result RawInstr Rejection → NextItem
 statement_found place tokens line (Ok instr) = Fits (Instr instr) (statement_size tokens) place
-statement_found place tokens line (Err (Refused its_line reason)) = Misfit line (statement_reason tokens reason)
+statement_found place tokens line (Err (Refused its_line reason)) = Misfit line reason
 statement_found place tokens line (Err NoMemory) = Misfit line BadStatement
 
 -- the statement at a place
@@ -290,7 +230,7 @@ abbrev pub statement_from : Where → Line → List Token → NextItem
 statement_from place line tokens =
     if is_complete tokens
     then statement_found place tokens line (instruction_of (statement_at tokens))
-    else Misfit line (misfit_reason place tokens)
+    else Misfit line BadStatement
 
 -- a token is skipped in a body: an empty statement or `NETWORK`
 abbrev pub is_skipped_alone : Token → Bool
@@ -324,13 +264,12 @@ at_end end Values = Misfit end BadStatement
 
 -- the item at a place, given the tokens from there, the first of them and the rest
 abbrev pub at_token : Where → List Token → Token → List Token → NextItem
-at_token Start tokens first rest = heading_at Start (table_at tokens first) tokens first rest
-at_token (Table line) tokens first rest = in_table line tokens first rest
-at_token Between tokens first rest =
-    heading_at Between (Misfit first.line (misfit_reason Between tokens)) tokens first rest
+at_token Start tokens first rest = heading_at (table_at tokens first) first rest
+at_token (Table line) tokens first rest = in_table line first rest
+at_token Between tokens first rest = heading_at (Misfit first.line (heading_reason tokens)) first rest
 at_token (Heading kind line) tokens first rest = behind_heading kind line tokens first rest
 at_token (Inside kind section levels) tokens first rest = inside_at kind section levels tokens first rest
-at_token (Behind kind section) tokens first rest = behind_at kind section tokens first
+at_token (Behind kind section) tokens first rest = behind_at kind section first
 at_token (Body kind) tokens first rest = body_at kind tokens first
 at_token Values tokens first rest = values_at tokens first
 

@@ -15,7 +15,7 @@ use Rattle.stl_grammar.specs.declared.declaration.Section.{Section}
 use Rattle.stl_grammar.specs.declared.declaration.Section.TheVariants as part
 use Rattle.stl_grammar.specs.declared.declaration.Written.{Written}
 use Rattle.stl_grammar.specs.declared.item.Item.{Item}
-use Rattle.stl_grammar.specs.declared.item.Item.TheVariants.{Opens, Mark, Starts, Symbol, Declares, Closes, Instr, Initial, Ends}
+use Rattle.stl_grammar.specs.declared.item.Item.TheVariants.{Opens, Mark, Starts, Symbol, Declares, InstanceOf, Closes, Instr, Initial, Ends}
 use Rattle.stl_grammar.specs.declared.item.Reading.{Reading}
 use Rattle.stl_tree.specs.declared.raw.BlockKind.{BlockKind}
 use Rattle.stl_tree.specs.declared.raw.BlockKind.TheVariants as block
@@ -106,6 +106,10 @@ kind_with one (Instance name) = Instance name
 abbrev pub with_own : Declaration → RawData → RawData
 with_own one db = record db { kind = kind_with one db.kind }
 
+-- a data block that is an instance
+abbrev pub as_instance : RawName → RawData → RawData
+as_instance name db = record db { kind = Instance name }
+
 -- the text so far, where no STRUCT is open, with one more declaration in a section of the last block
 abbrev pub with_last : Declaration → Section → Reading → Reading
 with_last one part.Own reading = record reading { last_db = option_map (with_own one) reading.last_db; structs = [] }
@@ -159,6 +163,7 @@ with_item reading (Starts section) = record reading { section = section }
 with_item reading (Symbol line) = record reading { symbols = reading.symbols ++ (line ∷ []) }
 with_item reading Mark = reading
 with_item reading (Declares name line type) = with_type name line type type.innermost reading
+with_item reading (InstanceOf name) = record reading { last_db = option_map (as_instance name) reading.last_db }
 with_item reading (Closes items) = after_struct_end items reading.structs reading
 with_item reading (Instr instr) = record reading { last = option_map (with_instr instr) reading.last }
 with_item reading (Initial value) = record reading { last_db = option_map (with_value value) reading.last_db }

@@ -56,12 +56,23 @@ section_named word = formal_or_inner (formal_section word) (inner_section word)
 
 -- Which may open
 
--- a block of this kind may have this section
+-- a block of this kind has formals
+abbrev pub has_formals : BlockKind → Bool
+has_formals block.Ob = false
+has_formals block.Fc = true
+has_formals block.Fb = true
+has_formals block.Db = false
+
+-- a block of this kind may have this section: each block of code has temporaries, and a function block variables that
+-- stay in its instance
 abbrev pub has_section : BlockKind → Section → Bool
 has_section block.Db part.Own = true
 has_section block.Db other = false
+has_section kind part.Own = false
 has_section kind part.Temp = true
-has_section kind other = false
+has_section block.Fb part.Static = true
+has_section kind part.Static = false
+has_section kind formals = has_formals kind
 
 -- the rank of a section in the order of sections
 abbrev pub rank_of : Section → ℕ
@@ -91,10 +102,18 @@ section_at kind before word = if_open kind before (section_named word)
 
 -- What may be in a section
 
--- the declarations of a section may have initial values
-abbrev pub takes_values : Section → Bool
-takes_values part.Temp = false
-takes_values other = true
+-- a section is one of formals
+abbrev pub is_formal : Section → Bool
+is_formal part.Input = true
+is_formal part.Output = true
+is_formal part.InOut = true
+is_formal other = false
+
+-- the declarations of a section may have initial values: what stays in a data block has them
+abbrev pub takes_values : BlockKind → Section → Bool
+takes_values block.Fc section = false
+takes_values kind part.Temp = false
+takes_values kind other = true
 
 -- a declaration of a section may be of DATE_AND_TIME
 abbrev pub takes_dates : Section → Bool

@@ -10,7 +10,8 @@ use Rattle.s7_base.specs.declared.reason.Line.{Line}
 use Rattle.s7_base.specs.declared.token.Token.{Token}
 use Rattle.s7_base.specs.declared.word.Width.{Width}
 use Rattle.s7_base.specs.declared.word.Width.TheVariants as width
-use Rattle.stl_grammar.specs.Headings.{is_behind, is_on, kind_word}
+use Rattle.stl_grammar.specs.Headings.{is_behind, is_on}
+use Rattle.stl_statement_grammar.specs.BlockNames.{kind_word}
 use Rattle.digit_texts.specs.Digits.{digits_size, kept_number}
 use Rattle.stl_statement_grammar.specs.Words.{is_sign, is_word, is_quoted_kind}
 use Rattle.stl_tree.specs.declared.raw.BlockKind.{BlockKind}

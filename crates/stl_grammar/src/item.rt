@@ -54,6 +54,9 @@ pub enum Item {
     /// A declaration with its name, its line and its type; it opens a STRUCT where its members follow.
     Declares(List<u8>, Line, Written),
 
+    /// The function block of which a data block is an instance.
+    InstanceOf(RawName),
+
     /// The end of the innermost STRUCT, with its initial values.
     Closes(List<InitialItem>),
 

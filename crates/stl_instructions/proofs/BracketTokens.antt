@@ -18,7 +18,7 @@ use Rattle.stl_statement_grammar.specs.PointerForms.{IsCrossing, IsIndirect, IsR
 use Rattle.stl_statement_grammar.specs.PointerForms as form
 use Rattle.stl_statement_grammar.specs.Pointers.{has_word, indirect_at, indirect_by, width_named}
 use Rattle.stl_statement_grammar.specs.Readers.{fitting, further}
-use Rattle.stl_statement_grammar.specs.Statements.{NamedForm, has_form, left_out_at, left_out_by, left_out_forms, place_operand}
+use Rattle.stl_statement_grammar.specs.LocatedOperands.{NamedForm, has_form, left_out_at, left_out_by, left_out_forms, place_operand}
 use Rattle.stl_statement_grammar.specs.Words.{is_quoted_kind, is_sign, is_word, is_word_kind}
 use Rattle.stl_statement_grammar.specs.declared.mnemonic.Read.TheVariants.{No}
 use Rattle.stl_tree.specs.declared.raw.RawOperand.{RawOperand}

@@ -9,7 +9,7 @@ use Rattle.s7_base.specs.Tokens.{is_same_word}
 use Rattle.s7_base.specs.declared.reason.Kind.TheVariants as kind
 use Rattle.s7_base.specs.declared.reason.Line.{Line}
 use Rattle.s7_base.specs.declared.reason.Reason.{Reason}
-use Rattle.s7_base.specs.declared.reason.Reason.TheVariants.{BadStatement, Unsupported}
+use Rattle.s7_base.specs.declared.reason.Reason.TheVariants.{BadStatement}
 use Rattle.s7_base.specs.declared.token.Token.{Token}
 use Rattle.status_word.specs.declared.test.Test.{Test}
 use Rattle.status_word.specs.declared.test.Test.TheVariants as test
@@ -23,7 +23,8 @@ use Rattle.stl_statement_grammar.specs.PlaceForms.{IsPlace}
 use Rattle.stl_statement_grammar.specs.PointerForms.{IsOffsetConstant, IsPointerConstant}
 use Rattle.stl_statement_grammar.specs.Pointers.{behind_hash, offset_at, pointer_at, pointer_behind}
 use Rattle.stl_statement_grammar.specs.Readers.{read_as}
-use Rattle.stl_statement_grammar.specs.Statements.{any_constant_at, asked_by, begins_with_label, block_number_at, checked_at, first_of, instr_with, instruction_from, instruction_of, is_asked, is_label_word, label_at, left_out_at, length_at, loaded_at, located_at, name_of, nothing_at, on_line, opened_at, operand_by, operand_of, or_nothing, other_at, placed_at, pointer_alone_at, pointer_loaded_at, pointer_stored_at, second_of, operand_form_of, size_with, statement, status_at, stored_at, stw_at, tests, timers_and_counters, with_mnemonic, with_operand}
+use Rattle.stl_statement_grammar.specs.LocatedOperands.{any_constant_at, left_out_at, located_at, placed_at, timers_and_counters}
+use Rattle.stl_statement_grammar.specs.Statements.{asked_by, begins_with_label, block_number_at, checked_at, first_of, instr_with, instruction_from, instruction_of, is_asked, is_label_word, label_at, length_at, loaded_at, name_of, nothing_at, on_line, opened_at, operand_by, operand_of, or_nothing, other_at, pointer_alone_at, pointer_loaded_at, pointer_stored_at, second_of, operand_form_of, size_with, statement, status_at, stored_at, stw_at, tests, with_mnemonic, with_operand}
 use Rattle.stl_statement_grammar.specs.Words.{is_joined, is_sign, is_sign_kind, is_spelled, is_word, is_word_kind}
 use Rattle.stl_statement_grammar.specs.declared.mnemonic.Read.{Read}
 use Rattle.stl_statement_grammar.specs.declared.mnemonic.Read.TheVariants.{Fits, LeftOut, No}
@@ -41,7 +42,10 @@ use Rattle.stl_tree.specs.declared.raw.RawPointer.{RawPointer}
 use Rattle.stl_instructions.proofs.BracketTokens.{IsBracketed, bracketed_no_constant, bracketed_no_text, bracketed_no_word, bracketed_there, bracketed_unmarked, crossing_bracketed, indirect_bracketed, is_opening}
 use Rattle.stl_constants.proofs.ConstantLaws.{addend_all, addend_read, constant_all, constant_no_word, constant_read, constant_there, left_out_marked_all, no_mark, number_all, number_at_read, pointer_no_constant, pointer_no_left_out, up_to_there, word_is}
 use Rattle.stl_instructions.proofs.NameLaws.{located_all, located_read, named_no_constant, named_no_mark, named_no_word, named_not_asked, named_there, opened_all, opened_read, placed_as, placed_read}
+use Rattle.stl_instructions.proofs.CallLaws.{called_all, called_alone_all, called_alone_read, called_read}
 use Rattle.stl_instructions.proofs.LeftOutLaws.{left_out_all}
+use Rattle.stl_statement_grammar.specs.CallForms.{IsCalled, IsCalledAlone}
+use Rattle.stl_statement_grammar.specs.CallOperands.{called_alone_at, called_at}
 use Rattle.stl_places.proofs.PlaceTokens.{IsNoPlace, place_no_constant, place_no_register, place_no_text, place_no_word, place_there, place_unmarked, text_is}
 use Rattle.stl_places.proofs.PointerLaws.{Hashed, offset_all, offset_at_read, offset_hashed, pointer_all, pointer_at_read, pointer_hashed}
 use Rattle.stl_constants.proofs.Reading.{AllOf, as_all, if_false, if_true, or_all, or_no, or_this, other_word, same_letters, weaker}
@@ -286,7 +290,12 @@ operand_is shape.Label tokens = label_all tokens
 operand_is shape.TimerOrCounter tokens =
     as_all (length tokens) At (λ place. ⊥) (IsOperand shape.TimerOrCounter tokens) (λ place is. absurd is) (left_out_at timers_and_counters tokens)
     (left_out_all (length tokens) (λ place. ⊥) timers_and_counters tokens)
-operand_is shape.Later tokens = tt
+operand_is shape.Called tokens =
+    weaker (length tokens) (IsCalled tokens) (IsOperand shape.Called tokens)
+    (λ operand is. form.called tokens operand is) (called_at tokens) (called_all tokens)
+operand_is shape.CalledAlone tokens =
+    weaker (length tokens) (IsCalledAlone tokens) (IsOperand shape.CalledAlone tokens)
+    (λ operand is. form.called_alone tokens operand is) (called_alone_at tokens) (called_alone_all tokens)
 operand_is (shape.LeftOut kind) tokens = tt
 
 -- what is said with a mnemonic
@@ -301,7 +310,7 @@ said_is row tokens (LeftOut kind) op h e = absurd cc
 said_is row tokens (Fits operand size) op h e = by (size == length tokens) refl e
   where
     by : (b : Bool) → (size == length tokens) ≡ b
-        → (if b then Ok (record { mnemonic = name_of row; operand = operand }) else Err (Unsupported kind.NotBuilt)) ≡ Ok op → Said row tokens op
+        → (if b then Ok (record { mnemonic = name_of row; operand = operand }) else Err BadStatement) ≡ Ok op → Said row tokens op
     by true t e =
         let same : record { mnemonic = name_of row; operand = operand } ≡ op = cc in
         let P : RawOp → Type 0 = λ o. Said row tokens o in
@@ -729,6 +738,8 @@ operand_read shape tokens operand (form.offset ts p is) =
 operand_read shape tokens operand form.no_offset = refl
 operand_read shape tokens operand (form.opened ts o is) = opened_read ts o is
 operand_read shape tokens operand (form.label word is) = if_true (is_label_word word) _ No is
+operand_read shape tokens operand (form.called ts o is) = called_read ts o is
+operand_read shape tokens operand (form.called_alone ts o is) = called_alone_read ts o is
 
 statement_read : (tokens : List Token) (row : Row) (operand : RawOperand) → IsStatement tokens row operand
     → statement tokens ≡ Ok (record { mnemonic = name_of row; operand = operand })

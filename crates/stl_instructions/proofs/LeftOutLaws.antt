@@ -10,7 +10,7 @@ use Rattle.stl_places.proofs.NoPlaces.{no_numbered}
 use Rattle.stl_places.proofs.PlaceLaws.{no_place_at, place_alone_read, place_front}
 use Rattle.stl_statement_grammar.specs.PlaceForms.{IsPlace}
 use Rattle.stl_statement_grammar.specs.Places.{place_at}
-use Rattle.stl_statement_grammar.specs.Statements.{NamedForm, has_form, left_out_at, left_out_by, left_out_forms, place_operand}
+use Rattle.stl_statement_grammar.specs.LocatedOperands.{NamedForm, has_form, left_out_at, left_out_by, left_out_forms, place_operand}
 use Rattle.stl_statement_grammar.specs.Words.{is_word_kind}
 use Rattle.stl_statement_grammar.specs.declared.mnemonic.Read.TheVariants.{Fits, No}
 use Rattle.stl_tree.specs.declared.raw.RawPlace.{RawPlace}

@@ -1,4 +1,6 @@
+mod ActualLaws
 mod BracketTokens
+mod CallLaws
 mod InstructionLaws
 mod LeftOutLaws
 mod NameLaws

@@ -25,7 +25,8 @@ use Rattle.stl_statement_grammar.specs.Places.{Numbered, digits_of, is_no_digit,
 use Rattle.stl_statement_grammar.specs.PointerForms.{IsCrossing, IsIndirect, IsMemory}
 use Rattle.stl_statement_grammar.specs.Pointers.{crossing_at, indirect_at, memory_at}
 use Rattle.stl_statement_grammar.specs.Readers.{fitting, further, read_as}
-use Rattle.stl_statement_grammar.specs.Statements.{asked_by, first_of, is_asked, located_at, opened_at, opened_behind, opened_by_memory_at, opened_in, opened_name_at, opened_number_at, opened_word, opening, opening_by, place_operand, placed_at, status_at, tests}
+use Rattle.stl_statement_grammar.specs.LocatedOperands.{located_at, place_operand, placed_at}
+use Rattle.stl_statement_grammar.specs.Statements.{asked_by, first_of, is_asked, opened_at, opened_behind, opened_by_memory_at, opened_in, opened_name_at, opened_number_at, opened_word, opening, opening_by, status_at, tests}
 use Rattle.stl_statement_grammar.specs.Words.{is_joined, is_quoted_kind, is_sign, is_sign_kind, is_text_kind, is_word_kind}
 use Rattle.stl_statement_grammar.specs.declared.mnemonic.Read.TheVariants.{Fits, No}
 use Rattle.stl_tree.specs.declared.raw.RawName.TheVariants.{Name, Number}
@@ -45,7 +46,7 @@ use Rattle.stl_constants.proofs.Tables.{none_found}
 
 -- From what is read to its form
 
-named_front : (tokens : List Token) → FrontOf tokens IsNamed (named_at tokens)
+pub named_front : (tokens : List Token) → FrontOf tokens IsNamed (named_at tokens)
 named_front [] = tt
 named_front (first ∷ rest) = by (is_quoted_kind first.kind) refl (is_sign (codes "#") first) refl
   where
@@ -163,7 +164,7 @@ opened_all tokens =
 
 -- From a form to what is read of it
 
-named_read : (tokens : List Token) (operand : RawOperand) → IsNamed tokens operand → named_at tokens ≡ Fits operand (length tokens)
+pub named_read : (tokens : List Token) (operand : RawOperand) → IsNamed tokens operand → named_at tokens ≡ Fits operand (length tokens)
 named_read tokens operand (named.name quoted kind) = if_true (is_quoted_kind quoted.kind) _ _ kind
 named_read tokens operand (named.in_block quoted point rest steps kind at glued is) =
     if_true (is_quoted_kind quoted.kind) _ _ kind
@@ -180,12 +181,12 @@ named_read tokens operand (named.local hash rest steps sign glued is) =
 -- What a name is not
 
 -- a name begins with one in quotes or with `#`
-record IsMark (first : Token) : Type 0 where
-  no_word : is_word_kind first.kind ≡ false
-  no_text : is_text_kind first.kind ≡ false
-  other : (sign : List ℕ) → is_same_word sign (codes "#") ≡ false → (is_sign_kind first.kind && is_same_word first.text sign) ≡ false
+pub record IsMark (first : Token) : Type 0 where
+  pub no_word : is_word_kind first.kind ≡ false
+  pub no_text : is_text_kind first.kind ≡ false
+  pub other : (sign : List ℕ) → is_same_word sign (codes "#") ≡ false → (is_sign_kind first.kind && is_same_word first.text sign) ≡ false
 
-quoted_mark : (first : Token) → is_quoted_kind first.kind ≡ true → IsMark first
+pub quoted_mark : (first : Token) → is_quoted_kind first.kind ≡ true → IsMark first
 quoted_mark first kind =
     record { no_word = word first.kind kind; no_text = text first.kind kind; other = λ sign h. and_left _ _ (no_sign_kind first.kind kind) }
   where
@@ -207,7 +208,7 @@ quoted_mark first kind =
     no_sign_kind Text h = absurd cc
     no_sign_kind Sign h = absurd cc
 
-sign_mark : (first : Token) → is_sign (codes "#") first ≡ true → IsMark first
+pub sign_mark : (first : Token) → is_sign (codes "#") first ≡ true → IsMark first
 sign_mark first sign = record {
   no_word = no_word (codes "#") first sign;
   no_text = sign_no_text (codes "#") first sign;
@@ -241,7 +242,7 @@ no_marked table first rest m =
     no_real (point ∷ []) = refl
     no_real (point ∷ part ∷ rest) = and_left _ _ (and_left _ _ (and_left _ _ (and_left _ _ m.no_word)))
 
-no_constant : (first : Token) (rest : List Token) → IsMark first → constant_at (first ∷ rest) ≡ No
+pub no_constant : (first : Token) (rest : List Token) → IsMark first → constant_at (first ∷ rest) ≡ No
 no_constant first rest m =
     or_no (text_at (first ∷ rest)) _ (ap (fitting 1) (if_false (is_text_kind first.kind) _ None m.no_text))
     ∙ or_no (marked_at prefixes (first ∷ rest)) _ (no_marked prefixes first rest m)

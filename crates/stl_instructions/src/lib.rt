@@ -9,7 +9,9 @@
 pub use laws::instructions_have_forms;
 pub use statement::{begins_with_label, instruction};
 
+mod call;
 mod laws;
+mod located;
 mod opened;
 mod operand;
 mod statement;

@@ -1,37 +1,19 @@
 //! Reads one statement.
 ghost use Rattle.std.specs.Prelude.{◌≡◌, IfOk, length};
 ghost use Rattle.s7_base.specs.Answers.{Answers};
-ghost use Rattle.stl_statement_grammar.specs.Statements.{refusal_kind, begins_with_label, name_of, instr_with, on_line, with_operand, with_mnemonic, statement, instruction_of};
+ghost use Rattle.stl_statement_grammar.specs.Statements.{begins_with_label, name_of, instr_with, on_line, with_operand, with_mnemonic, statement, instruction_of};
 ghost use Rattle.stl_statement_grammar.specs.Mnemonics.{mnemonic_at};
 ghost use Rattle.stl_instructions.specs.inner.Answers.{Says};
 ghost use Rattle.stl_mnemonics.specs.Rows.{view};
 
 use crate::operand::{is_label_word, operand_of, size_with};
-use s7_base::{Kind, Line, List, NoMemory, Reason, Rejection, SmallText, Token, rest_after};
+use s7_base::{Line, List, NoMemory, Reason, Rejection, SmallText, Token, rest_after};
 use std::alloc::Global;
 use stl_constants::is_sign;
 use stl_mnemonics::{Row, mnemonic_at};
 use stl_places::name_of as name_of_token;
 use stl_statement_grammar::Read;
 use stl_tree::{RawInstr, RawOp, RawOperand};
-
-/// The kind by which an unsupported form is refused; those of calls and declarations are not built yet.
-fn refusal_kind(kind: Kind) -> Kind
-    ensures { result ≡ refusal_kind kind }
-{
-    match kind {
-        Kind::Timer
-        | Kind::Counter
-        | Kind::Real
-        | Kind::MasterControl
-        | Kind::DateTime
-        | Kind::DbLength
-        | Kind::NamePointer
-        | Kind::Peripheral
-        | Kind::Accumulators => kind,
-        _ => Kind::NotBuilt,
-    }
-}
 
 /// Whether the tokens begin with a label and its colon.
 pub fn begins_with_label(tokens: &[Token]) -> bool
@@ -61,8 +43,8 @@ fn with_operand(row: Row, size: usize, read: Read<RawOperand>) -> Result<(Row, R
 {
     match read {
         Read::Fits(operand, taken) if taken == size => Ok((row, operand)),
-        Read::LeftOut(kind) => Err(Reason::Unsupported(refusal_kind(kind))),
-        _ => Err(Reason::Unsupported(Kind::NotBuilt)),
+        Read::LeftOut(kind) => Err(Reason::Unsupported(kind)),
+        _ => Err(Reason::BadStatement),
     }
 }
 

@@ -1,4 +1,5 @@
-mod Counting
+mod Activations
+mod Effects
 mod JumpCases
 mod Pushing
 mod Steps

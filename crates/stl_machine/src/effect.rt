@@ -1,9 +1,9 @@
 //! What one instruction does.
-ghost use Rattle.std.specs.Prelude.{◌≡◌, ◌^◌, ◌<◌};
+ghost use Rattle.std.specs.Prelude.{◌≡◌, ◌≢◌, ◌^◌, ◌<◌, []};
 ghost use Rattle.status_word.specs.Flags.{bits};
 ghost use Rattle.stl_machine.specs.inner.Effects.{Does};
-ghost use Rattle.stl_machine.specs.inner.Operands.{IsTaken};
-ghost use Rattle.stl_machine.specs.inner.RegisterInstructions.{IsOnRegisters};
+ghost use Rattle.stl_machine.specs.inner.Operands.{HasPlaceInArLoad, HasPlaceInArStore, HasPlaceInCheck, HasPlaceInLoad, HasPlaceInOpen, HasPlaceOf, HasPlaces, IsTaken};
+ghost use Rattle.stl_machine.specs.inner.RegisterInstructions.{IsNoCall, IsOnRegisters};
 ghost use Rattle.stl_machine.specs.inner.Views.{now_of};
 ghost use Rattle.stl_registers.specs.Values.{values};
 ghost use Rattle.stl_tree.specs.Instructions.{at_edge, block_opened, effect_of, on_accu1, on_registers, on_status, store_where_rlo};
@@ -49,6 +49,7 @@ fn next_on(registers: Registers, state: &mut State) -> Result<Effect, Fault>
 
 /// The effect of a check of a bit or of the status word.
 fn check(check: Check, argument: &BitArg, state: &mut State) -> Result<Effect, Fault>
+    requires { HasPlaceInCheck argument.now state.old.frames }
     ensures { Does (effect_of (op.Check check argument.now) (now_of state.old)) result state.old state.new }
 {
     let bit = match argument {
@@ -63,6 +64,7 @@ fn check(check: Check, argument: &BitArg, state: &mut State) -> Result<Effect, F
 
 /// The effect of `=`.
 fn assign(operand: &Operand, state: &mut State) -> Result<Effect, Fault>
+    requires { HasPlaceOf operand.now state.old.frames }
     ensures { Does (effect_of (op.Assign operand.now) (now_of state.old)) result state.old state.new }
 {
     let place = state.place_of(operand)?;
@@ -74,6 +76,7 @@ fn assign(operand: &Operand, state: &mut State) -> Result<Effect, Fault>
 
 /// The effect of `S` and `R`: where the RLO is 1, the bit becomes this value.
 fn set_to(value: bool, operand: &Operand, state: &mut State) -> Result<Effect, Fault>
+    requires { HasPlaceOf operand.now state.old.frames }
     ensures { Does (store_where_rlo value operand.now (now_of state.old)) result state.old state.new }
 {
     let place = state.place_of(operand)?;
@@ -86,6 +89,7 @@ fn set_to(value: bool, operand: &Operand, state: &mut State) -> Result<Effect, F
 
 /// The effect of `FP`, where the edge is a rising one, and `FN`.
 fn edge(rising: bool, operand: &Operand, state: &mut State) -> Result<Effect, Fault>
+    requires { HasPlaceOf operand.now state.old.frames }
     ensures { Does (at_edge rising operand.now (now_of state.old)) result state.old state.new }
 {
     let place = state.place_of(operand)?;
@@ -97,6 +101,7 @@ fn edge(rising: bool, operand: &Operand, state: &mut State) -> Result<Effect, Fa
 
 /// The effect of `L`.
 fn load(argument: &LoadArg, state: &mut State) -> Result<Effect, Fault>
+    requires { HasPlaceInLoad argument.now state.old.frames }
     ensures { Does (effect_of (op.Load argument.now) (now_of state.old)) result state.old state.new }
 {
     let value = match argument {
@@ -111,6 +116,7 @@ fn load(argument: &LoadArg, state: &mut State) -> Result<Effect, Fault>
 
 /// The effect of `T`.
 fn transfer(operand: &Operand, width: Width, state: &mut State) -> Result<Effect, Fault>
+    requires { HasPlaceOf operand.now state.old.frames }
     ensures { Does (effect_of (op.Transfer operand.now width) (now_of state.old)) result state.old state.new }
 {
     let place = state.place_of(operand)?;
@@ -120,6 +126,7 @@ fn transfer(operand: &Operand, width: Width, state: &mut State) -> Result<Effect
 
 /// The effect of `LAR1` and `LAR2`.
 fn load_pointer(register: Ar, from: &ArLoad, state: &mut State) -> Result<Effect, Fault>
+    requires { HasPlaceInArLoad from.now state.old.frames }
     ensures { Does (effect_of (op.LoadAr register from.now) (now_of state.old)) result state.old state.new }
 {
     let registers = match from {
@@ -137,6 +144,7 @@ fn load_pointer(register: Ar, from: &ArLoad, state: &mut State) -> Result<Effect
 
 /// The effect of `TAR1` and `TAR2`.
 fn store_pointer(register: Ar, to: &ArStore, state: &mut State) -> Result<Effect, Fault>
+    requires { HasPlaceInArStore to.now state.old.frames }
     ensures { Does (effect_of (op.StoreAr register to.now) (now_of state.old)) result state.old state.new }
 {
     match to {
@@ -153,9 +161,11 @@ fn store_pointer(register: Ar, to: &ArStore, state: &mut State) -> Result<Effect
 
 /// The number of the data block that `OPN` opens.
 fn opened_number(argument: &OpenArg, state: &mut State) -> Result<u16, Fault>
+    requires { HasPlaceInOpen argument.now state.old.frames }
     ensures number { IsTaken (λ row. block_opened row argument.now (now_of state.old)) result state.new }
     ensures memory { state.new.memory ≡ state.old.memory }
     ensures frames { state.new.frames ≡ state.old.frames }
+    ensures at { state.new.at ≡ state.old.at }
 {
     match argument {
         OpenArg::Number(number) => Ok(*number),
@@ -168,6 +178,7 @@ fn opened_number(argument: &OpenArg, state: &mut State) -> Result<u16, Fault>
 
 /// The effect of `OPN` of a data block.
 fn open_db(argument: &OpenArg, state: &mut State) -> Result<Effect, Fault>
+    requires { HasPlaceInOpen argument.now state.old.frames }
     ensures { Does (effect_of (op.OpenDb argument.now) (now_of state.old)) result state.old state.new }
 {
     let number = opened_number(argument, state)?;
@@ -176,6 +187,7 @@ fn open_db(argument: &OpenArg, state: &mut State) -> Result<Effect, Fault>
 
 /// The effect of `OPN` of an instance.
 fn open_di(argument: &OpenArg, state: &mut State) -> Result<Effect, Fault>
+    requires { HasPlaceInOpen argument.now state.old.frames }
     ensures { Does (effect_of (op.OpenDi argument.now) (now_of state.old)) result state.old state.new }
 {
     let number = opened_number(argument, state)?;
@@ -234,13 +246,15 @@ fn count_down(to: u32, state: &mut State) -> Result<Effect, Fault>
 }
 
 /// The effect of `JL`, which goes on at one of the `JU` after it, or at its label.
+#[tactic(auto, using(crate::proofs::Activations::position_there))]
 fn choose(count: u8, label: u32, state: &State) -> Result<Effect, Fault>
-    requires { state.now.frames.current.at < 2 ^ 63 }
+    requires running { state.now.frames ≢ [] }
+    requires room { state.now.at < 2 ^ 31 }
     ensures { Does (effect_of (op.JumpList count label) (now_of state.now)) result state.now state.now }
 {
     let number = low_byte(state.registers.accu1);
     if number < count {
-        Ok(Effect::Go(state.frames.current.at + 1 + usize::from(number)))
+        Ok(Effect::Go(state.at + 1 + usize::from(number)))
     } else {
         Ok(Effect::Go(label as usize))
     }
@@ -297,9 +311,12 @@ fn on_registers(op: &Op, state: &mut State) -> Result<Effect, Fault>
     next_on(registers, state)
 }
 
-/// Does an instruction. A fault leaves the memory as it was.
+/// Does an instruction that is no call. A fault leaves the memory as it was.
 pub fn effect_of(op: &Op, state: &mut State) -> Result<Effect, Fault>
-    requires { state.old.frames.current.at < 2 ^ 63 }
+    requires no_call { IsNoCall op.now }
+    requires places { HasPlaces op.now state.old.frames }
+    requires running { state.old.frames ≢ [] }
+    requires room { state.old.at < 2 ^ 31 }
     ensures { Does (effect_of op.now (now_of state.old)) result state.old state.new }
 {
     let status = state.registers.status;

@@ -8,7 +8,7 @@
 #![tactic(auto)]
 
 pub use laws::mnemonics_are_longest;
-pub use table::{Row, begins_with_mnemonic, goes_on, mnemonic_at, mnemonic_named};
+pub use table::{Row, goes_on, mnemonic_at, mnemonic_named};
 
 mod laws;
 mod rows;

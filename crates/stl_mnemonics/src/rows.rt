@@ -40,8 +40,8 @@ static C_ROWS: [Row; 10] = [
     Row("CAD", "", Mnemonic::Unary(UnaryRow::Cad)),
     Row("CAR", "", Mnemonic::ExchangeAr),
     Row("CDB", "", Mnemonic::ExchangeDb),
-    Row("CALL", "", Mnemonic::Later),
-    Row("CC", "", Mnemonic::Later),
+    Row("CALL", "", Mnemonic::Call),
+    Row("CC", "", Mnemonic::CallIf),
     Row("CU", "", Mnemonic::LeftOut(Kind::Counter)),
     Row("CD", "", Mnemonic::LeftOut(Kind::Counter)),
     Row("COS", "", Mnemonic::LeftOut(Kind::Real)),
@@ -192,7 +192,7 @@ static T_ROWS: [Row; 6] = [
     Row("TAN", "", Mnemonic::LeftOut(Kind::Real)),
 ];
 
-static U_ROWS: [Row; 1] = [Row("UC", "", Mnemonic::Later)];
+static U_ROWS: [Row; 1] = [Row("UC", "", Mnemonic::CallAlone)];
 
 static X_ROWS: [Row; 6] = [
     Row("X", "(", Mnemonic::Bracket(Check::X)),

@@ -2,7 +2,7 @@
 ghost use Rattle.std.specs.Prelude.{◌≡◌, ◌&&◌, ◌||◌, codes, map, option_map};
 ghost use Rattle.std.specs.List.{find};
 ghost use Rattle.s7_base.specs.Tokens.{is_same_word};
-ghost use Rattle.stl_statement_grammar.specs.Mnemonics.{goes_on, stands_at, mnemonic_at, begins_with_mnemonic, has_name, rows, mnemonic_named};
+ghost use Rattle.stl_statement_grammar.specs.Mnemonics.{goes_on, stands_at, mnemonic_at, has_name, rows, mnemonic_named};
 ghost use Rattle.stl_statement_grammar.specs.Words.{is_sign, is_spelled};
 ghost use Rattle.stl_mnemonics.specs.Rows.{view};
 ghost use Rattle.stl_mnemonics.specs.inner.LowBits.{first_bits, low_bits};
@@ -94,13 +94,6 @@ pub fn mnemonic_at(tokens: &[Token]) -> Option<Row>
     ensures { option_map view result ≡ mnemonic_at tokens.now }
 {
     first_row(tokens, rows_by(first_bits(tokens)))
-}
-
-/// Whether the tokens begin with a mnemonic.
-pub fn begins_with_mnemonic(tokens: &[Token]) -> bool
-    ensures { result ≡ begins_with_mnemonic tokens.now }
-{
-    mnemonic_at(tokens).is_some()
 }
 
 fn has_name(row: &Row, name: &[u8]) -> bool

@@ -1,7 +1,12 @@
+pub mod BlockNameLaws
+pub mod ConstantFronts
 pub mod Fronts
+pub mod ListLaws
 pub mod NoPlaces
+pub mod Outs
 pub mod PathLaws
 pub mod PlaceLaws
 pub mod PlaceTokens
 pub mod PointerLaws
-mod Repeated
+pub mod Repeated
+pub mod ValueFronts

@@ -1,9 +1,9 @@
 -- With what a place begins: no constant does, nor any other operand.
 use Rattle.std.proofs.Common.{◌≡◌, ℕ, ◌+◌, ◌*◌, ◌-◌, ◌≤◌, Bool, true, false, not, cond, ◌&&◌, ◌||◌, List, [], ◌∷◌, ◌++◌, length, drop, take, None, refl, sym, ap, subst, ◌∙◌, arith}
 use Rattle.std.proofs.Math.Seq.{drop-length, take-length}
-use Rattle.std.proofs.lemmas.Bool.{and_left, and_parts, and_right, leb-true, or_left}
+use Rattle.std.proofs.lemmas.Bool.{and_left, and_parts, and_right, leb-true, not-true, or_left}
 use Rattle.std.proofs.lemmas.Bool.Decides.{nat_tests}
-use Rattle.std.proofs.lemmas.List.{take-map}
+use Rattle.std.proofs.lemmas.List.{append-nil, append_assoc, take-map}
 use Rattle.std.proofs.lemmas.Slice.Eq.{bytes_eq-Decides}
 use Rattle.std.proofs.lemmas.Str.Ascii.{lowercase_is}
 use Rattle.std.specs.Char.{to_ascii_lowercase}
@@ -25,7 +25,7 @@ use Rattle.stl_statement_grammar.specs.declared.mnemonic.Read.TheVariants.{No}
 use Rattle.stl_tree.specs.declared.raw.RawPlace.{RawPlace}
 use Rattle.stl_constants.proofs.ConstantLaws.{AreUnmarked, no_mark, unmarked_no_text, word_is}
 use Rattle.stl_constants.proofs.ConstantLaws as are
-use Rattle.stl_constants.proofs.Reading.{if_false, if_true, joined_sign, no_sign, or_no, same_letters}
+use Rattle.stl_constants.proofs.Reading.{if_false, if_true, joined_sign, no_sign, or_no, other_sign, same_letters}
 use Rattle.stl_constants.proofs.Tables.{any_at}
 
 -- Letters
@@ -35,7 +35,7 @@ pub digit_low : (c : ℕ) → is_no_digit (to_ascii_lowercase c) ≡ is_no_digit
 digit_low c = grind (arith, nat_tests)
 
 -- what stands before the first digit of a word, in lower case
-letters_low : (text : List ℕ) → str_to_ascii_lowercase (letters_of text) ≡ letters_of (str_to_ascii_lowercase text)
+pub letters_low : (text : List ℕ) → str_to_ascii_lowercase (letters_of text) ≡ letters_of (str_to_ascii_lowercase text)
 letters_low text =
     sym (take-map to_ascii_lowercase (prefix_len is_no_digit text) text) ∙ ap (λ (n : ℕ). take n (str_to_ascii_lowercase text)) (sym (size text))
   where
@@ -66,10 +66,16 @@ record Begun (tokens : List Token) : Type 0 where
   known : begins_place (letters_of first.text) ≡ true
   unmarked : AreUnmarked (first ∷ rest)
 
--- nothing, or a point
-abbrev points : List Token → Bool
-points [] = true
-points (first ∷ rest) = is_sign (codes ".") first
+-- nothing, or no hash
+abbrev pub no_hash : List Token → Bool
+no_hash [] = true
+no_hash (first ∷ rest) = not (is_sign (codes "#") first)
+
+hash_off : (first : Token) → not (is_sign (codes "#") first) ≡ true → is_sign (codes "#") first ≡ false
+hash_off first h = not-true _ h
+
+point_no_hash : (point : Token) (rest : List Token) → is_sign (codes ".") point ≡ true → no_hash (point ∷ rest) ≡ true
+point_no_hash point rest at = ap not (other_sign (codes ".") (codes "#") point at refl)
 
 -- the letters of a word are those of its text in lower case
 pub register_letters : (first : Token) (word : List ℕ) → is_word word first ≡ true
@@ -100,21 +106,26 @@ lettered (c ∷ cs) e = by (is_between 48 57 c) refl
     by false t = record { no_digits = and_left _ _ t; no_number = if_false (is_between 48 57 c && nat_le (0 * 10 + (c - 48)) 32767) _ None (and_left _ _ t) }
 
 begun : (front rest : List Token) (letters : List ℕ) (n : ℕ) → IsNumbered front letters n
-    → begins_place letters ≡ true → points rest ≡ true → Begun (front ++ rest)
+    → begins_place letters ≡ true → no_hash rest ≡ true → Begun (front ++ rest)
 begun front rest letters n (in_one word k kind number) known at =
     record { first = word; rest = rest; is = refl; kind = kind; known = known; unmarked = by rest at }
   where
-    by : (rest : List Token) → points rest ≡ true → AreUnmarked (word ∷ rest)
+    behind : (point : Token) (more : List Token) → is_sign (codes "#") point ≡ false
+        → (b : Bool) → is_sign (codes ".") point ≡ b → AreUnmarked (word ∷ point ∷ more)
+    behind point more hash true at = are.pointed word point more kind (lettered word.text known).no_digits at
+    behind point more hash false at = are.stopped word point more kind hash at
+
+    by : (rest : List Token) → no_hash rest ≡ true → AreUnmarked (word ∷ rest)
     by [] at = are.one word kind
-    by (point ∷ more) at = are.pointed word point more kind (lettered word.text known).no_digits at
+    by (point ∷ more) at = behind point more (hash_off point at) (is_sign (codes ".") point) refl
 begun front rest letters n (in_two word next k kind none digits number) known at =
     record { first = word; rest = next ∷ rest; is = refl; kind = kind; known = known; unmarked = are.two word next rest kind digits }
 
-bit_points : (w : Width) (rest : List Token) (x : ℕ) → IsBitBehind w rest x → points rest ≡ true
-bit_points w rest x (form.bit point number k at word is) = joined_sign (codes ".") point at
-bit_points w rest x form.byte = refl
-bit_points w rest x form.word = refl
-bit_points w rest x form.dword = refl
+bit_points : (w : Width) (rest : List Token) (x : ℕ) → IsBitBehind w rest x → (behind : List Token) → no_hash behind ≡ true → no_hash (rest ++ behind) ≡ true
+bit_points w rest x (form.bit point number k at word is) behind none = point_no_hash point (number ∷ behind) (joined_sign (codes ".") point at)
+bit_points w rest x form.byte behind none = none
+bit_points w rest x form.word behind none = none
+bit_points w rest x form.dword behind none = none
 
 pub itself : (xs : List ℕ) → bytes_eq xs xs ≡ true
 itself xs = (bytes_eq-Decides xs xs).1 refl
@@ -125,14 +136,23 @@ word_known word among =
     (any_at (λ (row : PlaceWord). bytes_eq (str_to_ascii_lowercase word.word) (str_to_ascii_lowercase row.word)) place_words word among
     (itself (str_to_ascii_lowercase word.word)))
 
-placed_begun : (tokens : List Token) (place : RawPlace) → IsPlaceIn place_words None tokens place → Begun tokens
-placed_begun tokens place (placed table b front rest letters word byte x is among same is_bit) =
-    begun front rest letters byte is (ap is_begin (same_letters letters word.word same) ∙ word_known word among) (bit_points word.width rest x is_bit)
+-- with other tokens behind it
+placed_begun : (tokens : List Token) (place : RawPlace) → IsPlaceIn place_words None tokens place
+    → (behind : List Token) → no_hash behind ≡ true → Begun (tokens ++ behind)
+placed_begun tokens place (placed table b front rest letters word byte x is among same is_bit) behind none =
+    subst (λ (ts : List Token). Begun ts) (sym (append_assoc front rest behind))
+    (begun front (rest ++ behind) letters byte is (ap is_begin (same_letters letters word.word same) ∙ word_known word among)
+    (bit_points word.width rest x is_bit behind none))
+
+begun_before : (tokens : List Token) (place : RawPlace) → IsPlace tokens place → (behind : List Token) → no_hash behind ≡ true → Begun (tokens ++ behind)
+begun_before tokens place (alone ts p is) behind none = placed_begun ts p is behind none
+begun_before tokens place (in_block front letters n point rest p is db at glued in_db) behind none =
+    subst (λ (ts : List Token). Begun ts) (sym (append_assoc front (point ∷ rest) behind))
+    (begun front (point ∷ (rest ++ behind)) letters n is (ap is_begin (same_letters letters (codes "DB") db))
+    (point_no_hash point (rest ++ behind) (joined_sign (codes ".") point at)))
 
 place_begun : (tokens : List Token) (place : RawPlace) → IsPlace tokens place → Begun tokens
-place_begun tokens place (alone ts p is) = placed_begun ts p is
-place_begun tokens place (in_block front letters n point rest p is db at glued in_db) =
-    begun front (point ∷ rest) letters n is (ap is_begin (same_letters letters (codes "DB") db)) (joined_sign (codes ".") point at)
+place_begun tokens place is = subst (λ (ts : List Token). Begun ts) (append-nil tokens) (begun_before tokens place is [] refl)
 
 -- where no digit stands in lower case, none stands
 pub all_letters : (text : List ℕ) → list_all is_no_digit (str_to_ascii_lowercase text) ≡ true → prefix_len is_no_digit text ≡ length text
@@ -200,9 +220,8 @@ place_unmarked tokens place is = let b = place_begun tokens place is in subst (�
 pub place_kind : (tokens : List Token) (place : RawPlace) → IsPlace tokens place → begins_with_word tokens ≡ true
 place_kind tokens place is = let b = place_begun tokens place is in subst (λ (ts : List Token). begins_with_word ts ≡ true) b.is b.kind
 
-pub place_no_constant : (tokens : List Token) (place : RawPlace) → IsPlace tokens place → constant_at tokens ≡ No
-place_no_constant tokens place is =
-    let b = place_begun tokens place is in
+begun_no_constant : (tokens : List Token) → Begun tokens → constant_at tokens ≡ No
+begun_no_constant tokens b =
     subst (λ (ts : List Token). constant_at ts ≡ No) b.is (by b.first b.rest b.kind (lettered b.first.text b.known).no_number b.unmarked)
   where
     by : (first : Token) (rest : List Token) → is_word_kind first.kind ≡ true
@@ -215,9 +234,22 @@ place_no_constant tokens place is =
         ∙ or_no (marked_at prefixes (first ∷ rest)) _ (no_mark prefixes (first ∷ rest) unmarked)
         ∙ plain_is
 
+pub place_no_constant : (tokens : List Token) (place : RawPlace) → IsPlace tokens place → constant_at tokens ≡ No
+place_no_constant tokens place is = begun_no_constant tokens (place_begun tokens place is)
+
 -- a place is made of some tokens
 pub place_there : (tokens : List Token) (place : RawPlace) → IsPlace tokens place → tokens ≡ [] → ⊥
 place_there tokens place is e =
     let b = place_begun tokens place is in
     let clash : b.first ∷ b.rest ≡ [] = b.is ∙ e in
     absurd cc
+
+-- with other tokens behind it too
+pub place_before_no_constant : (tokens : List Token) (place : RawPlace) → IsPlace tokens place
+    → (behind : List Token) → no_hash behind ≡ true → constant_at (tokens ++ behind) ≡ No
+place_before_no_constant tokens place is behind none = begun_no_constant (tokens ++ behind) (begun_before tokens place is behind none)
+
+pub place_before_no_word : (tokens : List Token) (place : RawPlace) (word : List ℕ) → IsPlace tokens place
+    → (behind : List Token) → IsNoPlace word → word_is word (tokens ++ behind) ≡ false
+place_before_no_word [] place word is behind none = absurd (place_there [] place is refl)
+place_before_no_word (first ∷ rest) place word is behind none = place_no_word (first ∷ rest) place word is none

@@ -130,6 +130,15 @@ fn put_symbol(reading: &mut Reading, line: SymbolLine) -> Result<(), NoMemory>
     reading.symbols.push(line)
 }
 
+/// Makes the last data block an instance.
+fn put_instance(reading: &mut Reading, name: RawName)
+    ensures { reading.new ≡ with_item reading.old (item.InstanceOf name) }
+{
+    if let Some(db) = &mut reading.last_db {
+        db.kind = RawDataKind::Instance(name);
+    }
+}
+
 /// Adds an instruction to the last block.
 fn put_instr(reading: &mut Reading, instr: RawInstr) -> Result<(), NoMemory>
     ensures { OnOk result (reading.new ≡ with_item reading.old (item.Instr instr)) }
@@ -173,6 +182,10 @@ fn put_item(alloc: Global, reading: &mut Reading, item: Item) -> Result<(), NoMe
         }
         Item::Symbol(line) => put_symbol(reading, line),
         Item::Declares(name, line, written) => put_type(alloc, reading, name, line, written),
+        Item::InstanceOf(name) => {
+            put_instance(reading, name);
+            Ok(())
+        }
         Item::Closes(items) => put_closed(alloc, reading, items),
         Item::Instr(instr) => put_instr(reading, instr),
         Item::Initial(value) => put_initial(reading, value),

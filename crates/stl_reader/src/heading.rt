@@ -1,70 +1,18 @@
 //! Headings of blocks, and the lines after them that are skipped.
-ghost use Rattle.std.specs.Prelude.{◌≡◌, ◌-◌, ◌≤◌, length, IfOk};
-ghost use Rattle.stl_grammar.specs.Items.{is_data};
-ghost use Rattle.stl_grammar.specs.Headings.{number_behind, number_within, number_named, name_at, line_of, heading_kind, kind_word, block_heading, opened_by, is_behind, is_on, size_on, has_colon, is_skipped};
+ghost use Rattle.std.specs.Prelude.{◌≡◌, ◌-◌, ◌≤◌, length, None, IfOk};
+ghost use Rattle.stl_grammar.specs.Items.{heading_at, is_data};
+ghost use Rattle.stl_grammar.specs.Headings.{line_of, heading_kind, block_heading, result_or, result_kind, result_read, result_at, result_behind, function_at, function_heading, opened_by, is_behind, is_on, size_on, has_colon, is_skipped};
+ghost use Rattle.stl_statement_grammar.specs.Readers.{IsWithin, further, read_as};
 
 use crate::words::{is_attribute, is_title};
-use digit_texts::kept_number;
-use s7_base::{Line, List, NoMemory, Reason, Token, rest_after};
+use s7_base::{Kind, Line, NoMemory, Reason, Token, rest_after};
 use std::alloc::Global;
-use stl_constants::{fitting, is_numbered, is_quoted, is_sign, is_word};
+use stl_constants::{is_sign, is_word};
+use stl_declarations::{elementary_type, type_kind};
 use stl_grammar::{Item, NextItem, Where};
-use stl_places::number_word;
+use stl_places::{kind_word, name_at};
 use stl_statement_grammar::Read;
-use stl_tree::{BlockKind, RawName};
-
-/// The number in a word after the word of a kind.
-fn number_behind(tokens: &[Token]) -> Option<u32>
-    ensures { result ≡ number_behind tokens.now }
-{
-    match tokens {
-        [number, ..] => number_word(number),
-        [] => None,
-    }
-}
-
-/// The number in a word that begins with the word of a kind.
-fn number_within(kind: &str, word: &Token) -> Option<u32>
-    ensures { result ≡ number_within kind.now word.now }
-{
-    if is_numbered(word, kind) {
-        kept_number(rest_after(word.text.as_slice(), kind.len()))
-    } else {
-        None
-    }
-}
-
-/// A block by its number.
-fn number_named(kind: &str, first: &Token, rest: &[Token]) -> Read<RawName>
-    ensures { result ≡ number_named kind.now first.now rest.now }
-{
-    if is_word(first, kind) {
-        fitting(2, number_behind(rest).map(RawName::Number))
-    } else {
-        fitting(1, number_within(kind, first).map(RawName::Number))
-    }
-}
-
-/// A copy of a list of bytes.
-pub fn copy_of_bytes(alloc: Global, bytes: &[u8]) -> Result<List<u8>, NoMemory>
-    ensures { IfOk result (λ list. list ≡ bytes.now) }
-{
-    Ok(List::from_vec(Vec::from_slice(alloc, bytes)?))
-}
-
-/// The name at a place where a block of this kind is named.
-fn name_at(alloc: Global, kind: &str, tokens: &[Token]) -> Result<Read<RawName>, NoMemory>
-    ensures { IfOk result (λ found. found ≡ name_at kind.now tokens.now) }
-{
-    let [first, rest @ ..] = tokens else {
-        return Ok(Read::No);
-    };
-    if is_quoted(first) {
-        let name = copy_of_bytes(alloc, first.text.as_slice())?;
-        return Ok(Read::Fits(RawName::Name(name), 1));
-    }
-    Ok(number_named(kind, first, rest))
-}
+use stl_tree::{BlockKind, ElemType, RawName};
 
 /// Whether a block of this kind is a data block.
 pub fn is_data(kind: BlockKind) -> bool
@@ -73,28 +21,18 @@ pub fn is_data(kind: BlockKind) -> bool
     matches!(kind, BlockKind::Db)
 }
 
-/// The kind of a block, by the first word of its heading.
+/// The kind of a block without a type, by the first word of its heading.
 fn heading_kind(first: &Token) -> Option<BlockKind>
     ensures { result ≡ heading_kind first.now }
 {
     if is_word(first, "ORGANIZATION_BLOCK") {
         Some(BlockKind::Ob)
+    } else if is_word(first, "FUNCTION_BLOCK") {
+        Some(BlockKind::Fb)
     } else if is_word(first, "DATA_BLOCK") {
         Some(BlockKind::Db)
     } else {
         None
-    }
-}
-
-/// The word before the number of a block.
-pub fn kind_word(kind: BlockKind) -> &'static str
-    ensures { result.now ≡ kind_word kind }
-{
-    match kind {
-        BlockKind::Ob => "OB",
-        BlockKind::Fc => "FC",
-        BlockKind::Fb => "FB",
-        BlockKind::Db => "DB",
     }
 }
 
@@ -108,15 +46,9 @@ fn line_of(line: Line, tokens: &[Token]) -> Line
     }
 }
 
-/// The heading of a block by its name, or why there is none.
-fn block_heading(
-    reason: Reason,
-    kind: BlockKind,
-    first: &Token,
-    rest: &[Token],
-    name: Read<RawName>,
-) -> NextItem
-    ensures { result ≡ block_heading reason kind first.now rest.now name }
+/// The heading of a block by its name.
+fn block_heading(kind: BlockKind, first: &Token, rest: &[Token], name: Read<RawName>) -> NextItem
+    ensures { result ≡ block_heading kind first.now rest.now name }
 {
     match name {
         Read::Fits(name, size) => {
@@ -127,28 +59,149 @@ fn block_heading(
                 Where::Heading(kind, line),
             )
         }
-        Read::LeftOut(_) | Read::No => NextItem::Misfit(first.line, reason),
+        Read::LeftOut(_) | Read::No => NextItem::Misfit(first.line, Reason::BadStatement),
     }
 }
 
-/// The heading at a place where other items may come too, or why a heading is refused.
-pub fn heading_at(
+/// The type of a function's result, by its elementary type where it has one: none for `VOID`.
+fn result_or(elementary: Option<ElemType>, word: &Token) -> Option<Option<ElemType>>
+    ensures { result ≡ result_or elementary word.now }
+{
+    match elementary {
+        Some(ty) => Some(Some(ty)),
+        None if is_word(word, "VOID") => Some(None),
+        None => None,
+    }
+}
+
+/// The kind of a function's type that is not supported.
+fn result_kind(word: &Token, rest: &[Token]) -> Option<Kind>
+    ensures { result ≡ result_kind word.now rest.now }
+{
+    if is_word(word, "DATE_AND_TIME") {
+        Some(Kind::DateTime)
+    } else {
+        type_kind(word, rest)
+    }
+}
+
+fn result_read(found: Option<Option<ElemType>>, left_out: Option<Kind>) -> Read<Option<ElemType>>
+    ensures value { result ≡ result_read found left_out }
+    ensures within { IsWithin 1 result }
+{
+    match (found, left_out) {
+        (Some(ty), _) => Read::Fits(ty, 1),
+        (None, Some(kind)) => Read::LeftOut(kind),
+        (None, None) => Read::No,
+    }
+}
+
+/// The type of a function's result.
+fn result_at(tokens: &[Token]) -> Read<Option<ElemType>>
+    ensures value { result ≡ result_at tokens.now }
+    ensures within { IsWithin 1 result }
+{
+    match tokens {
+        [word, rest @ ..] => result_read(
+            result_or(elementary_type(word), word),
+            result_kind(word, rest),
+        ),
+        [] => Read::No,
+    }
+}
+
+/// A colon and the type of a function's result.
+fn result_behind(tokens: &[Token]) -> Read<Option<ElemType>>
+    ensures value { result ≡ result_behind tokens.now }
+    ensures within { IsWithin 2 result }
+{
+    match tokens {
+        [colon, rest @ ..] if is_sign(colon, ":") => match result_at(rest) {
+            Read::Fits(ty, size) => Read::Fits(ty, size + 1),
+            Read::LeftOut(kind) => Read::LeftOut(kind),
+            Read::No => Read::No,
+        },
+        _ => Read::No,
+    }
+}
+
+/// The heading of a function by its name, the number of its tokens and the type of its result.
+fn function_with(
+    first: &Token,
+    rest: &[Token],
+    name: RawName,
+    size: usize,
+    read: Read<Option<ElemType>>,
+) -> NextItem
+    requires few { size ≤ 2 }
+    requires within { IsWithin 2 read }
+    ensures { result ≡ function_heading first.now rest.now (further size (read_as (λ type. (name, type)) read)) }
+{
+    match read {
+        Read::Fits(ty, more) => {
+            let line = line_of(
+                first.line,
+                rest_after(rest, (size + more).saturating_sub(1)),
+            );
+            NextItem::Fits(
+                Item::Opens(first.line, BlockKind::Fc, name, ty),
+                size + more,
+                Where::Heading(BlockKind::Fc, line),
+            )
+        }
+        Read::LeftOut(kind) => NextItem::Misfit(first.line, Reason::Unsupported(kind)),
+        Read::No => NextItem::Misfit(first.line, Reason::BadStatement),
+    }
+}
+
+/// The heading of a function.
+fn function_heading(alloc: Global, first: &Token, rest: &[Token]) -> Result<NextItem, NoMemory>
+    ensures { IfOk result (λ found. found ≡ function_heading first.now rest.now (function_at rest.now)) }
+{
+    match name_at(alloc, "FC", rest)? {
+        Read::Fits(name, size) => {
+            let read = result_behind(rest_after(rest, size));
+            Ok(function_with(first, rest, name, size, read))
+        }
+        Read::LeftOut(kind) => Ok(NextItem::Misfit(first.line, Reason::Unsupported(kind))),
+        Read::No => Ok(NextItem::Misfit(first.line, Reason::BadStatement)),
+    }
+}
+
+/// The heading of a function, at a place where another item may come too.
+fn function_or(
     alloc: Global,
-    reason: Reason,
     other: NextItem,
     first: &Token,
     rest: &[Token],
 ) -> Result<NextItem, NoMemory>
-    ensures { IfOk result (λ found. found ≡ opened_by reason (heading_kind first.now) other first.now rest.now) }
+    ensures { IfOk result (λ found. found ≡ opened_by None other first.now rest.now) }
+{
+    if is_word(first, "FUNCTION") {
+        // Given up first: what is owned at a `?` costs the prover.
+        drop(other);
+        function_heading(alloc, first, rest)
+    } else {
+        Ok(other)
+    }
+}
+
+/// The heading at a place where another item may come too.
+pub fn heading_at(
+    alloc: Global,
+    other: NextItem,
+    first: &Token,
+    rest: &[Token],
+) -> Result<NextItem, NoMemory>
+    ensures { IfOk result (λ found. found ≡ heading_at other first.now rest.now) }
 {
     match heading_kind(first) {
         Some(kind) => {
-            // Given up first: what is owned at a `?` costs the prover.
             drop(other);
             let name = name_at(alloc, kind_word(kind), rest)?;
-            Ok(block_heading(reason, kind, first, rest, name))
+            Ok(block_heading(kind, first, rest, name))
         }
-        None => Ok(other),
+        None => function_or(alloc, other, first, rest),
     }
 }
 

@@ -2,15 +2,14 @@
 ghost use Rattle.std.specs.Prelude.{◌≡◌, ◌∷◌, IfOk};
 ghost use Rattle.stl_grammar.specs.Items.{closing_at, declaration_found, declaration_item, inside_at, section_end_found, struct_found};
 
-use crate::heading::copy_of_bytes;
-use crate::misfit::{left_out_reason, undeclared_reason};
+use crate::misfit::left_out_reason;
 use s7_base::{Line, List, NoMemory, Reason, Token};
 use std::alloc::Global;
 use std::collections::LinkedList;
-use stl_declarations::{
-    begins_with_sign, declaration_at, ending_at, ends_level, left_of, open_level,
-};
+use stl_constants::begins_with_sign;
+use stl_declarations::{declaration_at, ending_at, ends_level, left_of, open_level};
 use stl_grammar::{Item, Level, NextItem, Section, Where, Written};
+use stl_places::name_of;
 use stl_statement_grammar::Read;
 use stl_tree::{BlockKind, InitialItem};
 
@@ -68,7 +67,7 @@ fn closing_at(
     let mut levels = levels;
     match levels.pop_front() {
         Some(level) => {
-            let read = ending_at(alloc, section, level.in_array, rest)?;
+            let read = ending_at(alloc, kind, section, level.in_array, rest)?;
             Ok(struct_found(kind, section, level.line, levels, tokens, read))
         }
         None => Ok(section_end_found(kind, section, first, rest)),
@@ -94,7 +93,7 @@ fn declaration_item(
         written.innermost,
         written.arrays.len(),
     )?;
-    let name = copy_of_bytes(alloc, first.text.as_slice())?;
+    let name = name_of(alloc, first)?;
     Ok(NextItem::Fits(
         Item::Declares(name, first.line, written),
         size,
@@ -119,7 +118,7 @@ fn declaration_found(
             alloc, kind, section, levels, first, written, size,
         ),
         Read::LeftOut(left) => Ok(NextItem::Misfit(first.line, left_out_reason(tokens, left))),
-        Read::No => Ok(NextItem::Misfit(first.line, undeclared_reason(tokens))),
+        Read::No => Ok(NextItem::Misfit(first.line, Reason::BadStatement)),
     }
 }
 
@@ -138,6 +137,6 @@ pub fn inside_at(
     if ends_level(section, &levels, first) {
         return closing_at(alloc, kind, section, levels, tokens, first, rest);
     }
-    let read = declaration_at(alloc, section, left_of(&levels), first, rest)?;
+    let read = declaration_at(alloc, kind, section, left_of(&levels), first, rest)?;
     declaration_found(alloc, kind, section, levels, tokens, first, read)
 }

@@ -1,16 +1,14 @@
 //! The item at a place of a text.
-ghost use Rattle.std.specs.Prelude.{◌≡◌, [], take, IfOk};
-ghost use Rattle.stl_grammar.specs.Items.{is_complete, statement_at, statement_size, begins_body, behind_at, behind_heading, body_of, cut_line, section_found, is_skipped_alone, statement_found, statement_from, body_at, at_end, at_token, item_at};
+ghost use Rattle.std.specs.Prelude.{◌≡◌, [], take, None, IfOk};
+ghost use Rattle.stl_grammar.specs.Items.{is_complete, statement_at, statement_size, begins_body, behind_at, behind_heading, behind_reason, instance_found, instance_or, body_of, cut_line, section_found, is_skipped_alone, statement_found, statement_from, body_at, at_end, at_token, item_at};
+ghost use Rattle.stl_grammar.specs.Sections.{section_at};
 ghost use Rattle.stl_statement_grammar.specs.Statements.{instruction_of};
 ghost use Rattle.stl_grammar.specs.declared.item.Where.TheVariants.{Body};
 ghost use Rattle.stl_reader.specs.inner.Finding.{HasFirst};
 
 use crate::heading::{heading_at, is_data, is_skipped, size_on};
 use crate::inside::inside_at;
-use crate::misfit::{
-    body_reason, data_reason, heading_reason, is_semicolon, reason_in, statement_reason,
-    statement_size,
-};
+use crate::misfit::{data_reason, heading_reason, is_semicolon, statement_size};
 use crate::symbol::{in_table, table_at};
 use crate::values::{is_end, values_at};
 use s7_base::{Line, NoMemory, Reason, Rejection, Token, front_of};
@@ -20,7 +18,9 @@ use stl_constants::is_word;
 use stl_declarations::section_at;
 use stl_grammar::{Item, Level, NextItem, Section, Where};
 use stl_instructions::instruction;
-use stl_tree::BlockKind;
+use stl_places::name_at;
+use stl_statement_grammar::Read;
+use stl_tree::{BlockKind, RawName};
 
 /// Whether a token is the BEGIN of a block's body after its heading; in a data block only declarations may
 /// come there.
@@ -50,6 +50,53 @@ fn section_found(
     }
 }
 
+/// Why what comes after the heading of a block is refused.
+fn behind_reason(kind: BlockKind, tokens: &[Token]) -> Reason
+    ensures { result ≡ behind_reason kind tokens.now }
+{
+    match kind {
+        BlockKind::Db => data_reason(tokens),
+        BlockKind::Ob | BlockKind::Fc | BlockKind::Fb => Reason::BadStatement,
+    }
+}
+
+/// The function block of a data block, by what was read of its name, or another item.
+fn instance_or(read: Read<RawName>, other: NextItem) -> NextItem
+    ensures { result ≡ instance_or read other }
+{
+    match read {
+        Read::Fits(name, size) => NextItem::Fits(
+            Item::InstanceOf(name),
+            size.saturating_sub(1),
+            Where::Behind(BlockKind::Db, Section::Own),
+        ),
+        Read::LeftOut(_) | Read::No => other,
+    }
+}
+
+/// A section after a heading, or in a data block its function block.
+fn instance_or_section(
+    alloc: Global,
+    kind: BlockKind,
+    tokens: &[Token],
+    first: &Token,
+) -> Result<NextItem, NoMemory>
+    ensures { IfOk result (λ found. found ≡ instance_found kind tokens.now (section_found kind (behind_reason kind tokens.now) first.now (section_at kind None first.now))) }
+{
+    let reason = behind_reason(kind, tokens);
+    let section = section_at(kind, None, first);
+    match kind {
+        BlockKind::Db => {
+            let read = name_at(alloc, "FB", tokens)?;
+            let other = section_found(alloc, kind, reason, first, section);
+            Ok(instance_or(read, other))
+        }
+        BlockKind::Ob | BlockKind::Fc | BlockKind::Fb => {
+            Ok(section_found(alloc, kind, reason, first, section))
+        }
+    }
+}
+
 /// The item after a heading whose last line this is.
 fn behind_heading(
     alloc: Global,
@@ -58,20 +105,19 @@ fn behind_heading(
     tokens: &[Token],
     first: &Token,
     rest: &[Token],
-) -> NextItem
-    ensures { result ≡ behind_heading kind line tokens.now first.now rest.now }
+) -> Result<NextItem, NoMemory>
+    ensures { IfOk result (λ found. found ≡ behind_heading kind line tokens.now first.now rest.now) }
 {
     if is_skipped(line, first, rest) {
-        NextItem::Fits(
+        Ok(NextItem::Fits(
             Item::Mark,
             size_on(first.line, rest),
             Where::Heading(kind, first.line),
-        )
+        ))
     } else if begins_body(kind, first) {
-        NextItem::Fits(Item::Mark, 0, Where::Body(kind))
+        Ok(NextItem::Fits(Item::Mark, 0, Where::Body(kind)))
     } else {
-        let reason = reason_in(kind, data_reason(tokens), tokens);
-        section_found(alloc, kind, reason, first, section_at(kind, None, first))
+        instance_or_section(alloc, kind, tokens, first)
     }
 }
 
@@ -86,23 +132,16 @@ fn body_of(kind: BlockKind) -> Where
 }
 
 /// The item after a section.
-fn behind_at(
-    alloc: Global,
-    kind: BlockKind,
-    section: Section,
-    tokens: &[Token],
-    first: &Token,
-) -> NextItem
-    ensures { result ≡ behind_at kind section tokens.now first.now }
+fn behind_at(alloc: Global, kind: BlockKind, section: Section, first: &Token) -> NextItem
+    ensures { result ≡ behind_at kind section first.now }
 {
     if is_word(first, "BEGIN") {
         NextItem::Fits(Item::Mark, 0, body_of(kind))
     } else {
-        let reason = reason_in(kind, Reason::BadStatement, tokens);
         section_found(
             alloc,
             kind,
-            reason,
+            Reason::BadStatement,
             first,
             section_at(kind, Some(section), first),
         )
@@ -122,10 +161,7 @@ fn complete_from(
 {
     match instruction(alloc, front_of(tokens, size)) {
         Ok(instr) => Ok(NextItem::Fits(Item::Instr(instr), size, Where::Body(kind))),
-        Err(Rejection::Refused(_, reason)) => Ok(NextItem::Misfit(
-            line,
-            statement_reason(tokens, reason),
-        )),
+        Err(Rejection::Refused(_, reason)) => Ok(NextItem::Misfit(line, reason)),
         Err(Rejection::NoMemory) => Err(NoMemory),
     }
 }
@@ -141,7 +177,7 @@ fn statement_from(
 {
     let size = statement_size(tokens);
     if size == tokens.len() {
-        return Ok(NextItem::Misfit(line, body_reason(tokens)));
+        return Ok(NextItem::Misfit(line, Reason::BadStatement));
     }
     complete_from(alloc, kind, line, tokens, size)
 }
@@ -182,26 +218,17 @@ fn at_token(
     ensures { IfOk result (λ found. found ≡ at_token place tokens.now first.now rest.now) }
 {
     match place {
-        Where::Start => {
-            let reason = heading_reason(tokens);
-            heading_at(alloc, reason, table_at(tokens, first), first, rest)
-        }
-        Where::Table(line) => in_table(alloc, line, tokens, first, rest),
+        Where::Start => heading_at(alloc, table_at(tokens, first), first, rest),
+        Where::Table(line) => in_table(alloc, line, first, rest),
         Where::Between => {
-            let reason = heading_reason(tokens);
-            heading_at(
-                alloc,
-                reason,
-                NextItem::Misfit(first.line, reason),
-                first,
-                rest,
-            )
+            let other = NextItem::Misfit(first.line, heading_reason(tokens));
+            heading_at(alloc, other, first, rest)
         }
-        Where::Heading(kind, line) => Ok(behind_heading(alloc, kind, line, tokens, first, rest)),
+        Where::Heading(kind, line) => behind_heading(alloc, kind, line, tokens, first, rest),
         Where::Inside(kind, section, levels) => {
             inside_at(alloc, kind, section, levels, tokens, first, rest)
         }
-        Where::Behind(kind, section) => Ok(behind_at(alloc, kind, section, tokens, first)),
+        Where::Behind(kind, section) => Ok(behind_at(alloc, kind, section, first)),
         Where::Body(kind) => body_at(alloc, kind, tokens, first),
         Where::Values => values_at(alloc, tokens, first),
     }

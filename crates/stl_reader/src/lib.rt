@@ -4,14 +4,12 @@
 //! those of a statement and `stl_declarations` for those of declarations and initial values. `item` reads the
 //! item at a place of the text: `heading` those of blocks, `symbol` those of the symbol table, `inside` those
 //! among declarations, `values` those of the body of a data block. `misfit` says why an item is refused that
-//! fits no form, with `cut_off` for headings that the end of the text cuts off, and `blocks` makes the raw
-//! program of the items. `read_blocks` gives exactly the raw program of a text, or its refusal.
+//! fits no form, and `blocks` makes the raw program of the items. `read_blocks` gives exactly the raw program of a text, or its refusal.
 #![tactic(auto)]
 
 pub use blocks::read_blocks;
 
 mod blocks;
-mod cut_off;
 mod heading;
 mod inside;
 mod item;

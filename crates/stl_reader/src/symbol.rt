@@ -5,14 +5,15 @@ ghost use Rattle.s7_base.specs.Tokens.{is_blank};
 ghost use Rattle.stl_grammar.specs.Items.{in_table, symbol_found, table_at};
 ghost use Rattle.stl_grammar.specs.Symbols.{address_by, address_of, area_by, bit_address, bit_behind, bit_with, ends_line, ends_table, is_letter, is_next, kind_of, named_address, place_address, place_of, symbol_at, symbol_behind, symbol_line, trimmed_field, width_by};
 
-use crate::heading::{copy_of_bytes, is_behind, is_on, kind_word};
-use crate::misfit::{heading_reason, reason_with};
+use crate::heading::{is_behind, is_on};
+use crate::misfit::heading_reason;
 use digit_texts::{digits_size, kept_number};
 use memory_areas::AreaName;
-use s7_base::{Line, NoMemory, Token, Width, front_of, is_same_word, rest_after};
+use s7_base::{Line, List, NoMemory, Reason, Token, Width, front_of, is_same_word, rest_after};
 use std::alloc::Global;
 use stl_constants::{is_quoted, is_sign, is_word};
 use stl_grammar::{Item, NextItem, Where};
+use stl_places::kind_word;
 use stl_tree::{BlockKind, RawPlace, SymbolAddress, SymbolLine};
 
 fn is_blank(b: u8) -> bool
@@ -207,7 +208,7 @@ fn symbol_line(alloc: Global, name: &Token, address: &Token) -> Result<SymbolLin
     ensures { IfOk result (λ line. line ≡ symbol_line name.now address.now) }
 {
     Ok(SymbolLine {
-        name: copy_of_bytes(alloc, trimmed_field(name.text.as_slice()))?,
+        name: List::from_vec(Vec::from_slice(alloc, trimmed_field(name.text.as_slice()))?),
         line: name.line,
         address: address_of(trimmed_field(address.text.as_slice())),
     })
@@ -274,12 +275,12 @@ pub fn table_at(tokens: &[Token], first: &Token) -> NextItem
     }
 }
 
-fn symbol_found(line: Line, tokens: &[Token], first: &Token, found: Option<SymbolLine>) -> NextItem
-    ensures { result ≡ symbol_found line tokens.now first.now found }
+fn symbol_found(first: &Token, found: Option<SymbolLine>) -> NextItem
+    ensures { result ≡ symbol_found first.now found }
 {
     match found {
         Some(symbol) => NextItem::Fits(Item::Symbol(symbol), 6, Where::Table(first.line)),
-        None => NextItem::Misfit(first.line, reason_with(false, false, tokens)),
+        None => NextItem::Misfit(first.line, Reason::BadStatement),
     }
 }
 
@@ -287,15 +288,14 @@ fn symbol_found(line: Line, tokens: &[Token], first: &Token, found: Option<Symbo
 pub fn in_table(
     alloc: Global,
     line: Line,
-    tokens: &[Token],
     first: &Token,
     rest: &[Token],
 ) -> Result<NextItem, NoMemory>
-    ensures { IfOk result (λ found. found ≡ in_table line tokens.now first.now rest.now) }
+    ensures { IfOk result (λ found. found ≡ in_table line first.now rest.now) }
 {
     if ends_table(line, first, rest) {
         return Ok(NextItem::Fits(Item::Mark, 0, Where::Between));
     }
     let symbol = symbol_behind(alloc, line, first, rest)?;
-    Ok(symbol_found(line, tokens, first, symbol))
+    Ok(symbol_found(first, symbol))
 }

@@ -4,8 +4,6 @@
 #![tactic(auto)]
 
 #[cfg(test)]
-mod machines;
-#[cfg(test)]
 mod pointer_cases;
 #[cfg(test)]
 mod status_word_cases;

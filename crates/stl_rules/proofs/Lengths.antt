@@ -28,6 +28,7 @@ use Rattle.stl_rules.specs.TooLarge.{first_large, first_large_in, inside, length
 use Rattle.stl_rules.proofs.Ends.{behind, of_elementary}
 use Rattle.stl_rules.proofs.Equations.{bits_array, bits_date, bits_elementary, bits_struct, breaks_array, breaks_declaration, breaks_struct, extent_array, extent_date, extent_elementary, extent_struct, inside_array, inside_its_type, inside_struct, laid_cons, laid_nil, scope_cons, scope_nil, takes_array, takes_date, takes_elementary, takes_struct}
 use Rattle.stl_rules.proofs.Lists.{no_parts}
+use Rattle.stl_rules.proofs.Scopes.{names_behind, scope_parts}
 use Rattle.stl_rules.proofs.TypeInduction.{Each, TypeSteps, each_type, every_type}
 
 -- Lengths of lists
@@ -321,21 +322,6 @@ module _ (limit : ℕ) (small : limit < 2 ^ 32) where
       }
 
   -- Sections
-
-  -- the names of a scope behind some declarations
-  abbrev names_behind : List (List ℕ) → List Declaration → List (List ℕ)
-  names_behind names [] = names
-  names_behind names (d ∷ decls) = names_behind (with_name (key_of d.name) names) decls
-
-  scope_parts : (names : List (List ℕ)) (a b : List Declaration) → scope_breaks names (a ++ b) ≡ []
-      → (scope_breaks names a ≡ []) × (scope_breaks (names_behind names a) b ≡ [])
-  scope_parts names [] b e = (scope_nil names, e)
-  scope_parts names (d ∷ a) b e =
-      let next = with_name (key_of d.name) names in
-      let here = break_if_repeated d.line (is_named (key_of d.name) names) ++ declaration_breaks d in
-      let parts = no_parts here (scope_breaks next (a ++ b)) (sym (scope_cons names d (a ++ b)) ∙ e) in
-      let more = scope_parts next a b parts.1 in
-      (scope_cons names d a ∙ ap (λ bs. bs ++ scope_breaks next a) parts.0 ∙ more.0, more.1)
 
   neither : (a b : Option Line) → option_or a b ≡ None → (a ≡ None) × (b ≡ None)
   neither None b e = (refl, e)

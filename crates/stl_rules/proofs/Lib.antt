@@ -1,3 +1,4 @@
+mod CallCases
 pub mod Components
 pub mod Ends
 pub mod Equations
@@ -7,5 +8,6 @@ pub mod Lengths
 pub mod Lists
 mod NameCases
 mod OperandCases
+pub mod Scopes
 pub mod TypeInduction
 mod VerdictCases

@@ -57,21 +57,21 @@ use Rattle.stl_rules.proofs.VerdictCases.{on_line_3, refused}
 
 -- Raw programs
 
-abbrev on_line : ℕ → Line
+abbrev pub on_line : ℕ → Line
 on_line n = record { 0 = n }
 
-abbrev place : AreaName → Width → ℕ → ℕ → RawPlace
+abbrev pub place : AreaName → Width → ℕ → ℕ → RawPlace
 place name w byte bit = record { block = None; area = name; width = w; byte = byte; bit = bit }
 
 -- a place with the number of its data block
 abbrev in_db : ℕ → Width → ℕ → ℕ → RawPlace
 in_db n w byte bit = record { block = Some n; area = area.Db; width = w; byte = byte; bit = bit }
 
-abbrev instr : List ℕ → RawOperand → RawInstr
+abbrev pub instr : List ℕ → RawOperand → RawInstr
 instr mnemonic o =
     record { label = None; line = on_line 3; op = record { mnemonic = mnemonic; operand = o } }
 
-abbrev ob : ℕ → RawName → List Declaration → List RawInstr → RawBlock
+abbrev pub ob : ℕ → RawName → List Declaration → List RawInstr → RawBlock
 ob line name temps body =
     record {
       kind = block.Ob;

@@ -7,11 +7,11 @@ use Rattle.memory_areas.specs.declared.place.AreaName.TheVariants as area
 use Rattle.s7_base.specs.Tokens.{tokens_of}
 use Rattle.s7_base.specs.declared.check.Check.TheVariants as check
 use Rattle.s7_base.specs.declared.reason.Kind.TheVariants as kind
-use Rattle.s7_base.specs.declared.reason.Reason.TheVariants.{BadAddress, BadOperand, Unsupported}
+use Rattle.s7_base.specs.declared.reason.Reason.TheVariants.{BadAddress, BadOperand, BadStatement, Unsupported}
 use Rattle.s7_base.specs.declared.reason.Rejection.{Rejection}
 use Rattle.s7_base.specs.declared.word.Width.TheVariants as width
 use Rattle.status_word.specs.declared.test.Test.TheVariants as test
-use Rattle.stl_grammar.specs.Items.{is_not_built, item_at}
+use Rattle.stl_grammar.specs.Items.{item_at}
 use Rattle.stl_statement_grammar.specs.Mnemonics.{mnemonic_at, mnemonic_named}
 use Rattle.stl_rules.specs.Labels.{label_of}
 use Rattle.stl_rules.specs.Programs.{op_of}
@@ -62,7 +62,7 @@ numbers :
     ≡ accepted
     (constant 5 ∷ constant 32767 ∷ constant 32768 ∷ constant 65535 ∷ constant 0 ∷ constant 4294967295 ∷ constant 2147483647
     ∷ constant 2147483648 ∷ [])
-unfolding verdict checked_program raw_text raw_program item_at is_not_built instruction_of tokens_of
+unfolding verdict checked_program raw_text raw_program item_at instruction_of tokens_of
     mnemonic_at mnemonic_named op_of resolved_operand label_of out-RawOperand Carrier.out scope_breaks first_large
 numbers = refl
 
@@ -71,7 +71,7 @@ patterns :
     ≡ accepted
     (constant 255 ∷ constant 32769 ∷ constant 2147483649 ∷ constant 2 ∷ constant 258 ∷ constant 4278190852 ∷ constant 65 ∷ constant 16706
     ∷ constant 4275011 ∷ constant 1094861636 ∷ [])
-unfolding verdict checked_program raw_text raw_program item_at is_not_built instruction_of tokens_of
+unfolding verdict checked_program raw_text raw_program item_at instruction_of tokens_of
     mnemonic_at mnemonic_named op_of resolved_operand label_of out-RawOperand Carrier.out scope_breaks first_large
 patterns = refl
 
@@ -81,7 +81,7 @@ places :
     (op.Load (load.At (Direct area.M 5 0) width.Byte) ∷ op.Load (load.At (Direct area.M 8190 0) width.Word)
     ∷ op.Load (load.At (Direct area.I 2044 0) width.Dword) ∷ op.Transfer (Direct area.Q 2047 0) width.Byte
     ∷ op.Transfer (Direct area.M 1 0) width.Dword ∷ op.LoadStw ∷ op.TransferStw ∷ [])
-unfolding verdict checked_program raw_text raw_program item_at is_not_built instruction_of tokens_of
+unfolding verdict checked_program raw_text raw_program item_at instruction_of tokens_of
     mnemonic_at mnemonic_named op_of resolved_operand label_of out-RawOperand Carrier.out scope_breaks first_large
 places = refl
 
@@ -90,7 +90,7 @@ with_numbers :
     ≡ accepted
     (op.AddWord (pos 5) ∷ op.AddWord (negsuc 4) ∷ op.AddDword (negsuc 4) ∷ op.Inc 255 ∷ op.Dec 0 ∷ op.Shift shift.Slw (Some 15)
     ∷ op.Shift shift.Sld (Some 32) ∷ op.Shift shift.Rrd None ∷ op.Nop ∷ [])
-unfolding verdict checked_program raw_text raw_program item_at is_not_built instruction_of tokens_of
+unfolding verdict checked_program raw_text raw_program item_at instruction_of tokens_of
     mnemonic_at mnemonic_named op_of resolved_operand label_of out-RawOperand Carrier.out scope_breaks first_large
 with_numbers = refl
 
@@ -99,7 +99,7 @@ word_logic :
     ≡ accepted
     (op.Logic logic.Aw (Some 15) ∷ op.Logic logic.Ow (Some 65535) ∷ op.Logic logic.Xow (Some 1) ∷ op.Logic logic.Ad (Some 15)
     ∷ op.Logic logic.Od (Some 4294967295) ∷ op.Logic logic.Xod (Some 1) ∷ op.Logic logic.Aw None ∷ op.Logic logic.Ad (Some 4294967295) ∷ [])
-unfolding verdict checked_program raw_text raw_program item_at is_not_built instruction_of tokens_of
+unfolding verdict checked_program raw_text raw_program item_at instruction_of tokens_of
     mnemonic_at mnemonic_named op_of resolved_operand label_of out-RawOperand Carrier.out scope_breaks first_large
 word_logic = refl
 
@@ -108,109 +108,109 @@ alone :
     ≡ accepted
     (op.Arith arith.AddI ∷ op.Arith arith.DivD ∷ op.Arith arith.Mod ∷ op.Compare test.Eq width.Word ∷ op.Compare test.Le width.Dword
     ∷ op.Unary unary.Bti ∷ op.Unary unary.Negd ∷ op.Rlda ∷ op.Rrda ∷ op.Tak ∷ op.Push ∷ op.Pop ∷ [])
-unfolding verdict checked_program raw_text raw_program item_at is_not_built instruction_of tokens_of
+unfolding verdict checked_program raw_text raw_program item_at instruction_of tokens_of
     mnemonic_at mnemonic_named op_of resolved_operand label_of out-RawOperand Carrier.out scope_breaks first_large
 alone = refl
 
 -- what is left out, by its kind, and what is refused
 
 timer_of_fr : verdict (with_body (codes "FR T 1;")) ≡ refused 3 (Unsupported kind.Timer)
-unfolding verdict checked_program raw_text raw_program item_at is_not_built instruction_of tokens_of mnemonic_at
+unfolding verdict checked_program raw_text raw_program item_at instruction_of tokens_of mnemonic_at
 timer_of_fr = refl
 
 counter_of_lc : verdict (with_body (codes "LC C1;")) ≡ refused 3 (Unsupported kind.Counter)
-unfolding verdict checked_program raw_text raw_program item_at is_not_built instruction_of tokens_of mnemonic_at
+unfolding verdict checked_program raw_text raw_program item_at instruction_of tokens_of mnemonic_at
 counter_of_lc = refl
 
 timer_loaded : verdict (with_body (codes "L T 1;")) ≡ refused 3 (Unsupported kind.Timer)
-unfolding verdict checked_program raw_text raw_program item_at is_not_built instruction_of tokens_of mnemonic_at
+unfolding verdict checked_program raw_text raw_program item_at instruction_of tokens_of mnemonic_at
 timer_loaded = refl
 
 peripheral_stored : verdict (with_body (codes "T PQW [MW 0];")) ≡ refused 3 (Unsupported kind.Peripheral)
-unfolding verdict checked_program raw_text raw_program item_at is_not_built instruction_of tokens_of mnemonic_at
+unfolding verdict checked_program raw_text raw_program item_at instruction_of tokens_of mnemonic_at
 peripheral_stored = refl
 
 counter_constant : verdict (with_body (codes "SLW C#5;")) ≡ refused 3 (Unsupported kind.Counter)
-unfolding verdict checked_program raw_text raw_program item_at is_not_built instruction_of tokens_of mnemonic_at
+unfolding verdict checked_program raw_text raw_program item_at instruction_of tokens_of mnemonic_at
 counter_constant = refl
 
 name_pointer : verdict (with_body (codes "AD P##x;")) ≡ refused 3 (Unsupported kind.NamePointer)
-unfolding verdict checked_program raw_text raw_program item_at is_not_built instruction_of tokens_of mnemonic_at
+unfolding verdict checked_program raw_text raw_program item_at instruction_of tokens_of mnemonic_at
 name_pointer = refl
 
 time : verdict (with_body (codes "+ S5T#1s;")) ≡ refused 3 (Unsupported kind.DateTime)
-unfolding verdict checked_program raw_text raw_program item_at is_not_built instruction_of tokens_of mnemonic_at
+unfolding verdict checked_program raw_text raw_program item_at instruction_of tokens_of mnemonic_at
 time = refl
 
 real : verdict (with_body (codes "L -1.5E+3 foo;")) ≡ refused 3 (Unsupported kind.Real)
-unfolding verdict checked_program raw_text raw_program item_at is_not_built instruction_of tokens_of mnemonic_at
+unfolding verdict checked_program raw_text raw_program item_at instruction_of tokens_of mnemonic_at
 real = refl
 
-no_real : verdict (with_body (codes "L 1e5;")) ≡ refused 3 (Unsupported kind.NotBuilt)
-unfolding verdict checked_program raw_text raw_program item_at is_not_built instruction_of tokens_of mnemonic_at
+no_real : verdict (with_body (codes "L 1e5;")) ≡ refused 3 BadStatement
+unfolding verdict checked_program raw_text raw_program item_at instruction_of tokens_of mnemonic_at
 no_real = refl
 
 length : verdict (with_body (codes "L DBLG;")) ≡ refused 3 (Unsupported kind.DbLength)
-unfolding verdict checked_program raw_text raw_program item_at is_not_built instruction_of tokens_of mnemonic_at
+unfolding verdict checked_program raw_text raw_program item_at instruction_of tokens_of mnemonic_at
 length = refl
 
-length_stored : verdict (with_body (codes "T DBLG;")) ≡ refused 3 (Unsupported kind.NotBuilt)
-unfolding verdict checked_program raw_text raw_program item_at is_not_built instruction_of tokens_of mnemonic_at
+length_stored : verdict (with_body (codes "T DBLG;")) ≡ refused 3 BadStatement
+unfolding verdict checked_program raw_text raw_program item_at instruction_of tokens_of mnemonic_at
 length_stored = refl
 
 accumulators : verdict (with_body (codes "ENT;")) ≡ refused 3 (Unsupported kind.Accumulators)
-unfolding verdict checked_program raw_text raw_program item_at is_not_built instruction_of tokens_of mnemonic_at
+unfolding verdict checked_program raw_text raw_program item_at instruction_of tokens_of mnemonic_at
 accumulators = refl
 
-past_a_word : verdict (with_body (codes "L 32768;")) ≡ refused 3 (Unsupported kind.NotBuilt)
-unfolding verdict checked_program raw_text raw_program item_at is_not_built instruction_of tokens_of mnemonic_at
+past_a_word : verdict (with_body (codes "L 32768;")) ≡ refused 3 BadStatement
+unfolding verdict checked_program raw_text raw_program item_at instruction_of tokens_of mnemonic_at
 past_a_word = refl
 
-blank_behind_the_minus : verdict (with_body (codes "L - 5;")) ≡ refused 3 (Unsupported kind.NotBuilt)
-unfolding verdict checked_program raw_text raw_program item_at is_not_built instruction_of tokens_of mnemonic_at
+blank_behind_the_minus : verdict (with_body (codes "L - 5;")) ≡ refused 3 BadStatement
+unfolding verdict checked_program raw_text raw_program item_at instruction_of tokens_of mnemonic_at
 blank_behind_the_minus = refl
 
-plus_sign : verdict (with_body (codes "L +5;")) ≡ refused 3 (Unsupported kind.NotBuilt)
-unfolding verdict checked_program raw_text raw_program item_at is_not_built instruction_of tokens_of mnemonic_at
+plus_sign : verdict (with_body (codes "L +5;")) ≡ refused 3 BadStatement
+unfolding verdict checked_program raw_text raw_program item_at instruction_of tokens_of mnemonic_at
 plus_sign = refl
 
-bar_in_hexadecimal : verdict (with_body (codes "L W#16#1_0;")) ≡ refused 3 (Unsupported kind.NotBuilt)
-unfolding verdict checked_program raw_text raw_program item_at is_not_built instruction_of tokens_of mnemonic_at
+bar_in_hexadecimal : verdict (with_body (codes "L W#16#1_0;")) ≡ refused 3 BadStatement
+unfolding verdict checked_program raw_text raw_program item_at instruction_of tokens_of mnemonic_at
 bar_in_hexadecimal = refl
 
-no_character : verdict (with_body (codes "L '';")) ≡ refused 3 (Unsupported kind.NotBuilt)
-unfolding verdict checked_program raw_text raw_program item_at is_not_built instruction_of tokens_of mnemonic_at
+no_character : verdict (with_body (codes "L '';")) ≡ refused 3 BadStatement
+unfolding verdict checked_program raw_text raw_program item_at instruction_of tokens_of mnemonic_at
 no_character = refl
 
-sixteen_steps : verdict (with_body (codes "SLW 16;")) ≡ refused 3 (Unsupported kind.NotBuilt)
-unfolding verdict checked_program raw_text raw_program item_at is_not_built instruction_of tokens_of mnemonic_at
+sixteen_steps : verdict (with_body (codes "SLW 16;")) ≡ refused 3 BadStatement
+unfolding verdict checked_program raw_text raw_program item_at instruction_of tokens_of mnemonic_at
 sixteen_steps = refl
 
-hexadecimal_added : verdict (with_body (codes "+ W#16#5;")) ≡ refused 3 (Unsupported kind.NotBuilt)
-unfolding verdict checked_program raw_text raw_program item_at is_not_built instruction_of tokens_of mnemonic_at
+hexadecimal_added : verdict (with_body (codes "+ W#16#5;")) ≡ refused 3 BadStatement
+unfolding verdict checked_program raw_text raw_program item_at instruction_of tokens_of mnemonic_at
 hexadecimal_added = refl
 
 byte_in_a_word : verdict (with_body (codes "AW B#16#5;")) ≡ refused 3 BadOperand
-unfolding verdict checked_program raw_text raw_program item_at is_not_built instruction_of tokens_of
+unfolding verdict checked_program raw_text raw_program item_at instruction_of tokens_of
     mnemonic_at mnemonic_named op_of resolved_operand label_of out-RawOperand Carrier.out scope_breaks first_large
 byte_in_a_word = refl
 
 word_past_the_area : verdict (with_body (codes "L MW 8191;")) ≡ refused 3 BadAddress
-unfolding verdict checked_program raw_text raw_program item_at is_not_built instruction_of tokens_of
+unfolding verdict checked_program raw_text raw_program item_at instruction_of tokens_of
     mnemonic_at mnemonic_named op_of resolved_operand label_of out-RawOperand Carrier.out scope_breaks first_large
 word_past_the_area = refl
 
 bit_loaded : verdict (with_body (codes "L M 0.0;")) ≡ refused 3 BadOperand
-unfolding verdict checked_program raw_text raw_program item_at is_not_built instruction_of tokens_of
+unfolding verdict checked_program raw_text raw_program item_at instruction_of tokens_of
     mnemonic_at mnemonic_named op_of resolved_operand label_of out-RawOperand Carrier.out scope_breaks first_large
 bit_loaded = refl
 
-constant_stored : verdict (with_body (codes "T 5;")) ≡ refused 3 (Unsupported kind.NotBuilt)
-unfolding verdict checked_program raw_text raw_program item_at is_not_built instruction_of tokens_of mnemonic_at
+constant_stored : verdict (with_body (codes "T 5;")) ≡ refused 3 BadStatement
+unfolding verdict checked_program raw_text raw_program item_at instruction_of tokens_of mnemonic_at
 constant_stored = refl
 
-timer_added : verdict (with_body (codes "+ T 1;")) ≡ refused 3 (Unsupported kind.NotBuilt)
-unfolding verdict checked_program raw_text raw_program item_at is_not_built instruction_of tokens_of mnemonic_at
+timer_added : verdict (with_body (codes "+ T 1;")) ≡ refused 3 BadStatement
+unfolding verdict checked_program raw_text raw_program item_at instruction_of tokens_of mnemonic_at
 timer_added = refl
 
 -- pointers, address registers and what they name
@@ -222,7 +222,7 @@ pointers :
     ∷ op.LoadAr One ar_load.OtherAr ∷ op.StoreAr One ar_store.Accu1 ∷ op.StoreAr One ar_store.OtherAr
     ∷ op.StoreAr Two (ar_store.At (Direct area.L 4 0)) ∷ op.LoadAr One (ar_load.At (Opened 5 0 0)) ∷ op.ExchangeAr
     ∷ op.AddAr One (Some 6) ∷ op.AddAr Two None ∷ [])
-unfolding verdict checked_program raw_text raw_program item_at is_not_built instruction_of tokens_of
+unfolding verdict checked_program raw_text raw_program item_at instruction_of tokens_of
     mnemonic_at mnemonic_named op_of resolved_operand label_of out-RawOperand Carrier.out scope_breaks first_large
 pointers = refl
 
@@ -234,7 +234,7 @@ indirect :
     ∷ op.Transfer (Crossing One 16) width.Word ∷ op.Set (Crossing Two 7) ∷ op.EdgeUp (ByRegister area.L One 524287)
     ∷ op.LoadAr One (ar_load.At (ByMemory area.M area.M 0)) ∷ op.OpenDb (open_arg.At (Direct area.M 2 0))
     ∷ op.OpenDi (open_arg.At (Direct area.Db 65535 0)) ∷ [])
-unfolding verdict checked_program raw_text raw_program item_at is_not_built instruction_of tokens_of
+unfolding verdict checked_program raw_text raw_program item_at instruction_of tokens_of
     mnemonic_at mnemonic_named op_of resolved_operand label_of out-RawOperand Carrier.out scope_breaks first_large
 indirect = refl
 
@@ -248,7 +248,7 @@ bad_operands :
     ∷ codes "A MW [AR1,P#0.9];" ∷ codes "AW P#0.9;" ∷ codes "A MW [MD 0];" ∷ codes "L [AR1,P#0.0];" ∷ [])
     ≡ refused 3 BadOperand ∷ refused 3 BadOperand ∷ refused 3 BadOperand ∷ refused 3 BadOperand ∷ refused 3 BadOperand
     ∷ refused 3 BadOperand ∷ refused 3 BadOperand ∷ refused 3 BadOperand ∷ refused 3 BadOperand ∷ []
-unfolding verdict checked_program raw_text raw_program item_at is_not_built instruction_of tokens_of
+unfolding verdict checked_program raw_text raw_program item_at instruction_of tokens_of
     mnemonic_at mnemonic_named op_of resolved_operand label_of out-RawOperand Carrier.out scope_breaks first_large
 bad_operands = refl
 
@@ -258,6 +258,6 @@ bad_addresses :
     ∷ codes "L MW [MD 8189];" ∷ codes "OPN DB [MW 8191];" ∷ codes "LAR1 MD 8189;" ∷ [])
     ≡ refused 3 BadAddress ∷ refused 3 BadAddress ∷ refused 3 BadAddress ∷ refused 3 BadAddress ∷ refused 3 BadAddress
     ∷ refused 3 BadAddress ∷ refused 3 BadAddress ∷ []
-unfolding verdict checked_program raw_text raw_program item_at is_not_built instruction_of tokens_of
+unfolding verdict checked_program raw_text raw_program item_at instruction_of tokens_of
     mnemonic_at mnemonic_named op_of resolved_operand label_of out-RawOperand Carrier.out scope_breaks first_large
 bad_addresses = refl

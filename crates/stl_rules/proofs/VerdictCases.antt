@@ -6,12 +6,12 @@ use Rattle.s7_base.specs.Tokens.{tokens_of}
 use Rattle.s7_base.specs.declared.check.Check.TheVariants as check
 use Rattle.memory_areas.specs.declared.place.AreaName.TheVariants as area
 use Rattle.status_word.specs.declared.test.Test.TheVariants as test
-use Rattle.s7_base.specs.declared.reason.Kind.TheVariants.{NotBuilt, Real, Timer}
+use Rattle.s7_base.specs.declared.reason.Kind.TheVariants.{Real, Timer}
 use Rattle.s7_base.specs.declared.reason.Reason.{Reason}
 use Rattle.s7_base.specs.declared.reason.Reason.TheVariants.{BadAddress, BadToken, BadStatement, DuplicateBlock, Unsupported, BracketMissing, BracketOpen, NoBlocks, TooManyBrackets}
 use Rattle.s7_base.specs.declared.reason.Rejection.{Rejection}
 use Rattle.s7_base.specs.declared.reason.Rejection.TheVariants.{Refused}
-use Rattle.stl_grammar.specs.Items.{is_not_built, item_at}
+use Rattle.stl_grammar.specs.Items.{item_at}
 use Rattle.stl_rules.specs.Labels.{label_of}
 use Rattle.stl_rules.specs.Programs.{op_of}
 use Rattle.stl_rules.specs.Raw.{resolved_operand}
@@ -58,135 +58,131 @@ three_instructions :
           } ∷ [];
       symbols = [];
     })
-unfolding verdict checked_program raw_text raw_program item_at is_not_built instruction_of tokens_of
+unfolding verdict checked_program raw_text raw_program item_at instruction_of tokens_of
     mnemonic_at mnemonic_named op_of resolved_operand label_of out-RawOperand Carrier.out scope_breaks first_large
 three_instructions = refl
 
 empty_input : verdict [] ≡ refused 1 NoBlocks
-unfolding verdict checked_program raw_text raw_program item_at is_not_built instruction_of tokens_of mnemonic_at
+unfolding verdict checked_program raw_text raw_program item_at instruction_of tokens_of mnemonic_at
 empty_input = refl
 
-not_built : verdict (with_body (codes "CALL FC 1;")) ≡ refused 3 (Unsupported NotBuilt)
-unfolding verdict checked_program raw_text raw_program item_at is_not_built instruction_of tokens_of mnemonic_at
-not_built = refl
-
 no_mnemonic : verdict (with_body (codes "FOO 5;")) ≡ refused 3 BadStatement
-unfolding verdict checked_program raw_text raw_program item_at is_not_built instruction_of tokens_of mnemonic_at
+unfolding verdict checked_program raw_text raw_program item_at instruction_of tokens_of mnemonic_at
 no_mnemonic = refl
 
 timer_is_left_out : verdict (with_body (codes "SP T 1;")) ≡ refused 3 (Unsupported Timer)
-unfolding verdict checked_program raw_text raw_program item_at is_not_built instruction_of tokens_of mnemonic_at
+unfolding verdict checked_program raw_text raw_program item_at instruction_of tokens_of mnemonic_at
 timer_is_left_out = refl
 
 colon_equals_is_no_label : verdict (with_body (codes "L1:= M 0.0;")) ≡ refused 3 BadStatement
-unfolding verdict checked_program raw_text raw_program item_at is_not_built instruction_of tokens_of mnemonic_at
+unfolding verdict checked_program raw_text raw_program item_at instruction_of tokens_of mnemonic_at
 colon_equals_is_no_label = refl
 
 title_needs_its_line : verdict (with_body (codes "TITLE\n= Q 4.0;")) ≡ refused 3 BadStatement
-unfolding verdict checked_program raw_text raw_program item_at is_not_built instruction_of tokens_of mnemonic_at
+unfolding verdict checked_program raw_text raw_program item_at instruction_of tokens_of mnemonic_at
 title_needs_its_line = refl
 
-blank_before_the_point : verdict (with_body (codes "A I 0 .0;")) ≡ refused 3 (Unsupported NotBuilt)
-unfolding verdict checked_program raw_text raw_program item_at is_not_built instruction_of tokens_of mnemonic_at
+blank_before_the_point : verdict (with_body (codes "A I 0 .0;")) ≡ refused 3 BadStatement
+unfolding verdict checked_program raw_text raw_program item_at instruction_of tokens_of mnemonic_at
 blank_before_the_point = refl
 
 byte_past_the_inputs : verdict (with_body (codes "A I 2048.0;")) ≡ refused 3 BadAddress
-unfolding verdict checked_program raw_text raw_program item_at is_not_built instruction_of tokens_of
+unfolding verdict checked_program raw_text raw_program item_at instruction_of tokens_of
     mnemonic_at mnemonic_named op_of resolved_operand label_of out-RawOperand Carrier.out scope_breaks first_large
 byte_past_the_inputs = refl
 
 bit_eight : verdict (with_body (codes "A I 0.8;")) ≡ refused 3 BadAddress
-unfolding verdict checked_program raw_text raw_program item_at is_not_built instruction_of tokens_of
+unfolding verdict checked_program raw_text raw_program item_at instruction_of tokens_of
     mnemonic_at mnemonic_named op_of resolved_operand label_of out-RawOperand Carrier.out scope_breaks first_large
 bit_eight = refl
 
 network_is_skipped : verdict (with_body (codes "NETWORK\n);")) ≡ refused 4 BracketMissing
-unfolding verdict checked_program raw_text raw_program item_at is_not_built instruction_of tokens_of
+unfolding verdict checked_program raw_text raw_program item_at instruction_of tokens_of
     mnemonic_at mnemonic_named op_of resolved_operand label_of out-RawOperand Carrier.out scope_breaks first_large
 network_is_skipped = refl
 
-section_is_not_built : verdict (with_body (codes "VAR_TEMP")) ≡ refused 3 (Unsupported NotBuilt)
-unfolding verdict checked_program raw_text raw_program item_at is_not_built instruction_of tokens_of mnemonic_at
-section_is_not_built = refl
+section_in_a_body : verdict (with_body (codes "VAR_TEMP")) ≡ refused 3 BadStatement
+unfolding verdict checked_program raw_text raw_program item_at instruction_of tokens_of mnemonic_at
+section_in_a_body = refl
 
 statement_is_cut_off : verdict (with_body (codes "A I 0.0")) ≡ refused 3 BadStatement
-unfolding verdict checked_program raw_text raw_program item_at is_not_built instruction_of tokens_of mnemonic_at
+unfolding verdict checked_program raw_text raw_program item_at instruction_of tokens_of mnemonic_at
 statement_is_cut_off = refl
 
 typed_sign_is_a_mnemonic : verdict (with_body (codes "+R;")) ≡ refused 3 (Unsupported Real)
-unfolding verdict checked_program raw_text raw_program item_at is_not_built instruction_of tokens_of mnemonic_at
+unfolding verdict checked_program raw_text raw_program item_at instruction_of tokens_of mnemonic_at
 typed_sign_is_a_mnemonic = refl
 
 typed_sign_with_a_blank : verdict (with_body (codes "-{x} I;")) ≡ refused 3 BadStatement
-unfolding verdict checked_program raw_text raw_program item_at is_not_built instruction_of tokens_of mnemonic_at
+unfolding verdict checked_program raw_text raw_program item_at instruction_of tokens_of mnemonic_at
 typed_sign_with_a_blank = refl
 
 bad_token_comes_first : verdict (with_body (codes "FOO 5;\n\"open")) ≡ refused 4 BadToken
-unfolding verdict checked_program raw_text raw_program item_at is_not_built instruction_of tokens_of mnemonic_at
+unfolding verdict checked_program raw_text raw_program item_at instruction_of tokens_of mnemonic_at
 bad_token_comes_first = refl
 
 body_is_missing : verdict (codes "ORGANIZATION_BLOCK OB 1\n") ≡ refused 2 BadStatement
-unfolding verdict checked_program raw_text raw_program item_at is_not_built instruction_of tokens_of mnemonic_at
+unfolding verdict checked_program raw_text raw_program item_at instruction_of tokens_of mnemonic_at
 body_is_missing = refl
 
 text_ends_in_the_body : verdict (codes "ORGANIZATION_BLOCK OB 1\nBEGIN\n") ≡ refused 3 BadStatement
-unfolding verdict checked_program raw_text raw_program item_at is_not_built instruction_of tokens_of mnemonic_at
+unfolding verdict checked_program raw_text raw_program item_at instruction_of tokens_of mnemonic_at
 text_ends_in_the_body = refl
 
 heading_is_cut_off : verdict (codes "ORGANIZATION_BLOCK\nOB") ≡ refused 1 BadStatement
-unfolding verdict checked_program raw_text raw_program item_at is_not_built instruction_of tokens_of mnemonic_at
+unfolding verdict checked_program raw_text raw_program item_at instruction_of tokens_of mnemonic_at
 heading_is_cut_off = refl
 
 block_zero : verdict (codes "ORGANIZATION_BLOCK OB 0 BEGIN END_ORGANIZATION_BLOCK") ≡ refused 1 BadAddress
-unfolding verdict checked_program raw_text raw_program item_at is_not_built instruction_of tokens_of
+unfolding verdict checked_program raw_text raw_program item_at instruction_of tokens_of
     mnemonic_at mnemonic_named op_of resolved_operand label_of out-RawOperand Carrier.out scope_breaks first_large
 block_zero = refl
 
 second_block_of_a_number :
     verdict (codes "ORGANIZATION_BLOCK OB 1 BEGIN END_ORGANIZATION_BLOCK\nORGANIZATION_BLOCK OB 01 BEGIN\nEND_ORGANIZATION_BLOCK")
     ≡ refused 2 DuplicateBlock
-unfolding verdict checked_program raw_text raw_program item_at is_not_built instruction_of tokens_of
+unfolding verdict checked_program raw_text raw_program item_at instruction_of tokens_of
     mnemonic_at mnemonic_named op_of resolved_operand label_of out-RawOperand Carrier.out scope_breaks first_large
 second_block_of_a_number = refl
 
-function_is_not_built : verdict (codes "FUNCTION FC 1 : VOID") ≡ refused 1 (Unsupported NotBuilt)
-unfolding verdict checked_program raw_text raw_program item_at is_not_built instruction_of tokens_of mnemonic_at
-function_is_not_built = refl
+function_is_cut_off : verdict (codes "FUNCTION FC 1 : VOID") ≡ refused 1 BadStatement
+unfolding verdict checked_program raw_text raw_program item_at instruction_of tokens_of mnemonic_at
+function_is_cut_off = refl
 
 function_word_alone : verdict (codes "FUNCTION") ≡ refused 1 BadStatement
-unfolding verdict checked_program raw_text raw_program item_at is_not_built instruction_of tokens_of mnemonic_at
+unfolding verdict checked_program raw_text raw_program item_at instruction_of tokens_of mnemonic_at
 function_word_alone = refl
 
 function_without_its_type : verdict (codes "FUNCTION FC 1 :") ≡ refused 1 BadStatement
-unfolding verdict checked_program raw_text raw_program item_at is_not_built instruction_of tokens_of mnemonic_at
+unfolding verdict checked_program raw_text raw_program item_at instruction_of tokens_of mnemonic_at
 function_without_its_type = refl
 
 function_named_in_quotes : verdict (codes "FUNCTION \"x\"") ≡ refused 1 BadStatement
-unfolding verdict checked_program raw_text raw_program item_at is_not_built instruction_of tokens_of mnemonic_at
+unfolding verdict checked_program raw_text raw_program item_at instruction_of tokens_of mnemonic_at
 function_named_in_quotes = refl
 
 data_block_without_its_number : verdict (codes "DATA_BLOCK DB") ≡ refused 1 BadStatement
-unfolding verdict checked_program raw_text raw_program item_at is_not_built instruction_of tokens_of mnemonic_at
+unfolding verdict checked_program raw_text raw_program item_at instruction_of tokens_of mnemonic_at
 data_block_without_its_number = refl
 
-function_block_with_its_number : verdict (codes "FUNCTION_BLOCK FB1") ≡ refused 1 (Unsupported NotBuilt)
-unfolding verdict checked_program raw_text raw_program item_at is_not_built instruction_of tokens_of mnemonic_at
-function_block_with_its_number = refl
+function_block_is_cut_off : verdict (codes "FUNCTION_BLOCK FB1") ≡ refused 1 BadStatement
+unfolding verdict checked_program raw_text raw_program item_at instruction_of tokens_of mnemonic_at
+function_block_is_cut_off = refl
 
 second_block_is_cut_off : verdict (codes "ORGANIZATION_BLOCK OB 1\nBEGIN\nEND_ORGANIZATION_BLOCK\nORGANIZATION_BLOCK") ≡ refused 4 BadStatement
-unfolding verdict checked_program raw_text raw_program item_at is_not_built instruction_of tokens_of mnemonic_at
+unfolding verdict checked_program raw_text raw_program item_at instruction_of tokens_of mnemonic_at
 second_block_is_cut_off = refl
 
 second_block : verdict (codes "ORGANIZATION_BLOCK OB 1\nBEGIN\nEND_ORGANIZATION_BLOCK\nDATA_BLOCK DB 1") ≡ refused 4 BadStatement
-unfolding verdict checked_program raw_text raw_program item_at is_not_built instruction_of tokens_of mnemonic_at
+unfolding verdict checked_program raw_text raw_program item_at instruction_of tokens_of mnemonic_at
 second_block = refl
 
 semicolon_behind_the_end : verdict (codes "ORGANIZATION_BLOCK OB 1\nBEGIN\nEND_ORGANIZATION_BLOCK;") ≡ refused 3 BadStatement
-unfolding verdict checked_program raw_text raw_program item_at is_not_built instruction_of tokens_of mnemonic_at
+unfolding verdict checked_program raw_text raw_program item_at instruction_of tokens_of mnemonic_at
 semicolon_behind_the_end = refl
 
 comment_alone : verdict (codes "// nothing here\n") ≡ refused 1 NoBlocks
-unfolding verdict checked_program raw_text raw_program item_at is_not_built instruction_of tokens_of mnemonic_at
+unfolding verdict checked_program raw_text raw_program item_at instruction_of tokens_of mnemonic_at
 comment_alone = refl
 
 -- words in any case, numbers with leading zeros, titles, attributes and empty statements
@@ -206,19 +202,19 @@ spelled_freely :
           } ∷ [];
       symbols = [];
     })
-unfolding verdict checked_program raw_text raw_program item_at is_not_built instruction_of tokens_of
+unfolding verdict checked_program raw_text raw_program item_at instruction_of tokens_of
     mnemonic_at mnemonic_named op_of resolved_operand label_of out-RawOperand Carrier.out scope_breaks first_large
 spelled_freely = refl
 
 -- brackets
 
 bracket_is_missing : verdict (with_body (codes ");")) ≡ refused 3 BracketMissing
-unfolding verdict checked_program raw_text raw_program item_at is_not_built instruction_of tokens_of
+unfolding verdict checked_program raw_text raw_program item_at instruction_of tokens_of
     mnemonic_at mnemonic_named op_of resolved_operand label_of out-RawOperand Carrier.out scope_breaks first_large
 bracket_is_missing = refl
 
 bracket_is_open : verdict (with_body (codes "A(;")) ≡ refused 4 BracketOpen
-unfolding verdict checked_program raw_text raw_program item_at is_not_built instruction_of tokens_of
+unfolding verdict checked_program raw_text raw_program item_at instruction_of tokens_of
     mnemonic_at mnemonic_named op_of resolved_operand label_of out-RawOperand Carrier.out scope_breaks first_large
 bracket_is_open = refl
 
@@ -240,30 +236,30 @@ bracket_is_closed :
           } ∷ [];
       symbols = [];
     })
-unfolding verdict checked_program raw_text raw_program item_at is_not_built instruction_of tokens_of
+unfolding verdict checked_program raw_text raw_program item_at instruction_of tokens_of
     mnemonic_at mnemonic_named op_of resolved_operand label_of out-RawOperand Carrier.out scope_breaks first_large
 bracket_is_closed = refl
 
 -- eight brackets, and as many that close them: the eighth is open all the same
 eight_brackets : verdict (with_body (codes "A(;\nA(;\nA(;\nA(;\nA(;\nA(;\nA(;\nA(;\n););););););););")) ≡ refused 10 TooManyBrackets
-unfolding verdict checked_program raw_text raw_program item_at is_not_built instruction_of tokens_of
+unfolding verdict checked_program raw_text raw_program item_at instruction_of tokens_of
     mnemonic_at mnemonic_named op_of resolved_operand label_of out-RawOperand Carrier.out scope_breaks first_large
 eight_brackets = refl
 
 -- of the broken rules of a stage the least line is named, and on one line the least number
 least_line : verdict (with_body (codes ");\nA(;A(;A(;A(;A(;A(;A(;A(;")) ≡ refused 3 BracketMissing
-unfolding verdict checked_program raw_text raw_program item_at is_not_built instruction_of tokens_of
+unfolding verdict checked_program raw_text raw_program item_at instruction_of tokens_of
     mnemonic_at mnemonic_named op_of resolved_operand label_of out-RawOperand Carrier.out scope_breaks first_large
 least_line = refl
 
 least_number : verdict (codes "ORGANIZATION_BLOCK OB 1 BEGIN A(;A(;A(;A(;A(;A(;A(;A(; END_ORGANIZATION_BLOCK") ≡ refused 1 BracketOpen
-unfolding verdict checked_program raw_text raw_program item_at is_not_built instruction_of tokens_of
+unfolding verdict checked_program raw_text raw_program item_at instruction_of tokens_of
     mnemonic_at mnemonic_named op_of resolved_operand label_of out-RawOperand Carrier.out scope_breaks first_large
 least_number = refl
 
 -- an item that does not fit comes before a bracket that is missing
 misfit_comes_first : verdict (with_body (codes ");\nFOO;")) ≡ refused 4 BadStatement
-unfolding verdict checked_program raw_text raw_program item_at is_not_built instruction_of tokens_of
+unfolding verdict checked_program raw_text raw_program item_at instruction_of tokens_of
     mnemonic_at mnemonic_named op_of resolved_operand label_of out-RawOperand Carrier.out scope_breaks first_large
 misfit_comes_first = refl
 
@@ -285,6 +281,6 @@ each_form :
           } ∷ [];
       symbols = [];
     })
-unfolding verdict checked_program raw_text raw_program item_at is_not_built instruction_of tokens_of
+unfolding verdict checked_program raw_text raw_program item_at instruction_of tokens_of
     mnemonic_at mnemonic_named op_of resolved_operand label_of out-RawOperand Carrier.out scope_breaks first_large
 each_form = refl

@@ -1,4 +1,4 @@
--- The rules of bodies: brackets, labels and jump lists, and how many instructions there may be.
+-- The rules of bodies: brackets, labels and jump lists, and how many instructions and formals there may be.
 -- Held against: this project's own rules.
 use Rattle.std.specs.Prelude.{ℕ, zero, suc, ◌+◌, Bool, true, false, ◌==◌, ◌&&◌, not, nat_le, nat_lt, if◌then◌else◌, List, [], ◌∷◌, ◌++◌, length, slice_get, Option, Some, None}
 use Rattle.nesting_stack.specs.Entries.{most_open}
@@ -6,11 +6,14 @@ use Rattle.s7_base.specs.Broken.{rule_break}
 use Rattle.s7_base.specs.declared.rule_break.Break.{Break}
 use Rattle.s7_base.specs.declared.reason.Line.{Line}
 use Rattle.s7_base.specs.declared.reason.Reason.{Reason}
-use Rattle.s7_base.specs.declared.reason.Reason.TheVariants.{BadJumpList, BracketMissing, BracketOpen, DuplicateLabel, TooManyBrackets, TooManyInstructions, UnknownLabel}
+use Rattle.s7_base.specs.declared.reason.Reason.TheVariants.{BadJumpList, BracketMissing, BracketOpen, DuplicateLabel, TooManyBrackets, TooManyInstructions, TooManyParameters, UnknownLabel}
+use Rattle.stl_rules.specs.Interfaces.{formals_declared}
 use Rattle.stl_rules.specs.Labels.{label_of, listed_in, most_listed, target_in}
 use Rattle.stl_statement_grammar.specs.Mnemonics.{mnemonic_named}
 use Rattle.stl_statement_grammar.specs.declared.mnemonic.Mnemonic.{Mnemonic}
 use Rattle.stl_statement_grammar.specs.declared.mnemonic.Mnemonic.TheVariants as is
+use Rattle.stl_tree.specs.declared.program.Mode.{Mode}
+use Rattle.stl_tree.specs.declared.raw.Declaration.{Declaration}
 use Rattle.stl_tree.specs.declared.raw.RawBlock.{RawBlock}
 use Rattle.stl_tree.specs.declared.raw.RawInstr.{RawInstr}
 
@@ -27,7 +30,7 @@ none_open line zero = []
 none_open line (suc n) = rule_break line BracketOpen
 
 -- the rule that an instruction breaks before which this many brackets are open: a bracket opens where there is no
--- room for it, one closes where none is open, or one is open at a jump or at the end of a block
+-- room for it, one closes where none is open, or one is open at a jump, a call or the end of a block
 abbrev pub brackets_at : Line → Option Mnemonic → ℕ → List Break
 brackets_at line (Some (is.Bracket c)) n = if nat_lt n most_open then [] else rule_break line TooManyBrackets
 brackets_at line (Some is.Close) zero = rule_break line BracketMissing
@@ -36,6 +39,9 @@ brackets_at line (Some is.Loop) n = none_open line n
 brackets_at line (Some is.JumpList) n = none_open line n
 brackets_at line (Some is.BlockEnd) n = none_open line n
 brackets_at line (Some is.BlockEndIf) n = none_open line n
+brackets_at line (Some is.Call) n = none_open line n
+brackets_at line (Some is.CallAlone) n = none_open line n
+brackets_at line (Some is.CallIf) n = none_open line n
 brackets_at line other n = []
 
 -- the rule that is broken where a bracket is open at a label
@@ -104,6 +110,15 @@ abbrev pub instruction_too_many : Option RawInstr → List Break
 instruction_too_many None = []
 instruction_too_many (Some raw) = rule_break raw.line TooManyInstructions
 
+-- the most formals of a block
+abbrev pub most_formals : ℕ
+most_formals = 64
+
+-- the rule that is broken where there is a formal too many
+abbrev pub formal_too_many : Option (Mode × Declaration) → List Break
+formal_too_many None = []
+formal_too_many (Some formal) = rule_break formal.1.line TooManyParameters
+
 -- Bodies
 
 -- the rules that the body of a block breaks
@@ -111,3 +126,4 @@ abbrev pub body_breaks : RawBlock → List Break
 body_breaks raw =
     brackets_from raw.end_line 0 raw.body ++ labels_from raw.body 0 raw.body
     ++ instruction_too_many (slice_get raw.body most_instructions)
+    ++ formal_too_many (slice_get (formals_declared raw) most_formals)

@@ -7,7 +7,8 @@ use Rattle.memory_areas.specs.declared.data_block.DataBlock.{DataBlock}
 use Rattle.s7_base.specs.declared.reason.Reason.{Reason}
 use Rattle.s7_base.specs.declared.word.Width.{Width}
 use Rattle.s7_base.specs.declared.word.Width.TheVariants as width
-use Rattle.stl_rules.specs.Names.{block_number}
+use Rattle.stl_rules.specs.Interfaces.{interface_of}
+use Rattle.stl_rules.specs.Names.{block_found, block_number}
 use Rattle.stl_statement_grammar.specs.Constants.{value_in}
 use Rattle.stl_tree.specs.Accumulators.{part}
 use Rattle.stl_tree.specs.declared.raw.BlockKind.TheVariants as block
@@ -18,7 +19,9 @@ use Rattle.stl_tree.specs.declared.raw.RawData.{RawData}
 use Rattle.stl_tree.specs.declared.raw.RawDataKind.{RawDataKind}
 use Rattle.stl_tree.specs.declared.raw.RawDataKind.TheVariants as data_kind
 use Rattle.stl_tree.specs.declared.raw.RawInitial.{RawInitial}
-use Rattle.stl_tree.specs.declared.raw.SymbolLine.{SymbolLine}
+use Rattle.stl_tree.specs.declared.program.Instance.{Instance}
+use Rattle.stl_tree.specs.declared.raw.RawBlock.{RawBlock}
+use Rattle.stl_tree.specs.declared.raw.RawProgram.{RawProgram}
 use Rattle.stl_rules.specs.Extents.{width_of}
 use Rattle.stl_rules.specs.Layouts.{initial_of}
 use Rattle.stl_rules.specs.Paths.{component_in}
@@ -56,17 +59,39 @@ bytes_with sections values = or_two (fold (with_value sections) (initial_of sect
 
 -- Blocks
 
-abbrev pub data_with : ℕ → List RawInitial → RawDataKind → Option DataBlock
-data_with n values (data_kind.Own decls) = Some (record { number = n; bytes = bytes_with (decls ∷ []) values })
-data_with n values (data_kind.Instance name) = None
+-- the sections of a block; none where there is no block
+abbrev pub sections_of : Option RawBlock → List (List Declaration)
+sections_of None = []
+sections_of (Some raw) = interface_of raw
 
-abbrev pub data_numbered : List RawInitial → RawDataKind → Result ℕ Reason → Option DataBlock
-data_numbered values kind (Ok n) = data_with n values kind
-data_numbered values kind (Err reason) = None
+-- the sections of a data block: declarations of its own, or the interface of its function block
+abbrev pub sections_in : RawProgram → RawDataKind → List (List Declaration)
+sections_in text (data_kind.Own decls) = decls ∷ []
+sections_in text (data_kind.Instance name) =
+    sections_of (block_found text block.Fb (block_number text.symbols block.Fb name))
 
--- the data block of a raw one, if there is one
-abbrev pub data_of : List SymbolLine → RawData → Option DataBlock
-data_of symbols d = data_numbered d.initial d.kind (block_number symbols block.Db d.name)
+abbrev pub data_numbered : RawProgram → RawData → Result ℕ Reason → Option DataBlock
+data_numbered text d (Ok n) = Some (record { number = n; bytes = bytes_with (sections_in text d.kind) d.initial })
+data_numbered text d (Err reason) = None
+
+-- the data block of a raw one, if it has a number
+abbrev pub data_of : RawProgram → RawData → Option DataBlock
+data_of text d = data_numbered text d (block_number text.symbols block.Db d.name)
+
+-- Instances
+
+abbrev pub instance_with : ℕ → Result ℕ Reason → Option Instance
+instance_with db (Ok fb) = Some (record { db = db; fb = fb })
+instance_with db (Err reason) = None
+
+abbrev pub instance_in : RawProgram → RawDataKind → Result ℕ Reason → Option Instance
+instance_in text (data_kind.Own decls) db = None
+instance_in text (data_kind.Instance name) (Ok db) = instance_with db (block_number text.symbols block.Fb name)
+instance_in text (data_kind.Instance name) (Err reason) = None
+
+-- the instance that a data block is, if it is one
+abbrev pub instance_of : RawProgram → RawData → Option Instance
+instance_of text d = instance_in text d.kind (block_number text.symbols block.Db d.name)
 
 -- Order
 

@@ -1,9 +1,11 @@
 pub mod Accepting
 pub mod BodyRules
+pub mod Calls
 pub mod Contents
 pub mod DataBlocks
 pub mod DeclarationRules
 pub mod Extents
+pub mod Interfaces
 pub mod Labels
 pub mod Layouts
 pub mod Names

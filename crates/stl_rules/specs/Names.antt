@@ -2,15 +2,17 @@
 -- that is there twice means its first line.
 -- Held against: this project's own rules.
 use Rattle.std.specs.Prelude.{ℕ, Bool, true, false, ◌==◌, ◌&&◌, nat_le, if◌then◌else◌, List, Option, Some, None, option_map, Result, Ok, Err}
-use Rattle.std.specs.List.{find}
+use Rattle.std.specs.List.{find, position}
 use Rattle.s7_base.specs.Tokens.{is_same_word}
 use Rattle.s7_base.specs.declared.reason.Reason.{Reason}
 use Rattle.s7_base.specs.declared.reason.Reason.TheVariants.{BadOperand, UnknownName}
 use Rattle.stl_tree.specs.declared.raw.BlockKind.{BlockKind}
 use Rattle.stl_tree.specs.declared.raw.BlockKind.TheVariants as block
+use Rattle.stl_tree.specs.declared.raw.RawBlock.{RawBlock}
 use Rattle.stl_tree.specs.declared.raw.RawData.{RawData}
 use Rattle.stl_tree.specs.declared.raw.RawName.{RawName}
 use Rattle.stl_tree.specs.declared.raw.RawName.TheVariants as raw_name
+use Rattle.stl_tree.specs.declared.raw.RawProgram.{RawProgram}
 use Rattle.stl_tree.specs.declared.raw.SymbolAddress.{SymbolAddress}
 use Rattle.stl_tree.specs.declared.raw.SymbolAddress.TheVariants as address
 use Rattle.stl_tree.specs.declared.raw.SymbolLine.{SymbolLine}
@@ -62,3 +64,22 @@ is_number n (Err reason) = false
 -- the data block of a number: the first where there are several
 abbrev pub db_numbered : List SymbolLine → List RawData → ℕ → Option RawData
 db_numbered symbols dbs n = find (λ (d : RawData). is_number n (block_number symbols block.Db d.name)) dbs
+
+-- Blocks of code
+
+-- a block has a kind and a number
+abbrev pub is_block : List SymbolLine → BlockKind → ℕ → RawBlock → Bool
+is_block symbols kind n raw = is_same_kind kind raw.kind && is_number n (block_number symbols raw.kind raw.name)
+
+-- the position of the block of a kind and a number, the first where there are several
+abbrev pub block_position : RawProgram → BlockKind → ℕ → Option ℕ
+block_position text kind n = position (is_block text.symbols kind n) text.blocks
+
+-- the block of a kind and a number, the first where there are several
+abbrev pub block_numbered : RawProgram → BlockKind → ℕ → Option RawBlock
+block_numbered text kind n = find (is_block text.symbols kind n) text.blocks
+
+-- the block of a kind and a number, if the number is known
+abbrev pub block_found : RawProgram → BlockKind → Result ℕ Reason → Option RawBlock
+block_found text kind (Ok n) = block_numbered text kind n
+block_found text kind (Err reason) = None

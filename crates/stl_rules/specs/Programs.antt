@@ -1,7 +1,7 @@
 -- The program of a raw program. Its instructions by their mnemonics and operands, or the rules that these break, and
 -- the names of its blocks. Instructions and blocks have the places that they have in the raw program.
 -- Held against: each chapter of the manual.
-use Rattle.std.specs.Prelude.{ℕ, ◌^◌, Bool, false, nat_le, nat_lt, if◌then◌else◌, List, [], ◌∷◌, ◌++◌, map, Option, Some, None, option_map, Result, Ok, Err}
+use Rattle.std.specs.Prelude.{ℕ, ◌^◌, Bool, false, ◌==◌, ◌&&◌, nat_le, nat_lt, if◌then◌else◌, List, [], ◌∷◌, ◌++◌, length, map, Option, Some, None, option_map, Result, Ok, Err}
 use Rattle.std.specs.List.{filter_map}
 use Rattle.memory_areas.specs.declared.call.BlockName.{BlockName}
 use Rattle.memory_areas.specs.declared.call.BlockName.TheVariants.{Ob, Fc, Fb}
@@ -16,12 +16,14 @@ use Rattle.s7_base.specs.declared.reason.Reason.TheVariants.{BadAddress, BadOper
 use Rattle.s7_base.specs.declared.word.Width.{Width}
 use Rattle.s7_base.specs.declared.word.Width.TheVariants as width
 use Rattle.status_word.specs.declared.test.Test.{Test}
-use Rattle.memory_areas.specs.Access.{bits_wide}
+use Rattle.memory_areas.specs.Access.{and_then, bits_wide}
 use Rattle.stl_tree.specs.Accumulators.{signed_part}
 use Rattle.stl_tree.specs.Arithmetic.{is_comparison}
 use Rattle.stl_statement_grammar.specs.Constants.{constant, fits, value_in}
 use Rattle.stl_statement_grammar.specs.Mnemonics.{mnemonic_named}
-use Rattle.stl_rules.specs.DataBlocks.{data_of, in_order}
+use Rattle.stl_rules.specs.Calls.{call_of}
+use Rattle.stl_rules.specs.DataBlocks.{data_of, in_order, instance_of}
+use Rattle.stl_rules.specs.Interfaces.{formals_of}
 use Rattle.stl_rules.specs.Labels.{list_count}
 use Rattle.stl_rules.specs.Names.{block_number}
 use Rattle.stl_rules.specs.Raw.{OperandScope, resolved_operand}
@@ -40,6 +42,7 @@ use Rattle.stl_tree.specs.declared.program.ArLoad.TheVariants as ar_load
 use Rattle.stl_tree.specs.declared.program.ArStore.TheVariants as ar_store
 use Rattle.stl_tree.specs.declared.program.BitArg.TheVariants as arg
 use Rattle.stl_tree.specs.declared.program.Block.{Block}
+use Rattle.stl_tree.specs.declared.program.BlockCall.{BlockCall}
 use Rattle.stl_tree.specs.declared.program.Instr.{Instr}
 use Rattle.stl_tree.specs.declared.program.LoadArg.TheVariants as load
 use Rattle.stl_tree.specs.declared.program.Op.{Op}
@@ -52,7 +55,11 @@ use Rattle.stl_tree.specs.declared.program.Symbol.{Symbol}
 use Rattle.stl_tree.specs.declared.raw.BlockKind.{BlockKind}
 use Rattle.stl_tree.specs.declared.raw.BlockKind.TheVariants as block
 use Rattle.stl_tree.specs.declared.raw.Constant.{Constant}
+use Rattle.stl_tree.specs.declared.raw.RawActual.{RawActual}
 use Rattle.stl_tree.specs.declared.raw.RawBlock.{RawBlock}
+use Rattle.stl_tree.specs.declared.raw.RawCall.{RawCall}
+use Rattle.stl_tree.specs.declared.raw.RawOperand.{RawOperand, RawOperand-F, out-RawOperand}
+use Rattle.stl_tree.specs.declared.raw.RawOperand.TheOpen as layer
 use Rattle.stl_tree.specs.declared.raw.RawInstr.{RawInstr}
 use Rattle.stl_tree.specs.declared.raw.RawOp.{RawOp}
 use Rattle.stl_tree.specs.declared.raw.RawPlace.{RawPlace}
@@ -234,7 +241,9 @@ op_with is.JumpList g = jumping (op.JumpList 0) g
 op_with is.BlockEnd g = alone op.BlockEnd g
 op_with is.BlockEndIf g = alone op.BlockEndIf g
 op_with is.TimerOrCounter g = None
-op_with is.Later g = None
+op_with is.Call g = None
+op_with is.CallAlone g = None
+op_with is.CallIf g = None
 op_with (is.LeftOut left_out) g = None
 
 -- the instruction of a mnemonic, if it is one, and its operand
@@ -271,9 +280,30 @@ op_or_rule what (behind.Outside name w) = Err (outside_rule (op_by what (behind.
 op_or_rule what behind.NoPointer = Err (outside_rule (op_by what (behind.Constant some_pointer)))
 op_or_rule what g = or_bad_operand (op_by what g)
 
+-- a call gives nothing: it is that of a function without formals
+abbrev pub gives_nothing : BlockCall → Bool
+gives_nothing call = call.instance == 0 && length call.actuals == 0
+
+-- a call by a mnemonic that gives nothing
+abbrev pub calling_bare : (BlockCall → Op) → BlockCall → Result Op Reason
+calling_bare o call = if gives_nothing call then Ok (o call) else Err BadOperand
+
+-- the instruction that calls a block: `CALL`, or `UC` and `CC` for a function without formals
+abbrev pub calling : Option Mnemonic → BlockCall → Result Op Reason
+calling (Some is.Call) call = Ok (op.Call call)
+calling (Some is.CallAlone) call = calling_bare op.Call call
+calling (Some is.CallIf) call = calling_bare op.CallIf call
+calling other call = Err BadOperand
+
+-- the instruction of a raw one, or the rule that it breaks, by the layer of its operand
+abbrev pub op_in : OperandScope → Option Mnemonic → RawOperand → RawOperand-F RawOperand RawActual RawCall
+    → Result Op Reason
+op_in scope what operand (layer.Call call) = and_then (call_of scope call) (calling what)
+op_in scope what operand other = op_or_rule what (resolved_operand scope operand)
+
 -- the instruction of a raw one, or the rule that it breaks
 unfoldable pub op_of : OperandScope → RawOp → Result Op Reason
-op_of scope raw = op_or_rule (mnemonic_named raw.mnemonic) (resolved_operand scope raw.operand)
+op_of scope raw = op_in scope (mnemonic_named raw.mnemonic) raw.operand (out-RawOperand raw.operand)
 
 -- an instruction, or any one where a rule is broken, since it is not used then
 abbrev pub or_any : Result Op Reason → Op
@@ -310,7 +340,8 @@ body_of scope = instrs_of scope scope.block.body ++ (record { line = scope.block
 
 -- a block by its name
 abbrev pub block_with : OperandScope → BlockName → Block
-block_with scope name = record { name = name; line = scope.block.line; formals = []; body = body_of scope }
+block_with scope name =
+    record { name = name; line = scope.block.line; formals = formals_of scope.block; body = body_of scope }
 
 -- the block of a raw one
 abbrev pub block_of : RawProgram → RawBlock → Block
@@ -345,8 +376,8 @@ symbol_of line = symbol_at line.name line.address
 abbrev pub program_of : RawProgram → Program
 program_of raw =
     record {
-      dbs = in_order (filter_map (data_of raw.symbols) raw.dbs);
-      instances = [];
+      dbs = in_order (filter_map (data_of raw) raw.dbs);
+      instances = filter_map (instance_of raw) raw.dbs;
       blocks = map (block_of raw) raw.blocks;
       symbols = filter_map symbol_of raw.symbols;
     }

@@ -1,14 +1,13 @@
 -- What a written operand means. It is a place, a pointer, a constant or a data block, given what names mean.
 -- Held against: this project's own rules.
-use Rattle.std.specs.Prelude.{ℕ, Bool, true, false, ◌&&◌, if◌then◌else◌, List, [], ◌∷◌, Option, Some, None, Result, Ok, Err}
-use Rattle.std.specs.Option.{is_some}
+use Rattle.std.specs.Prelude.{ℕ, Bool, true, false, ◌&&◌, ◌||◌, if◌then◌else◌, List, [], ◌∷◌, Option, Some, None, Result, Ok, Err}
 use Rattle.memory_areas.specs.declared.place.AreaName.{AreaName}
 use Rattle.memory_areas.specs.declared.place.AreaName.TheVariants as area
-use Rattle.s7_base.specs.Broken.{first_of_all}
 use Rattle.s7_base.specs.declared.reason.Reason.{Reason}
 use Rattle.s7_base.specs.declared.reason.Reason.TheVariants.{UnknownName}
 use Rattle.stl_rules.specs.Labels.{target_in}
-use Rattle.stl_rules.specs.Names.{block_number, db_numbered, may_have, symbol_named}
+use Rattle.stl_rules.specs.Interfaces.{are_refused, are_temporaries_refused, begins_in, formal_named, formals_of, interface_of, is_interface_refused, most_in_block, most_local, temporaries_of}
+use Rattle.stl_rules.specs.Names.{block_found, block_number, db_numbered, may_have, symbol_named}
 use Rattle.stl_rules.specs.declared.resolved_operand.ResolvedOperand.{ResolvedOperand}
 use Rattle.stl_rules.specs.declared.resolved_operand.ResolvedOperand.TheVariants as behind
 use Rattle.stl_statement_grammar.specs.Constants.{constant}
@@ -20,11 +19,14 @@ use Rattle.memory_areas.specs.Access.{is_byte_in}
 use Rattle.stl_tree.specs.Accepted.{may_hold_pointers}
 use Rattle.stl_tree.specs.declared.program.Operand.{Operand}
 use Rattle.stl_tree.specs.declared.raw.RawPointer.{RawPointer}
-use Rattle.stl_tree.specs.declared.program.Operand.TheVariants.{ByMemory, ByRegister, Crossing, Direct, Opened}
+use Rattle.stl_tree.specs.declared.program.Formal.{Formal as BlockFormal}
+use Rattle.stl_tree.specs.declared.program.Operand.TheVariants.{ByMemory, ByRegister, Crossing, Direct, Formal, Opened}
+use Rattle.stl_tree.specs.declared.raw.BlockKind.{BlockKind}
 use Rattle.stl_tree.specs.declared.raw.BlockKind.TheVariants as block
 use Rattle.stl_tree.specs.declared.raw.Declaration.{Declaration}
 use Rattle.stl_tree.specs.declared.raw.ElemType.{ElemType}
 use Rattle.stl_tree.specs.declared.raw.PathStep.{PathStep}
+use Rattle.stl_tree.specs.declared.raw.PathStep.TheVariants as step
 use Rattle.stl_tree.specs.declared.raw.RawActual.{RawActual}
 use Rattle.stl_tree.specs.declared.raw.RawBlock.{RawBlock}
 use Rattle.stl_tree.specs.declared.raw.RawCall.{RawCall}
@@ -39,7 +41,6 @@ use Rattle.stl_tree.specs.declared.raw.RawProgram.{RawProgram}
 use Rattle.stl_tree.specs.declared.raw.SymbolAddress.{SymbolAddress}
 use Rattle.stl_tree.specs.declared.raw.SymbolAddress.TheVariants as address
 use Rattle.stl_rules.specs.Extents.{width_of}
-use Rattle.stl_rules.specs.Layouts.{breaks_in}
 use Rattle.stl_rules.specs.Paths.{component_in}
 use Rattle.stl_rules.specs.declared.layout.Component.{Component}
 
@@ -102,29 +103,53 @@ abbrev pub given_component : Option ℕ → AreaName → Option Component → Re
 given_component number name None = behind.Unknown
 given_component number name (Some at) = place_of_kind number name at at.kind
 
--- sections break a rule within a limit; a path into them is not judged
-abbrev pub are_refused : ℕ → List (List Declaration) → Bool
-are_refused limit sections = is_some (first_of_all (breaks_in limit sections))
-
 -- the operand that a path names in sections
 abbrev pub given_path : ℕ → Option ℕ → AreaName → List (List Declaration) → List PathStep → ResolvedOperand
 given_path limit number name sections path =
     if are_refused limit sections then behind.Unjudged else given_component number name (component_in sections path)
 
--- the most bytes of a data block, and of local data
-abbrev pub most_in_block : ℕ
-most_in_block = 16384
+-- the operand that a path names in an instance of a function block, which may not be in the text
+abbrev pub given_in_instance : ℕ → List PathStep → Option RawBlock → ResolvedOperand
+given_in_instance n path None = behind.Unknown
+given_in_instance n path (Some raw) =
+    if is_interface_refused raw then behind.Unjudged
+    else given_component (Some n) area.Db (component_in (interface_of raw) path)
 
-abbrev pub most_local : ℕ
-most_local = 256
+abbrev pub given_in_kind : RawProgram → ℕ → List PathStep → RawDataKind → ResolvedOperand
+given_in_kind text n path (data_kind.Own decls) = given_path most_in_block (Some n) area.Db (decls ∷ []) path
+given_in_kind text n path (data_kind.Instance name) =
+    given_in_instance n path (block_found text block.Fb (block_number text.symbols block.Fb name))
 
-abbrev pub given_in_kind : ℕ → List PathStep → RawDataKind → ResolvedOperand
-given_in_kind n path (data_kind.Own decls) = given_path most_in_block (Some n) area.Db (decls ∷ []) path
-given_in_kind n path (data_kind.Instance name) = behind.Unfit
+abbrev pub given_in_data : RawProgram → ℕ → List PathStep → Option RawData → ResolvedOperand
+given_in_data text n path None = behind.Unknown
+given_in_data text n path (Some d) = given_in_kind text n path d.kind
 
-abbrev pub given_in_data : ℕ → List PathStep → Option RawData → ResolvedOperand
-given_in_data n path None = behind.Unknown
-given_in_data n path (Some d) = given_in_kind n path d.kind
+-- Variables
+
+-- the operand that a formal of a function is, by its position; nothing is inside a formal
+abbrev pub formal_operand : Option (ℕ × BlockFormal) → ResolvedOperand
+formal_operand None = behind.Unknown
+formal_operand (Some f) = behind.At (Formal f.0) f.1.width
+
+abbrev pub given_formal : List BlockFormal → List PathStep → ResolvedOperand
+given_formal formals (step.Name name ∷ []) = formal_operand (formal_named 0 formals name)
+given_formal formals other = behind.Unknown
+
+-- the operand that a path into the interface of a block is: a place in the instance of a function block, or a formal
+abbrev pub given_in_interface : RawBlock → BlockKind → List PathStep → ResolvedOperand
+given_in_interface raw block.Fb path = given_component None area.Di (component_in (interface_of raw) path)
+given_in_interface raw other path = given_formal (formals_of raw) path
+
+-- the operand that a path from a variable of a block is. A path into an interface or into temporaries that break a
+-- rule is not judged, nor is one that may lead there
+abbrev pub given_variable : RawBlock → List PathStep → ResolvedOperand
+given_variable raw path =
+    if begins_in (interface_of raw) path
+    then (if is_interface_refused raw then behind.Unjudged else given_in_interface raw raw.kind path)
+    else if begins_in (temporaries_of raw) path
+    then given_path most_local None area.L (temporaries_of raw) path
+    else if is_interface_refused raw || are_temporaries_refused raw then behind.Unjudged
+    else behind.Unknown
 
 -- the operand by the number of a block; where there is none, a name that is not declared, or one of another kind
 abbrev pub given_number : (ℕ → ResolvedOperand) → Result ℕ Reason → ResolvedOperand
@@ -143,9 +168,9 @@ given_in scope layer.Missing = behind.Nothing
 given_in scope (layer.At place) = given_place place
 given_in scope (layer.Named name) = given_symbol (symbol_named scope.text.symbols name)
 given_in scope (layer.InBlock name path) =
-    given_number (λ n. given_in_data n path (db_numbered scope.text.symbols scope.text.dbs n))
+    given_number (λ n. given_in_data scope.text n path (db_numbered scope.text.symbols scope.text.dbs n))
     (block_number scope.text.symbols block.Db (raw_name.Name name))
-given_in scope (layer.Local path) = given_path most_local None area.L (scope.block.temps ∷ []) path
+given_in scope (layer.Local path) = given_variable scope.block path
 given_in scope (layer.Flag test) = behind.Flag test
 given_in scope layer.Stw = behind.Stw
 given_in scope layer.DbNo = behind.DbNo

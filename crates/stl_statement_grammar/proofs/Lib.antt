@@ -1,2 +1,3 @@
+mod CallCases
 mod OperandCases
 mod PointerCases

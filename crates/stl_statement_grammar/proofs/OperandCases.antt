@@ -38,13 +38,13 @@ is mnemonic operand = Ok (record { mnemonic = mnemonic; operand = operand })
 abbrev at : Option ℕ → AreaName → Width → ℕ → ℕ → RawOperand
 at block name w byte bit = At (record { block = block; area = name; width = w; byte = byte; bit = bit })
 
-abbrev pub unbuilt : Result RawOp Reason
-unbuilt = Err (Unsupported kind.NotBuilt)
+abbrev pub bad : Result RawOp Reason
+bad = Err BadStatement
 
 bits :
     all_said
     (codes "A I0.0" ∷ codes "A i 00.07" ∷ codes "= Q 4 .0" ∷ codes "S M 70000.9" ∷ codes "AN L 1.1" ∷ codes "O DBX0.0" ∷ codes "R DIX 99999999999.8" ∷ [])
-    ≡ is (codes "A") (at None area.I width.Bit 0 0) ∷ is (codes "A") (at None area.I width.Bit 0 7) ∷ unbuilt
+    ≡ is (codes "A") (at None area.I width.Bit 0 0) ∷ is (codes "A") (at None area.I width.Bit 0 7) ∷ bad
     ∷ is (codes "S") (at None area.M width.Bit 70000 9) ∷ is (codes "AN") (at None area.L width.Bit 1 1)
     ∷ is (codes "O") (at None area.Db width.Bit 0 0) ∷ is (codes "R") (at None area.Di width.Bit 4294967295 8) ∷ []
 unfolding tokens_of mnemonic_at
@@ -56,7 +56,7 @@ bytes :
     ∷ codes "L LB{x}7" ∷ codes "L PW 0" ∷ codes "L MB5X" ∷ codes "L MB" ∷ [])
     ≡ is (codes "L") (at None area.M width.Byte 5 0) ∷ is (codes "L") (at None area.Db width.Word 4 0)
     ∷ is (codes "T") (at None area.Di width.Byte 65536 0) ∷ is (codes "T") (at None area.Di width.Dword 0 0)
-    ∷ is (codes "L") (at None area.L width.Dword 2 0) ∷ is (codes "L") (at None area.L width.Byte 7 0) ∷ unbuilt ∷ unbuilt ∷ unbuilt ∷ []
+    ∷ is (codes "L") (at None area.L width.Dword 2 0) ∷ is (codes "L") (at None area.L width.Byte 7 0) ∷ bad ∷ bad ∷ bad ∷ []
 unfolding tokens_of mnemonic_at
 bytes = refl
 
@@ -64,7 +64,7 @@ bytes = refl
 other_widths :
     all_said (codes "A MW 0" ∷ codes "L M 0.0" ∷ codes "T I 0.0" ∷ codes "= DB1.DBB 2" ∷ codes "L MW 0.0" ∷ codes "A M 0" ∷ [])
     ≡ is (codes "A") (at None area.M width.Word 0 0) ∷ is (codes "L") (at None area.M width.Bit 0 0)
-    ∷ is (codes "T") (at None area.I width.Bit 0 0) ∷ is (codes "=") (at (Some 1) area.Db width.Byte 2 0) ∷ unbuilt ∷ unbuilt ∷ []
+    ∷ is (codes "T") (at None area.I width.Bit 0 0) ∷ is (codes "=") (at (Some 1) area.Db width.Byte 2 0) ∷ bad ∷ bad ∷ []
 unfolding tokens_of mnemonic_at
 other_widths = refl
 
@@ -79,7 +79,7 @@ unnumbered_blocks :
     all_said
     (codes "L DB5 .DBW 4" ∷ codes "L DB5. DBW 4" ∷ codes "L DI5.DIW 4" ∷ codes "L DB5.DIW 4"
     ∷ codes "L DB5.MW 4" ∷ codes "L DB.DBW 4" ∷ codes "L DB5" ∷ codes "L DB 5.DBX" ∷ [])
-    ≡ unbuilt ∷ unbuilt ∷ unbuilt ∷ unbuilt ∷ unbuilt ∷ unbuilt ∷ unbuilt ∷ unbuilt ∷ []
+    ≡ bad ∷ bad ∷ bad ∷ bad ∷ bad ∷ bad ∷ bad ∷ bad ∷ []
 unfolding tokens_of mnemonic_at
 unnumbered_blocks = refl
 
@@ -90,12 +90,12 @@ open_blocks :
 unfolding tokens_of mnemonic_at
 open_blocks = refl
 
--- what is not built, has no form, or is left out
+-- what has no form, or is left out
 other_blocks :
     all_said
     (codes "OPN DB [MD 0]" ∷ codes "OPN [MW 0]" ∷ codes "OPN" ∷ codes "OPN FB 5" ∷ codes "OPN DB 5 6" ∷ codes "CDB 5"
     ∷ codes "T DBNO" ∷ codes "L DBNO 1" ∷ codes "L DBLG" ∷ codes "A T 1" ∷ codes "L PIW [MD 0]" ∷ [])
-    ≡ unbuilt ∷ unbuilt ∷ unbuilt ∷ unbuilt ∷ unbuilt ∷ unbuilt ∷ unbuilt ∷ unbuilt
+    ≡ bad ∷ bad ∷ bad ∷ bad ∷ bad ∷ bad ∷ bad ∷ bad
     ∷ Err (Unsupported kind.DbLength) ∷ Err (Unsupported kind.Timer) ∷ Err (Unsupported kind.Peripheral) ∷ []
 unfolding tokens_of mnemonic_at
 other_blocks = refl
@@ -105,7 +105,7 @@ combined :
     all_said (codes "AW DW#16#1" ∷ codes "OD L#5" ∷ codes "XOW" ∷ codes "AW MW 0" ∷ [])
     ≡ is (codes "AW") (Constant (record { width = width.Dword; signed = false; binary = false; value = 1 }))
     ∷ is (codes "OD") (Constant (record { width = width.Dword; signed = false; binary = false; value = 5 }))
-    ∷ is (codes "XOW") Missing ∷ unbuilt ∷ []
+    ∷ is (codes "XOW") Missing ∷ bad ∷ []
 unfolding tokens_of mnemonic_at
 combined = refl
 
@@ -122,7 +122,7 @@ names = refl
 indices :
     all_said (codes "L #INT [ -1 , 2 ,-3 ] [007]" ∷ codes "T \"d\".a [ 99999999999, -99999999999 ] .b" ∷ codes "T \"d\".a [ 99999999999, -99999999999 ].b" ∷ [])
     ≡ is (codes "L") (Local (step.Name (codes "INT") ∷ step.Index (negsuc 0 ∷ pos 2 ∷ negsuc 2 ∷ []) ∷ step.Index (pos 7 ∷ []) ∷ []))
-    ∷ unbuilt
+    ∷ bad
     ∷ is (codes "T") (InBlock (codes "d") (step.Name (codes "a") ∷ step.Index (pos 4294967295 ∷ negsuc 4294967294 ∷ []) ∷ step.Name (codes "b") ∷ [])) ∷ []
 unfolding tokens_of mnemonic_at
 indices = refl
@@ -132,7 +132,7 @@ no_names :
     all_said
     (codes "L # x" ∷ codes "L #a . b" ∷ codes "L #a. b" ∷ codes "L \"d\" .x" ∷ codes "L \"d\". x" ∷ codes "L #a[- 1]" ∷ codes "L #a[1,]"
     ∷ codes "L #a[]" ∷ codes "L #a[1" ∷ codes "L #" ∷ codes "L #\"a\"" ∷ codes "L \"d\".\"x\"" ∷ codes "AW \"a\"" ∷ codes "L #a[+1]" ∷ [])
-    ≡ unbuilt ∷ unbuilt ∷ unbuilt ∷ unbuilt ∷ unbuilt ∷ unbuilt ∷ unbuilt ∷ unbuilt ∷ unbuilt ∷ unbuilt ∷ unbuilt ∷ unbuilt ∷ unbuilt ∷ unbuilt ∷ []
+    ≡ bad ∷ bad ∷ bad ∷ bad ∷ bad ∷ bad ∷ bad ∷ bad ∷ bad ∷ bad ∷ bad ∷ bad ∷ bad ∷ bad ∷ []
 unfolding tokens_of mnemonic_at
 no_names = refl
 
@@ -140,6 +140,6 @@ open_names :
     all_said
     (codes "OPN \"d\"" ∷ codes "OPN DB \"d\"" ∷ codes "OPN di\"d\"" ∷ codes "OPN DB5 \"d\"" ∷ codes "OPN FB \"d\"" ∷ codes "OPN \"d\".x" ∷ codes "OPN #d" ∷ [])
     ≡ is (codes "OPN") (OpenDb (Name (codes "d"))) ∷ is (codes "OPN") (OpenDb (Name (codes "d"))) ∷ is (codes "OPN") (OpenDi (Name (codes "d")))
-    ∷ unbuilt ∷ unbuilt ∷ unbuilt ∷ unbuilt ∷ []
+    ∷ bad ∷ bad ∷ bad ∷ bad ∷ []
 unfolding tokens_of mnemonic_at
 open_names = refl

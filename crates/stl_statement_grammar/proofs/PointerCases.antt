@@ -7,12 +7,12 @@ use Rattle.s7_base.specs.Tokens.{tokens_of}
 use Rattle.s7_base.specs.declared.reason.Kind.{Kind}
 use Rattle.s7_base.specs.declared.reason.Kind.TheVariants as kind
 use Rattle.s7_base.specs.declared.reason.Reason.{Reason}
-use Rattle.s7_base.specs.declared.reason.Reason.TheVariants.{BadStatement, Unsupported}
+use Rattle.s7_base.specs.declared.reason.Reason.TheVariants.{Unsupported}
 use Rattle.s7_base.specs.declared.word.Width.{Width}
 use Rattle.s7_base.specs.declared.word.Width.TheVariants as width
 use Rattle.stl_statement_grammar.specs.Mnemonics.{mnemonic_at}
 use Rattle.stl_statement_grammar.specs.Pointers.{pointer, value_of}
-use Rattle.stl_statement_grammar.proofs.OperandCases.{all_said, is, unbuilt}
+use Rattle.stl_statement_grammar.proofs.OperandCases.{all_said, is, bad}
 use Rattle.stl_tree.specs.declared.program.Ar.TheVariants.{One, Two}
 use Rattle.stl_tree.specs.declared.raw.RawOp.{RawOp}
 use Rattle.stl_tree.specs.declared.raw.RawOperand.TheVariants.{At, ByMemory, ByRegister, Crossing, Local, Missing, Named, OpenDbBy, OpenDiBy, OtherAr, Pointer}
@@ -40,7 +40,7 @@ no_constants :
     all_said
     (codes "L P #10.0" ∷ codes "L P# 10.0" ∷ codes "L P#10 .0" ∷ codes "L P#MW 10"
     ∷ codes "L P#DB5.DBX 0.0" ∷ codes "L P#10" ∷ codes "+ P#1.0" ∷ codes "SLW P#1.0" ∷ codes "L P##x" ∷ [])
-    ≡ unbuilt ∷ unbuilt ∷ unbuilt ∷ unbuilt ∷ unbuilt ∷ unbuilt ∷ unbuilt ∷ unbuilt ∷ left_out kind.NamePointer ∷ []
+    ≡ bad ∷ bad ∷ bad ∷ bad ∷ bad ∷ bad ∷ bad ∷ bad ∷ left_out kind.NamePointer ∷ []
 unfolding tokens_of mnemonic_at
 no_constants = refl
 
@@ -59,7 +59,7 @@ not_by_memory :
     all_said
     (codes "L MW [ID 0]" ∷ codes "L MW [MW 0]" ∷ codes "L MW [DB1.DBD 0]" ∷ codes "L MW [\"p\"]" ∷ codes "L MW [#p]" ∷ codes "L MW [MD 0"
     ∷ codes "L MW MD 0]" ∷ codes "L W [MD 0]" ∷ codes "L DB5.DBW [MD 0]" ∷ codes "L MW [MD [MD 0]]" ∷ codes "L MW 0 [MD 0]" ∷ [])
-    ≡ unbuilt ∷ unbuilt ∷ unbuilt ∷ unbuilt ∷ unbuilt ∷ unbuilt ∷ unbuilt ∷ unbuilt ∷ unbuilt ∷ unbuilt ∷ unbuilt ∷ []
+    ≡ bad ∷ bad ∷ bad ∷ bad ∷ bad ∷ bad ∷ bad ∷ bad ∷ bad ∷ bad ∷ bad ∷ []
 unfolding tokens_of mnemonic_at
 not_by_memory = refl
 
@@ -78,7 +78,7 @@ not_by_register :
     all_said
     (codes "L MW [AR1,P#M 0.0]" ∷ codes "L MW [AR3,P#0.0]" ∷ codes "L MW [AR1]" ∷ codes "L MW [AR1 P#0.0]"
     ∷ codes "L MW [AR1,0.0]" ∷ codes "L X [AR1,P#0.0]" ∷ codes "L MW [AR1,P#0.0] 1" ∷ codes "SET [AR1,P#0.0]" ∷ [])
-    ≡ unbuilt ∷ unbuilt ∷ unbuilt ∷ unbuilt ∷ unbuilt ∷ unbuilt ∷ unbuilt ∷ unbuilt ∷ []
+    ≡ bad ∷ bad ∷ bad ∷ bad ∷ bad ∷ bad ∷ bad ∷ bad ∷ []
 unfolding tokens_of mnemonic_at
 not_by_register = refl
 
@@ -99,7 +99,7 @@ no_registers :
     all_said
     (codes "LAR2 AR1" ∷ codes "TAR2 AR1" ∷ codes "LAR1 AR1" ∷ codes "LAR1 5" ∷ codes "LAR1 DW#16#83000000" ∷ codes "LAR1 D [AR1,P#0.0]"
     ∷ codes "TAR1 P#0.0" ∷ codes "CAR AR1" ∷ codes "+AR1 P#M 0.0" ∷ codes "+AR1 5" ∷ codes "+ AR1" ∷ codes "LAR3" ∷ [])
-    ≡ unbuilt ∷ unbuilt ∷ unbuilt ∷ unbuilt ∷ unbuilt ∷ unbuilt ∷ unbuilt ∷ unbuilt ∷ unbuilt ∷ unbuilt ∷ unbuilt ∷ Err BadStatement ∷ []
+    ≡ bad ∷ bad ∷ bad ∷ bad ∷ bad ∷ bad ∷ bad ∷ bad ∷ bad ∷ bad ∷ bad ∷ bad ∷ []
 unfolding tokens_of mnemonic_at
 no_registers = refl
 
@@ -107,12 +107,12 @@ no_registers = refl
 left_out_there :
     all_said (codes "LAR1 T 1" ∷ codes "TAR1 PQD 0" ∷ codes "LAR1 T#5s" ∷ codes "+AR1 1.5" ∷ codes "LAR2 P##x" ∷ codes "+AR1 P##x" ∷ codes "TAR1 C#5" ∷ [])
     ≡ left_out kind.Timer ∷ left_out kind.Peripheral ∷ left_out kind.DateTime
-    ∷ left_out kind.Real ∷ left_out kind.NamePointer ∷ left_out kind.NamePointer ∷ unbuilt ∷ []
+    ∷ left_out kind.Real ∷ left_out kind.NamePointer ∷ left_out kind.NamePointer ∷ bad ∷ []
 unfolding tokens_of mnemonic_at
 left_out_there = refl
 
 opened :
     all_said (codes "OPN DB [MW 0]" ∷ codes "OPN DI[ DBW 70000 ]" ∷ codes "OPN DB [IW 0]" ∷ codes "OPN DB [MD 0]" ∷ codes "OPN \"d\" [MW 0]" ∷ [])
-    ≡ is (codes "OPN") (OpenDbBy (place area.M width.Word 0)) ∷ is (codes "OPN") (OpenDiBy (place area.Db width.Word 70000)) ∷ unbuilt ∷ unbuilt ∷ unbuilt ∷ []
+    ≡ is (codes "OPN") (OpenDbBy (place area.M width.Word 0)) ∷ is (codes "OPN") (OpenDiBy (place area.Db width.Word 70000)) ∷ bad ∷ bad ∷ bad ∷ []
 unfolding tokens_of mnemonic_at
 opened = refl

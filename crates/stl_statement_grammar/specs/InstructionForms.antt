@@ -1,8 +1,9 @@
--- The instructions that are built, form by form: a mnemonic of the table, and the operand of its shape.
+-- The instructions, form by form: a mnemonic of the table, and the operand of its shape.
 use Rattle.std.specs.Prelude.{◌≡◌, ℕ, ◌≤◌, true, false, List, [], ◌∷◌, drop, codes, Some, None, Ok}
 use Rattle.memory_areas.specs.declared.place.AreaName.{AreaName}
 use Rattle.s7_base.specs.declared.token.Token.{Token}
 use Rattle.status_word.specs.declared.test.Test.{Test}
+use Rattle.stl_statement_grammar.specs.CallForms.{IsCalled, IsCalledAlone}
 use Rattle.stl_statement_grammar.specs.ConstantForms.{IsAddend, IsAmong, IsConstant, IsUpTo}
 use Rattle.stl_statement_grammar.specs.Constants.{plain}
 use Rattle.stl_statement_grammar.specs.Mnemonics.{Row, rows, stands_at, mnemonic_at}
@@ -109,6 +110,10 @@ pub data IsOperand : OperandForm → List Token → RawOperand → Type 0 where
   opened : (tokens : List Token) (operand : RawOperand) →
       IsOpened tokens operand → IsOperand shape.Opened tokens operand
   label : (word : Token) → is_label_word word ≡ true → IsOperand shape.Label (word ∷ []) (Label word.text)
+  called : (tokens : List Token) (operand : RawOperand) →
+      IsCalled tokens operand → IsOperand shape.Called tokens operand
+  called_alone : (tokens : List Token) (operand : RawOperand) →
+      IsCalledAlone tokens operand → IsOperand shape.CalledAlone tokens operand
 
 -- a statement without its label: a mnemonic, and after it an operand of its form; the word before a colon is no
 -- mnemonic

@@ -1,8 +1,12 @@
+pub mod BlockNames
+pub mod CallForms
+pub mod CallOperands
 pub mod ConstantForms
 pub mod Constants
 pub mod InstructionForms
 pub mod ListForms
 pub mod Lists
+pub mod LocatedOperands
 pub mod Mnemonics
 pub mod Numbers
 pub mod PathForms

@@ -3,7 +3,6 @@
 -- Held against: each chapter of the manual.
 use Rattle.std.specs.Prelude.{ℕ, Bool, true, false, ◌&&◌, ◌||◌, List, [], ◌∷◌, ◌++◌, map, length, take, drop, codes, Option, option_map}
 use Rattle.std.specs.List.{find}
-use Rattle.std.specs.Option.{is_some}
 use Rattle.s7_base.specs.Tokens.{is_same_word}
 use Rattle.s7_base.specs.declared.check.Check.{Check}
 use Rattle.s7_base.specs.declared.check.Check.TheVariants as check
@@ -132,7 +131,7 @@ control_rows =
     ++ (one is.Open (codes "OPN") ∷ one is.ExchangeDb (codes "CDB") ∷ [])
     ++ ones is.Nop (codes "NOP" ∷ codes "BLD" ∷ [])
     ++ jump_rows
-    ++ ones is.Later (codes "CALL" ∷ codes "UC" ∷ codes "CC" ∷ [])
+    ++ (one is.Call (codes "CALL") ∷ one is.CallAlone (codes "UC") ∷ one is.CallIf (codes "CC") ∷ [])
     ++ ones is.TimerOrCounter (codes "FR" ∷ codes "LC" ∷ [])
 
 -- the forms that the translator does not support
@@ -168,9 +167,6 @@ stands_at (first ∷ rest) row = is_spelled row.first first && goes_on row.secon
 -- the mnemonic with which the tokens begin
 unfoldable pub mnemonic_at : List Token → Option Row
 mnemonic_at tokens = find (stands_at tokens) rows
-
-abbrev pub begins_with_mnemonic : List Token → Bool
-begins_with_mnemonic tokens = is_some (mnemonic_at tokens)
 
 -- the mnemonic of a line of the table has this name
 abbrev pub has_name : List ℕ → Row → Bool

@@ -1,15 +1,13 @@
 -- The statement that tokens spell. It is a mnemonic and its operand, without the `;`. An operand is a form that fits,
 -- a listed form that is left out, whatever follows it, or neither.
 -- Held against: each chapter of the manual.
-use Rattle.std.specs.Prelude.{ℕ, Bool, true, false, not, ◌==◌, ◌&&◌, ◌||◌, nat_lt, if◌then◌else◌, List, [], ◌∷◌, ◌++◌, length, take, drop, codes, Option, Some, None, option_map, Result, Ok, Err}
+use Rattle.std.specs.Prelude.{ℕ, Bool, true, false, not, ◌==◌, ◌&&◌, ◌||◌, nat_lt, if◌then◌else◌, List, [], ◌∷◌, ◌++◌, length, drop, codes, Option, Some, None, option_map, Result, Ok, Err}
 use Rattle.std.specs.List.{find}
 use Rattle.memory_areas.specs.Access.{is_byte_in, is_unaligned}
 use Rattle.memory_areas.specs.declared.place.AreaName.{AreaName}
 use Rattle.memory_areas.specs.declared.place.AreaName.TheVariants as area
-use Rattle.s7_base.specs.Tokens.{is_same_word}
 use Rattle.s7_base.specs.declared.check.Check.{Check}
 use Rattle.s7_base.specs.declared.check.Check.TheVariants as check
-use Rattle.s7_base.specs.declared.reason.Kind.{Kind}
 use Rattle.s7_base.specs.declared.reason.Kind.TheVariants as kind
 use Rattle.s7_base.specs.declared.reason.Line.{Line}
 use Rattle.s7_base.specs.declared.reason.Reason.{Reason}
@@ -19,12 +17,13 @@ use Rattle.s7_base.specs.declared.reason.Rejection.TheVariants.{Refused}
 use Rattle.s7_base.specs.declared.token.Token.{Token}
 use Rattle.status_word.specs.declared.test.Test.{Test}
 use Rattle.status_word.specs.declared.test.Test.TheVariants as test
-use Rattle.stl_statement_grammar.specs.Constants.{addend_at, constant_at, left_out_prefixes, marked_at, number_at}
+use Rattle.stl_statement_grammar.specs.CallOperands.{called_alone_at, called_at}
+use Rattle.stl_statement_grammar.specs.Constants.{addend_at, left_out_prefixes, marked_at, number_at}
+use Rattle.stl_statement_grammar.specs.LocatedOperands.{any_constant_at, left_out_at, located_at, placed_at, timers_and_counters}
 use Rattle.stl_statement_grammar.specs.Mnemonics.{Row, goes_on, mnemonic_at}
-use Rattle.digit_texts.specs.Digits.{are_digits, is_digit}
-use Rattle.stl_statement_grammar.specs.Paths.{named_at}
-use Rattle.stl_statement_grammar.specs.Places.{numbered_at, opened_area, place_at}
-use Rattle.stl_statement_grammar.specs.Pointers.{crossing_at, indirect_at, memory_at, offset_at, pointer_at}
+use Rattle.digit_texts.specs.Digits.{is_digit}
+use Rattle.stl_statement_grammar.specs.Places.{numbered_at, opened_area}
+use Rattle.stl_statement_grammar.specs.Pointers.{memory_at, offset_at, pointer_at}
 use Rattle.stl_statement_grammar.specs.Readers.{and_then, fitting, further, or_else, read_as}
 use Rattle.stl_tree.specs.Shifts.{most_steps}
 use Rattle.stl_statement_grammar.specs.Words.{is_quoted_kind, is_word, is_sign, is_spelled, is_word_kind}
@@ -49,73 +48,6 @@ use Rattle.stl_tree.specs.declared.raw.RawPointer.{RawPointer}
 -- the place lies in its area, with a bit number that its width has
 abbrev pub is_in_area : RawPlace → Bool
 is_in_area place = is_byte_in place.area place.width place.byte && not (is_unaligned place.width place.bit)
-
--- Forms of places that are not supported
-
--- a form of a place that is not supported: a word with a number, or with a bracket where it may be indirect, and its
--- kind
-pub record NamedForm : Type 0 where
-  pub word : List ℕ
-  pub is_indirect : Bool
-  pub kind : Kind
-
--- a form that is not supported and whose operand is a number alone
-abbrev pub direct : List ℕ → Kind → NamedForm
-direct word kind = record { word = word; is_indirect = false; kind = kind }
-
--- a word of the peripheral inputs or outputs
-abbrev pub peripheral : List ℕ → NamedForm
-peripheral word = record { word = word; is_indirect = true; kind = kind.Peripheral }
-
--- the forms of timers and counters
-abbrev pub timers_and_counters : List NamedForm
-timers_and_counters = direct (codes "T") kind.Timer ∷ direct (codes "C") kind.Counter ∷ []
-
--- the forms of timers, counters, and the peripheral inputs and outputs
-abbrev pub left_out_forms : List NamedForm
-left_out_forms =
-    timers_and_counters
-    ++ (peripheral (codes "PIB") ∷ peripheral (codes "PIW") ∷ peripheral (codes "PID")
-    ∷ peripheral (codes "PQB") ∷ peripheral (codes "PQW") ∷ peripheral (codes "PQD") ∷ [])
-
--- the tokens after the word of a form that is not supported: a number, or a bracket
-abbrev pub is_named : NamedForm → List Token → Bool
-is_named form [] = false
-is_named form (next ∷ rest) =
-    (is_word_kind next.kind && are_digits next.text) || (form.is_indirect && is_sign (codes "[") next)
-
--- the token is this word and a number, without a blank
-abbrev pub is_numbered : List ℕ → Token → Bool
-is_numbered word token =
-    is_word_kind token.kind && is_same_word (take (length word) token.text) word
-    && are_digits (drop (length word) token.text)
-
--- the tokens begin with a form that is not supported, in one word or in two
-abbrev pub has_form : List Token → NamedForm → Bool
-has_form [] form = false
-has_form (first ∷ rest) form = (is_word form.word first && is_named form rest) || is_numbered form.word first
-
--- Operands
-
-abbrev pub left_out_by : Option NamedForm → Read RawPlace
-left_out_by None = No
-left_out_by (Some form) = LeftOut form.kind
-
--- a form of a table that is not supported
-abbrev pub left_out_at : List NamedForm → List Token → Read RawPlace
-left_out_at table tokens = left_out_by (find (has_form tokens) table)
-
--- the operand at a place where a place of memory may be written
-abbrev pub place_operand : List Token → Read RawPlace
-place_operand tokens = or_else (place_at tokens) (left_out_at left_out_forms tokens)
-
--- the operand at a place where a place of memory, a name, or an area and a pointer may be written
-abbrev pub placed_at : List Token → Read RawOperand
-placed_at tokens = or_else (read_as At (place_operand tokens)) (or_else (named_at tokens) (indirect_at tokens))
-
--- the operand at a place where a place of memory, a name or a pointer, with or without an area, may be written
-abbrev pub located_at : List Token → Read RawOperand
-located_at tokens = or_else (placed_at tokens) (crossing_at tokens)
 
 -- how many tokens a mnemonic or a test of the status word takes, by its second part
 abbrev pub size_with : List ℕ → ℕ
@@ -194,10 +126,6 @@ checked_at tokens = or_else (status_at tokens) (located_at tokens)
 -- the operand of `T`: the status word, a place or a name
 abbrev pub stored_at : List Token → Read RawOperand
 stored_at tokens = or_else (stw_at tokens) (located_at tokens)
-
--- a constant as an operand, also that of a pointer
-abbrev pub any_constant_at : List Token → Read RawOperand
-any_constant_at tokens = or_else (read_as Constant (constant_at tokens)) (read_as Pointer (pointer_at tokens))
 
 -- the operand of `L`: the status word, the number of an open data block, a constant, a place or a name
 abbrev pub loaded_at : List Token → Read RawOperand
@@ -308,7 +236,8 @@ operand_by shape.OffsetOrNothing tokens = or_nothing tokens (pointer_alone_at of
 operand_by shape.Opened tokens = opened_at tokens
 operand_by shape.Label tokens = label_at tokens
 operand_by shape.TimerOrCounter tokens = read_as At (left_out_at timers_and_counters tokens)
-operand_by shape.Later tokens = No
+operand_by shape.Called tokens = called_at tokens
+operand_by shape.CalledAlone tokens = called_alone_at tokens
 operand_by (shape.LeftOut kind) tokens = LeftOut kind
 
 -- the form of the operand of a check: a place, a name or the status word is checked; `O` may have no operand
@@ -362,7 +291,9 @@ operand_form_of is.JumpList = shape.Label
 operand_form_of is.BlockEnd = shape.Nothing
 operand_form_of is.BlockEndIf = shape.Nothing
 operand_form_of is.TimerOrCounter = shape.TimerOrCounter
-operand_form_of is.Later = shape.Later
+operand_form_of is.Call = shape.Called
+operand_form_of is.CallAlone = shape.CalledAlone
+operand_form_of is.CallIf = shape.CalledAlone
 operand_form_of (is.LeftOut kind) = shape.LeftOut kind
 
 -- the operand of an instruction
@@ -370,19 +301,6 @@ abbrev pub operand_of : Mnemonic → List Token → Read RawOperand
 operand_of what tokens = operand_by (operand_form_of what) tokens
 
 -- Statements
-
--- the kind by which an unsupported form is refused; those of calls and declarations are not built yet
-abbrev pub refusal_kind : Kind → Kind
-refusal_kind kind.Timer = kind.Timer
-refusal_kind kind.Counter = kind.Counter
-refusal_kind kind.Real = kind.Real
-refusal_kind kind.MasterControl = kind.MasterControl
-refusal_kind kind.DateTime = kind.DateTime
-refusal_kind kind.DbLength = kind.DbLength
-refusal_kind kind.NamePointer = kind.NamePointer
-refusal_kind kind.Peripheral = kind.Peripheral
-refusal_kind kind.Accumulators = kind.Accumulators
-refusal_kind unbuilt = kind.NotBuilt
 
 -- the tokens begin with a label and its colon
 abbrev pub begins_with_label : List Token → Bool
@@ -397,9 +315,9 @@ name_of row = row.first ++ row.second
 -- a mnemonic with the operand that was read, which must take all tokens after the mnemonic
 abbrev pub with_operand : List ℕ → ℕ → Read RawOperand → Result RawOp Reason
 with_operand name size (Fits operand taken) =
-    if taken == size then Ok (record { mnemonic = name; operand = operand }) else Err (Unsupported kind.NotBuilt)
-with_operand name size (LeftOut kind) = Err (Unsupported (refusal_kind kind))
-with_operand name size No = Err (Unsupported kind.NotBuilt)
+    if taken == size then Ok (record { mnemonic = name; operand = operand }) else Err BadStatement
+with_operand name size (LeftOut kind) = Err (Unsupported kind)
+with_operand name size No = Err BadStatement
 
 -- a mnemonic and the operand after it
 abbrev pub with_mnemonic : List Token → Option Row → Result RawOp Reason

@@ -1,22 +1,10 @@
--- Words and signs among tokens. What a token spells, and the words with which headings, sections and ends of blocks
--- begin.
+-- Words and signs among tokens. What a token spells.
 -- Held against: this project's own source form.
-use Rattle.std.specs.Prelude.{ℕ, Bool, true, false, ◌&&◌, ◌||◌, List, [], ◌∷◌, codes}
+use Rattle.std.specs.Prelude.{ℕ, Bool, true, false, ◌&&◌, ◌||◌, List}
 use Rattle.s7_base.specs.Tokens.{is_among, is_same_word}
 use Rattle.s7_base.specs.declared.token.Token.{Token}
 use Rattle.s7_base.specs.declared.token.TokenKind.{TokenKind}
 use Rattle.s7_base.specs.declared.token.TokenKind.TheVariants.{Word, Quoted, Text, Sign}
-
--- the words with which a heading, a line of a heading, a section or an end begins
-abbrev pub block_words : List (List ℕ)
-block_words =
-    codes "SYMBOL_TABLE" ∷ codes "ORGANIZATION_BLOCK" ∷ codes "FUNCTION" ∷ codes "FUNCTION_BLOCK" ∷ codes "DATA_BLOCK"
-    ∷ codes "AUTHOR" ∷ codes "FAMILY" ∷ codes "NAME" ∷ codes "VERSION" ∷ codes "KNOW_HOW_PROTECT"
-    ∷ codes "CODE_VERSION1" ∷ codes "NON_RETAIN"
-    ∷ codes "VAR_INPUT" ∷ codes "VAR_OUTPUT" ∷ codes "VAR_IN_OUT" ∷ codes "VAR" ∷ codes "VAR_TEMP"
-    ∷ codes "STRUCT" ∷ codes "FB" ∷ codes "BEGIN" ∷ codes "NETWORK"
-    ∷ codes "END_SYMBOL_TABLE" ∷ codes "END_VAR" ∷ codes "END_STRUCT"
-    ∷ codes "END_ORGANIZATION_BLOCK" ∷ codes "END_FUNCTION" ∷ codes "END_FUNCTION_BLOCK" ∷ codes "END_DATA_BLOCK" ∷ []
 
 -- the token is a word, neither in quotes nor a sign
 abbrev pub is_word_kind : TokenKind → Bool

@@ -127,8 +127,14 @@ pub enum Mnemonic {
     /// `FR` and `LC`, which are not supported, of the kind of their operand.
     TimerOrCounter,
 
-    /// A call, which is not built yet.
-    Later,
+    /// `CALL`, of a function with its actuals or of an instance of a function block.
+    Call,
+
+    /// `UC`, of a function without formals.
+    CallAlone,
+
+    /// `CC`, of a function without formals where the RLO is 1.
+    CallIf,
 
     /// A form of this kind, which is not supported whatever its operand is.
     LeftOut(Kind),
@@ -185,8 +191,11 @@ pub enum OperandForm {
     /// A timer or a counter, which are not supported.
     TimerOrCounter,
 
-    /// An operand that is not built yet.
-    Later,
+    /// A block, and what is given to its formals.
+    Called,
+
+    /// A function without formals.
+    CalledAlone,
 
     /// Any operand: the form is of this kind, which is not supported.
     LeftOut(Kind),

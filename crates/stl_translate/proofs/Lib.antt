@@ -1,2 +1,2 @@
-pub mod Text
+mod Text
 mod TranslateCases

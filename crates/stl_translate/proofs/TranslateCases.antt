@@ -1,4 +1,5 @@
 -- The text of some small programs, by computation.
+use Rattle.std.proofs.Common.{ap}
 use Rattle.std.specs.Prelude.{◌≡◌, ℕ, List, [], ◌∷◌, ◌++◌, length, map, codes}
 use Rattle.std.specs.Fmt.{digits}
 use Rattle.s7_base.specs.declared.check.Check.TheVariants as check
@@ -12,8 +13,13 @@ use Rattle.stl_tree.specs.declared.program.Op.{Op}
 use Rattle.stl_tree.specs.declared.program.Op.TheVariants as op
 use Rattle.stl_tree.specs.declared.program.Instr.{Instr}
 use Rattle.stl_tree.specs.declared.program.Block.{Block}
-use Rattle.st_tree.specs.Spelling.{unit_text, line, literal_text, spelling}
-use Rattle.st_tree.proofs.Equations.{canon_equations, text_assign}
+use Rattle.st_tree.specs.Spelling as spelling_of
+use Rattle.st_tree.specs.Spelling.{ArmText, CaseText, Text, line, literal_text, local_text, spelling, statement_step, statement_text, unit_text}
+use Rattle.st_tree.specs.Typing.{Names}
+use Rattle.st_tree.specs.declared.expr.Var.{Var}
+use Rattle.st_tree.specs.declared.program.Stmt.TheOpen as S
+use Rattle.st_tree.specs.declared.program.Stmt.TheVariants as stmt
+use Rattle.st_tree.proofs.Equations.{canon_equations, fold_stmt, text_assign}
 use Rattle.flow_graph.specs.declared.graph.Exit.TheVariants as exit
 use Rattle.flow_graph.specs.declared.graph.Graph.{Graph}
 use Rattle.instruction_lowering.specs.inner.Lowering.{graph_program_with, unit_of}
@@ -33,7 +39,7 @@ one_block b = record { nodes = record { first = 0; past = length b.body; exit = 
 abbrev text_of : List Block → List ℕ
 text_of blocks =
     spelling (text_of_graph (graph_program_with (record { dbs = []; instances = []; blocks = blocks; symbols = [] })
-    (map (λ (b : Block). unit_of b (one_block b)) blocks)))
+    (map (λ (b : Block). unit_of blocks b (one_block b)) blocks)))
 
 abbrev input : ℕ → Operand
 input bit = operand.Direct area.I 0 bit
@@ -49,19 +55,20 @@ unfolding digits unit_text line literal_text
 series_of_two = simp (text_assign, canon_equations)
 
 negated_series : text_of (block_of (name.Fc 10) (op.Check check.An (arg.At (input 0)) ∷ []) ∷ [])
-    ≡ codes
-    "PROGRAM FC10\n    RLO := (RLO OR NOT NFC) AND NOT %IX0.0 OR ORB;\n    NFC := TRUE;\n    ORB := FALSE;\n    NFC := FALSE;\n    OS := FALSE;\nEND_PROGRAM\n"
+    ≡ codes "FUNCTION FC10\n    RLO := (RLO OR NOT NFC) AND NOT %IX0.0 OR ORB;\n    NFC := TRUE;\n"
+    ++ codes "    ORB := FALSE;\n    NFC := FALSE;\n    OS := FALSE;\nEND_FUNCTION\n"
 unfolding digits unit_text line literal_text
 negated_series = simp (text_assign, canon_equations)
 
 parallel : text_of (block_of (name.Fb 1) (op.Check check.O (arg.At (input 0)) ∷ []) ∷ [])
-    ≡ codes
-    "PROGRAM FB1\n    RLO := RLO AND NFC OR %IX0.0;\n    ORB := FALSE;\n    NFC := TRUE;\n    ORB := FALSE;\n    NFC := FALSE;\n    OS := FALSE;\nEND_PROGRAM\n"
+    ≡ codes "FUNCTION FB1\n    RLO := RLO AND NFC OR %IX0.0;\n    ORB := FALSE;\n    NFC := TRUE;\n"
+    ++ codes "    ORB := FALSE;\n    NFC := FALSE;\n    OS := FALSE;\nEND_FUNCTION\n"
 unfolding digits unit_text line literal_text
 parallel = simp (text_assign, canon_equations)
 
 negated_parallel : text_of (block_of (name.Ob 65535) (op.Check check.On (arg.At (operand.Direct area.M 8191 7)) ∷ []) ∷ [])
-    ≡ codes "PROGRAM OB65535\n    RLO := RLO AND NFC OR NOT %MX8191.7;\n    ORB := FALSE;\n    NFC := TRUE;\n    ORB := FALSE;\n    NFC := FALSE;\n    OS := FALSE;\nEND_PROGRAM\n"
+    ≡ codes "PROGRAM OB65535\n    RLO := RLO AND NFC OR NOT %MX8191.7;\n    ORB := FALSE;\n    NFC := TRUE;\n"
+    ++ codes "    ORB := FALSE;\n    NFC := FALSE;\n    OS := FALSE;\nEND_PROGRAM\n"
 unfolding digits unit_text line literal_text
 negated_parallel = simp (text_assign, canon_equations)
 
@@ -75,6 +82,25 @@ exclusive = simp (text_assign, canon_equations)
 
 -- nothing stands behind the first end word of a body
 two_blocks : text_of (block_of (name.Ob 1) [] ∷ block_of (name.Ob 35) [] ∷ [])
-    ≡ codes "PROGRAM OB1\n    ORB := FALSE;\n    NFC := FALSE;\n    OS := FALSE;\nEND_PROGRAM\nPROGRAM OB35\n    ORB := FALSE;\n    NFC := FALSE;\n    OS := FALSE;\nEND_PROGRAM\n"
+    ≡ codes "PROGRAM OB1\n    ORB := FALSE;\n    NFC := FALSE;\n    OS := FALSE;\nEND_PROGRAM\n"
+    ++ codes "PROGRAM OB35\n    ORB := FALSE;\n    NFC := FALSE;\n    OS := FALSE;\nEND_PROGRAM\n"
 unfolding digits unit_text line literal_text
 two_blocks = simp (text_assign, canon_equations)
+
+-- the text of a call
+text_invoke : (names : Names) (level unit : ℕ) (vars : List Var) → statement_text names (stmt.Invoke unit vars) level
+    ≡ statement_step names (S.Invoke unit vars) level
+text_invoke names level unit vars =
+    ap (λ (f : Text). f level)
+    (fold_stmt Text ArmText CaseText (statement_step names) (spelling_of.arm_step names) spelling_of.case_step (S.Invoke unit vars)
+    (stmt.rolls-Invoke unit vars))
+
+-- a function without formals is called between saving and putting back
+call_of_a_function : text_of (block_of (name.Fc 10) [] ∷ block_of (name.Ob 1)
+    (op.Call (record { block = 0; instance = 0; actuals = [] }) ∷ []) ∷ [])
+    ≡ codes "FUNCTION FC10\n    ORB := FALSE;\n    NFC := FALSE;\n    OS := FALSE;\nEND_FUNCTION\n"
+    ++ codes "PROGRAM OB1\n    VAR_TEMP\n        T1 : WORD;\n        T2 : WORD;\n    END_VAR\n    T1 := DBNO;\n    T2 := DINO;\n"
+    ++ codes "    ORB := FALSE;\n    NFC := FALSE;\n    OS := FALSE;\n    FC10();\n    DBNO := T1;\n    DINO := T2;\n"
+    ++ codes "    ORB := FALSE;\n    NFC := FALSE;\n    OS := FALSE;\nEND_PROGRAM\n"
+unfolding digits unit_text line literal_text local_text
+call_of_a_function = simp (text_invoke, text_assign, canon_equations)

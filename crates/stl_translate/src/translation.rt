@@ -12,7 +12,6 @@ use std::alloc::Global;
 use stl_tree::Program;
 
 /// The tree of a text that means the same as the program, and that a text can have.
-#[tactic(auto, using(crate::proofs::Text::writes_alone))]
 pub fn translate(alloc: Global, program: &Program) -> Result<StProgram, NoMemory>
     requires { IsAccepted program.now }
     ensures proper { IfOk result Proper }

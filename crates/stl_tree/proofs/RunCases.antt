@@ -133,17 +133,17 @@ jump_goes_to_its_target : (p : Program) (now : Now) (r : RegisterValues) (m : Co
 jump_goes_to_its_target p now r m = refl
 
 -- a called block has local data of its own, and its caller goes on behind the call
-call_enters_its_block : (p : Program) (now : Now) (r : RegisterValues) (m : Contents) →
-    after_effect p now (enter (record { block = 2; instance = 7; actuals = [] }) (state r m (caller ∷ [])))
-    ≡ running p (state (record r { di = 7 }) (with_zero_activation 1 m)
+call_enters_its_block : (now : Now) (r : RegisterValues) (m : Contents) →
+    after_effect (program_of []) now (enter (record { block = 2; instance = 7; actuals = [] }) (state r m (caller ∷ [])))
+    ≡ running (program_of []) (state (record r { di = 7 }) (with_zero_activation 1 m)
     (record { block = 2; at = 0; instance = 7; db = r.db; di = r.di; formals = [] } ∷ record caller { at = 4 } ∷ []))
-call_enters_its_block p now r m = refl
+call_enters_its_block now r m = refl
 
 -- its end puts the DB and the DI register back
-end_returns_to_the_caller : (p : Program) (now : Now) (r : RegisterValues) (m : Contents) →
-    after_effect p now (leave (state r m (record { block = 2; at = 5; instance = 7; db = 10; di = 11; formals = [] } ∷ caller ∷ [])))
-    ≡ running p (state (record r { db = 10; di = 11 }) m (caller ∷ []))
-end_returns_to_the_caller p now r m = refl
+end_returns_to_the_caller : (now : Now) (r : RegisterValues) (m : Contents) →
+    after_effect (program_of []) now (leave (state r m (record { block = 2; at = 5; instance = 7; db = 10; di = 11; formals = [] } ∷ caller ∷ [])))
+    ≡ running (program_of []) (state (record r { db = 10; di = 11 }) m (caller ∷ []))
+end_returns_to_the_caller now r m = refl
 
 end_of_the_first_ends_the_run : (p : Program) (now : Now) (r : RegisterValues) (m : Contents)
     → after_effect p now (leave (state r m (caller ∷ []))) ≡ over m None

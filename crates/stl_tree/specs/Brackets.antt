@@ -34,7 +34,8 @@ none_open zero = Some 0
 none_open (suc n) = None
 
 -- how many brackets are open after an instruction before which this many are, where it may be there: a bracket opens
--- where there is room for one, one closes where one is open, and none is open at a jump and at the end of a block
+-- where there is room for one, one closes where one is open, and none is open at a jump, at a call
+-- and at the end of a block
 abbrev pub open_behind : Op → ℕ → Option ℕ
 open_behind (op.Bracket c) n = if nat_lt n most_open then Some (suc n) else None
 open_behind op.Close zero = None
@@ -44,6 +45,8 @@ open_behind (op.Loop to) n = none_open n
 open_behind (op.JumpList count label) n = none_open n
 open_behind op.BlockEnd n = none_open n
 open_behind op.BlockEndIf n = none_open n
+open_behind (op.Call c) n = none_open n
+open_behind (op.CallIf c) n = none_open n
 open_behind (op.Check c b) n = Some n
 open_behind op.OrAlone n = Some n
 open_behind (op.Assign o) n = Some n

@@ -11,8 +11,8 @@ use Rattle.stl_tree.specs.Arithmetic.{after_arithmetic, after_comparison}
 use Rattle.stl_tree.specs.Brackets.{after_bracket, in_bracket_of}
 use Rattle.stl_tree.specs.Conversions.{after_conversion}
 use Rattle.stl_tree.specs.DataBlocks.{db_number_loaded, db_opened, dbs_exchanged, di_number_loaded, di_opened}
-use Rattle.stl_tree.specs.Jumps.{ended_if, jumped, listed, looped}
-use Rattle.stl_tree.specs.Now.{Now, Effect, next, leave, with_memory, with_registers, with_status, with_value}
+use Rattle.stl_tree.specs.Jumps.{called_if, ended_if, effect_of_jump, effect_of_list, effect_of_loop}
+use Rattle.stl_tree.specs.Now.{Now, Effect, next, enter, leave, with_memory, with_registers, with_status, with_value}
 use Rattle.stl_tree.specs.Operands.{with_checked, with_place}
 use Rattle.stl_tree.specs.Registers.{RegisterValues}
 use Rattle.stl_tree.specs.Shifts.{after_shift, around_left_through_cc1, around_right_through_cc1}
@@ -139,8 +139,10 @@ effect_of (op.OpenDb d) now = block_opened db_opened d now
 effect_of (op.OpenDi d) now = block_opened di_opened d now
 effect_of op.ExchangeDb now = on_registers dbs_exchanged now
 effect_of op.Nop now = next now
-effect_of (op.Jump t to) now = jumped t to now
-effect_of (op.Loop to) now = looped to now
-effect_of (op.JumpList count label) now = listed count label now
+effect_of (op.Jump t to) now = effect_of_jump t to now
+effect_of (op.Loop to) now = effect_of_loop to now
+effect_of (op.JumpList count label) now = effect_of_list count label now
 effect_of op.BlockEnd now = leave (with_status after_end now)
 effect_of op.BlockEndIf now = ended_if now
+effect_of (op.Call c) now = enter c (with_status after_end now)
+effect_of (op.CallIf c) now = called_if c now

@@ -1,10 +1,11 @@
--- Jumps. Where a body goes on after a jump, a loop, a jump list or BEC, and what these make of the registers.
+-- Jumps. Where a body goes on after a jump, a loop, a jump list, BEC or CC, and what these make of the registers.
 -- Held against: the manual's chapters 'Logic Control' and 'Program Control'.
 use Rattle.std.specs.Prelude.{ℕ, ◌+◌, ◌==◌, nat_lt, negsuc, Bool, true, false, not, if◌then◌else◌, List, [], ◌∷◌}
 use Rattle.s7_base.specs.declared.word.Width.TheVariants as width
 use Rattle.status_word.specs.StatusBits.{StatusBits, after_end, after_jump, after_save, answer_to}
 use Rattle.stl_tree.specs.Accumulators.{after_addition, part}
-use Rattle.stl_tree.specs.Now.{Activation, Now, Effect, go, leave, next, with_registers, with_status}
+use Rattle.stl_tree.specs.Now.{Activation, Now, Effect, enter, go, leave, next, with_registers, with_status}
+use Rattle.stl_tree.specs.declared.program.BlockCall.{BlockCall}
 use Rattle.stl_tree.specs.declared.program.JumpTest.{JumpTest}
 use Rattle.stl_tree.specs.declared.program.JumpTest.TheVariants as jump
 
@@ -38,12 +39,12 @@ going_where true to now = go to now
 going_where false to now = next now
 
 -- the effect of a jump
-abbrev pub jumped : JumpTest → ℕ → Now → Effect
-jumped t to now = going_where (is_made t now.registers.status) to (with_status (after_test t) now)
+abbrev pub effect_of_jump : JumpTest → ℕ → Now → Effect
+effect_of_jump t to now = going_where (is_made t now.registers.status) to (with_status (after_test t) now)
 
 -- the effect of LOOP: the low word of ACCU1 is counted down, wrapped, and where it is not 0 then, the jump is made
-abbrev pub looped : ℕ → Now → Effect
-looped to now =
+abbrev pub effect_of_loop : ℕ → Now → Effect
+effect_of_loop to now =
     let counted = with_registers (after_addition width.Word (negsuc 0)) now in
     going_where (not (part width.Word counted.registers.accu1 == 0)) to counted
 
@@ -54,8 +55,8 @@ position_of (a ∷ waiting) = a.at
 
 -- the effect of JL, with the number of the JU after it, which are numbered from 0: the body goes on at the one whose
 -- number is in the lowest byte of ACCU1, or at the label where there is none
-abbrev pub listed : ℕ → ℕ → Now → Effect
-listed count label now =
+abbrev pub effect_of_list : ℕ → ℕ → Now → Effect
+effect_of_list count label now =
     let n = part width.Byte now.registers.accu1 in
     go (if nat_lt n count then position_of now.activations + 1 + n else label) now
 
@@ -66,3 +67,15 @@ ended_where false now = next (with_status after_jump now)
 
 abbrev pub ended_if : Now → Effect
 ended_if now = ended_where now.registers.status.rlo now
+
+-- the status bits at a call by CC, whether it is made or not
+abbrev pub after_asking : StatusBits → StatusBits
+after_asking s = record (after_end s) { rlo = true }
+
+-- the effect of CC: the block is called, or the next instruction follows
+abbrev pub called_where : Bool → BlockCall → Now → Effect
+called_where true call now = enter call (with_status after_asking now)
+called_where false call now = next (with_status after_asking now)
+
+abbrev pub called_if : BlockCall → Now → Effect
+called_if call now = called_where now.registers.status.rlo call now

@@ -4,6 +4,7 @@ pub mod AddressRegisters
 pub mod Arithmetic
 pub mod Blocks
 pub mod Brackets
+pub mod Calls
 pub mod Conversions
 pub mod DataBlocks
 pub mod Instructions

@@ -55,6 +55,7 @@ register_of ar.Two = reg.Ar2
 abbrev pub found_by : Operand → List Reg
 found_by (operand.Direct a byte x) = []
 found_by (operand.Opened n byte x) = []
+found_by (operand.Formal k) = []
 found_by (operand.ByMemory a pointer_area byte) = []
 found_by (operand.ByRegister a r offset) = register_of r ∷ []
 found_by (operand.Crossing r offset) = register_of r ∷ reg.DbNo ∷ reg.DiNo ∷ []
@@ -144,7 +145,7 @@ tested_by jump.StoredOverflow = reg.Os ∷ []
 tested_by (jump.Result t) = asked_by t
 
 -- the registers that an instruction reads; a bracket keeps its chain, and one that is closed reads the RLO inside; BEC
--- keeps OS where it does not end its block
+-- keeps OS where it does not end its block; a call keeps the numbers of the data blocks, to put them back
 abbrev pub reads_of : Op → List Reg
 reads_of (op.Check c b) = looked_at b ++ chain_read c
 reads_of op.OrAlone = reg.Rlo ∷ reg.Nfc ∷ []
@@ -192,3 +193,5 @@ reads_of (op.Loop to) = reg.Accu1 ∷ []
 reads_of (op.JumpList count label) = reg.Accu1 ∷ []
 reads_of op.BlockEnd = []
 reads_of op.BlockEndIf = reg.Rlo ∷ reg.Os ∷ []
+reads_of (op.Call c) = reg.DbNo ∷ reg.DiNo ∷ []
+reads_of (op.CallIf c) = reg.Rlo ∷ reg.DbNo ∷ reg.DiNo ∷ []

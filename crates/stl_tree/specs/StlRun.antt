@@ -1,12 +1,16 @@
 -- The run of a called block. The instructions of a program are taken one after another, within a bound on their
 -- number; which calls fit, and what can be seen of a run.
 -- Held against: the manual's chapter 'Program Control'.
-use Rattle.std.specs.Prelude.{ℕ, zero, suc, ◌+◌, ◌^◌, ◌<◌, Bool, false, ◌==◌, if◌then◌else◌, List, [], ◌∷◌, length, map, slice_get, IsSome, Option, Some, None, option_and_then}
+use Rattle.std.specs.Prelude.{ℕ, zero, suc, ◌^◌, ◌<◌, Bool, false, ◌==◌, List, [], ◌∷◌, length, map, slice_get, Contains, Option, Some, None, option_and_then, Result, Ok, Err}
 use Rattle.std.specs.List.{position}
 use Rattle.s7_base.specs.Numbers.{greatest}
 use Rattle.s7_base.specs.declared.outcome.Fault.{Fault}
-use Rattle.memory_areas.specs.Areas.{Areas, Contents, with_zero_activation, with_areas}
+use Rattle.memory_areas.specs.Areas.{Areas, Contents, with_areas}
 use Rattle.memory_areas.specs.End.{End, Ended, Going}
+use Rattle.memory_areas.specs.OutsideActuals.{FitWidths}
+use Rattle.memory_areas.specs.declared.place.Place.{Place}
+use Rattle.s7_base.specs.declared.word.Width.{Width}
+use Rattle.stl_tree.specs.Calls.{after_call, after_end_of, formals_of, going_on, going_on_at}
 use Rattle.stl_tree.specs.Instructions.{effect_of}
 use Rattle.stl_tree.specs.Now.{Activation, Now, Effect, next, go, enter, leave, fault}
 use Rattle.stl_tree.specs.Registers.{start}
@@ -15,6 +19,8 @@ use Rattle.stl_tree.specs.declared.program.BlockCall.{BlockCall}
 use Rattle.memory_areas.specs.declared.call.BlockName.{BlockName}
 use Rattle.memory_areas.specs.declared.call.BlockName.TheVariants as name
 use Rattle.memory_areas.specs.declared.call.Call.{Call}
+use Rattle.stl_tree.specs.declared.program.Formal.{Formal}
+use Rattle.stl_tree.specs.declared.program.Instance.{Instance}
 use Rattle.stl_tree.specs.declared.program.Instr.{Instr}
 use Rattle.stl_tree.specs.declared.program.Program.{Program}
 
@@ -36,16 +42,33 @@ is_same_name (name.Fb m) (name.Fc n) = false
 abbrev pub block_named : BlockName → List Block → Option ℕ
 block_named called blocks = position (λ (b : Block). is_same_name b.name called) blocks
 
--- the position of the block that a call from outside runs, if it fits: an organization block, which has no formals,
--- so the actuals of its call are not tested; functions and function blocks are not built, so no call of one fits
-abbrev pub block_called : BlockName → List Block → Option ℕ
-block_called (name.Ob n) blocks = block_named (name.Ob n) blocks
-block_called (name.Fc n) blocks = None
-block_called (name.Fb n) blocks = None
+-- the widths of the formals of a block
+abbrev pub widths_of : Block → List Width
+widths_of b = map (λ (f : Formal). f.width) b.formals
+
+-- a data block is an instance of the function block of a number
+abbrev pub IsInstance : List Instance → ℕ → ℕ → Type 0
+IsInstance instances db fb = Contains instances (record { db = db; fb = fb })
+
+-- a call fits the block that it means: the actuals of a function are ones for its formals, and the data block is an
+-- instance of the function block; an organization block has no formals, and a function block none that is given from
+-- outside, so their actuals are not tested
+abbrev pub FitsBlock : Program → Block → BlockName → ℕ → List (Place × Width) → Type 0
+FitsBlock program b (name.Ob n) instance actuals = Unit {0}
+FitsBlock program b (name.Fc n) instance actuals = FitWidths program.dbs (widths_of b) actuals
+FitsBlock program b (name.Fb n) instance actuals = IsInstance program.instances instance n
+
+abbrev pub FitsIfThere : Program → Call → Option Block → Type 0
+FitsIfThere program call None = ⊥
+FitsIfThere program call (Some b) = FitsBlock program b call.block call.instance call.actuals
+
+-- the block at a position, if there is one
+abbrev pub block_at : List Block → Option ℕ → Option Block
+block_at blocks place = option_and_then (slice_get blocks) place
 
 -- a call fits a program
 abbrev pub Fits : Program → Call → Type 0
-Fits program call = IsSome (block_called call.block program.blocks)
+Fits program call = FitsIfThere program call (block_at program.blocks (block_named call.block program.blocks))
 
 -- an organization block or a function is called from outside, by a number of 16 bits; of a function
 -- block a Structured Text can't say which data blocks are its instances
@@ -65,50 +88,25 @@ pub data Standing : Type 0 where
   running : Program → Now → Standing
   over : Contents → Option Fault → Standing
 
--- the activations, of which the running one continues at a position
-abbrev pub going_on_at : ℕ → List Activation → List Activation
-going_on_at to [] = []
-going_on_at to (a ∷ waiting) = record a { at = to } ∷ waiting
+-- the run that goes on with a state, or is over by a fault with the memory as it was
+abbrev pub unless_fault : Program → Now → Result Now Fault → Standing
+unless_fault program before (Ok now) = running program now
+unless_fault program before (Err f) = over before.memory (Some f)
 
--- the activations, of which the running one continues after its instruction
-abbrev pub going_on : List Activation → List Activation
-going_on [] = []
-going_on (a ∷ waiting) = record a { at = a.at + 1 } ∷ waiting
+-- the formals of a block of a program
+abbrev pub formals_at : Program → ℕ → List Formal
+formals_at program block = formals_of (slice_get program.blocks block)
 
--- the DI register where a block is entered: its instance, where it has one
-abbrev pub instance_or : ℕ → ℕ → ℕ
-instance_or instance di = if instance == 0 then di else instance
-
--- the run after a block is called: the block begins, its local data and constant actuals zero; the DB and the DI
--- register are put back when it ends, and its caller continues after the call. Once calls with formals are built,
--- their actuals are found here, and copied into an instance; the fault of one of them ends the run
+-- the run after a block is called: it begins, or the fault of an actual ends the run
 abbrev pub at_block_entry : Program → BlockCall → Now → Standing
-at_block_entry program call now =
-    running program (record now {
-      registers = record now.registers { di = instance_or call.instance now.registers.di };
-      memory = with_zero_activation (length now.activations) now.memory;
-      activations =
-          record {
-            block = call.block;
-            at = 0;
-            instance = call.instance;
-            db = now.registers.db;
-            di = now.registers.di;
-            formals = [];
-          }
-          ∷ going_on now.activations;
-    })
+at_block_entry program call now = unless_fault program now (after_call (formals_at program call.block) call now)
 
--- the run after the first of these activations has ended: the one that waited for it continues, the DB and the DI
--- register put back; or the run is over. What an instance gives back is copied here likewise
+-- the run after the first of these activations has ended: the one that waited for it continues, or the run is over
 abbrev pub after_return : Program → List Activation → Now → Standing
 after_return program [] now = over now.memory None
 after_return program (done ∷ []) now = over now.memory None
 after_return program (done ∷ caller ∷ waiting) now =
-    running program (record now {
-      registers = record now.registers { db = done.db; di = done.di };
-      activations = caller ∷ waiting;
-    })
+    unless_fault program now (after_end_of (formals_at program done.block) done (caller ∷ waiting) now)
 
 -- the run after an effect; by a fault the memory stays as it was
 abbrev pub after_effect : Program → Now → Effect → Standing
@@ -145,19 +143,41 @@ abbrev pub end_of : Standing → End
 end_of (running program now) = Going
 end_of (over memory f) = Ended memory.areas f
 
--- the activation with which a run begins, that of the block at a position; none where no block is called
-abbrev pub first_activation : Option ℕ → List Activation
-first_activation None = []
-first_activation (Some block) = record { block = block; at = 0; instance = 0; db = 0; di = 0; formals = [] } ∷ []
+-- the instance with which the block of a call from outside begins: only a function block has one
+abbrev pub instance_called : BlockName → ℕ → ℕ
+instance_called (name.Ob n) instance = 0
+instance_called (name.Fc n) instance = 0
+instance_called (name.Fb n) instance = instance
 
--- the run of a call before its first step; registers, local data and constant actuals are zero, no bracket is open
+-- the places of the formals of the block of a call from outside: only a function has any
+abbrev pub places_given : BlockName → List (Place × Width) → List (Option Place)
+places_given (name.Ob n) actuals = []
+places_given (name.Fc n) actuals = map (λ (actual : Place × Width). Some actual.0) actuals
+places_given (name.Fb n) actuals = []
+
+-- the activation with which a run begins, that of the block at a position; none where no block is called
+abbrev pub first_activation : Option ℕ → Call → List Activation
+first_activation None call = []
+first_activation (Some block) call =
+    record {
+      block = block;
+      at = 0;
+      instance = instance_called call.block call.instance;
+      db = 0;
+      di = 0;
+      formals = places_given call.block call.actuals;
+    }
+    ∷ []
+
+-- the run of a call before its first step; registers, local data and constant actuals are zero, but that the DI
+-- register is the instance of a function block; no bracket is open
 abbrev pub at_run_start : Program → Call → Areas → Standing
 at_run_start program call memory =
     running program (record {
-      registers = start;
+      registers = record start { di = instance_called call.block call.instance };
       brackets = [];
       memory = with_areas memory;
-      activations = first_activation (block_called call.block program.blocks);
+      activations = first_activation (block_named call.block program.blocks) call;
     })
 
 -- the run of a call within n steps

@@ -1,9 +1,9 @@
 //! STL programs, raw and made, and what they do.
 //!
-//! Uses `s7_base` and `memory_areas`. A form that is built later adds a variant, or fills a field that is
-//! empty so far. `specs/` has the rules that each accepted program keeps, and what a program does: the state
-//! that an instruction works on, what operands name, the effects of instructions and the run, whose laws
-//! `run_laws` proves. How a source text becomes a program is in `stl_grammar` and `stl_rules`.
+//! Uses `s7_base` and `memory_areas`. `specs/` has the rules that each accepted program keeps, and what a
+//! program does: the state that an instruction works on, what operands name, the effects of instructions,
+//! calls and the run, whose laws `run_laws` proves. How a source text becomes a program is in `stl_grammar`
+//! and `stl_rules`.
 #![tactic(auto)]
 
 pub use accumulator::{Arith, LogicRow, ShiftRow, UnaryRow};

@@ -46,6 +46,9 @@ pub enum Operand {
     /// A data block that is opened first, a byte in it and a bit from 0 to 7.
     Opened(u16, u32, u8),
 
+    /// The actual of a formal of the running function, by the position of the formal.
+    Formal(u32),
+
     /// An area, and byte and bit of a pointer in memory, which is a double word of an area from a byte on.
     ByMemory(AreaName, AreaName, u32),
 
@@ -296,6 +299,12 @@ pub enum Op {
 
     /// `BEC`, which ends its block where the RLO is 1.
     BlockEndIf,
+
+    /// `CALL` and `UC`.
+    Call(BlockCall),
+
+    /// `CC`, which calls where the RLO is 1.
+    CallIf(BlockCall),
 }
 
 /// An instruction, with the line of its first token.

@@ -2,7 +2,9 @@
 ghost use Rattle.std.specs.Prelude.{◌≡◌, IfOk};
 ghost use Rattle.s7_base.specs.Answers.{Answers};
 ghost use Rattle.s7_base.specs.Broken.{first_of_all};
-ghost use Rattle.stl_rules.specs.Layouts.{breaks_in, layout_of, length_of};
+ghost use Rattle.stl_rules.specs.DeclarationRules.{section_breaks};
+ghost use Rattle.stl_rules.specs.Layouts.{breaks_in, layout_of, length_of, too_large};
+ghost use Rattle.stl_rules.specs.TooLarge.{first_large_in};
 ghost use Rattle.symbol_layout.specs.Kept.{sections_now};
 
 use crate::bits::bytes_of;
@@ -29,6 +31,29 @@ pub fn first_break(
         note(&mut breaks, line, Reason::TooLarge)?;
     }
     Ok(first_of_all(breaks.as_slice()))
+}
+
+/// The first rule that sections break, but for their length.
+pub fn first_in_sections(
+    alloc: Global,
+    sections: &[&[Declaration]],
+) -> Result<Option<Break>, NoMemory>
+    ensures { IfOk result (λ first. first ≡ first_of_all (section_breaks (sections_now sections.now))) }
+{
+    let mut breaks = List::new(alloc);
+    judge_sections(alloc, sections, &mut breaks)?;
+    Ok(first_of_all(breaks.as_slice()))
+}
+
+/// The rule that sections break which are longer than a limit, in bytes.
+pub fn first_large(sections: &[&[Declaration]], limit: u32) -> Option<Break>
+    ensures { result ≡ first_of_all (too_large (first_large_in limit 0 (sections_now sections.now))) }
+{
+    let line = first_large_in(limit, sections)?;
+    Some(Break {
+        line,
+        rule: Reason::TooLarge,
+    })
 }
 
 /// The length of sections. One above 4,294,967,295 counts as out of memory.

@@ -1,16 +1,20 @@
 -- The instructions of a body, one after another.
-use Rattle.std.proofs.Common.{◌≡◌, ◌≤◌, ◌<◌, ℕ, List, [], ◌∷◌, ◌++◌, length, drop, get_or, Option, refl, sym, ap, subst, ◌∙◌, arith, append_assoc}
+use Rattle.std.proofs.Common.{◌≡◌, ◌≤◌, ◌<◌, ℕ, List, [], ◌∷◌, ◌++◌, length, drop, get_or, Option, Some, None, Result, Ok, Err, refl, sym, ap, subst, ◌∙◌, arith, append_assoc}
 use Rattle.std.proofs.lemmas.List.{append-nil}
 use Rattle.std.proofs.lemmas.List.Concat.{flat_map-cons}
 use Rattle.std.specs.List.{flat_map}
+use Rattle.std.specs.Result.{result_err}
+use Rattle.s7_base.specs.Broken.{rule_break}
 use Rattle.s7_base.specs.declared.rule_break.Break.{Break}
+use Rattle.s7_base.specs.declared.reason.Line.{Line}
+use Rattle.s7_base.specs.declared.reason.Reason.{Reason}
 use Rattle.stl_rules.specs.Programs.{instr_of, instrs_of}
 use Rattle.stl_rules.specs.Raw.{OperandScope}
-use Rattle.stl_rules.specs.Stages.{instr_breaks}
+use Rattle.stl_rules.specs.Stages.{broken_by, instr_breaks}
 use Rattle.stl_tree.specs.declared.program.Instr.{Instr}
 use Rattle.stl_tree.specs.declared.raw.RawInstr.{RawInstr}
-use Rattle.symbol_names.proofs.Firsts.{behind, none_more}
-use Rattle.symbol_names.specs.inner.Firsts.{with_breaks}
+use Rattle.block_variables.proofs.Firsts.{behind, none_more}
+use Rattle.block_variables.specs.Firsts.{with_breaks}
 
 -- one instruction more of a body that is made
 pub made_more : (scope : OperandScope) (made : List Instr) (raw : RawInstr) (rest : List RawInstr) (whole : List Instr)
@@ -41,3 +45,18 @@ found_all scope first whole [] none e = sym (none_more first) ∙ e
 found_all scope first whole (x ∷ rest) none e = absurd (omega arith)
 
 pub ruleset more_laws = (made_more, found_more, made_all)
+
+-- what is noted of a result, by its rule
+pub rule_noted : {X : Type 0} (first : Option Break) (line : Line) (made : Result X Reason) (rule : Reason) → Some rule ≡ result_err made
+    → with_breaks first (rule_break line rule) ≡ with_breaks first (broken_by line made)
+rule_noted first line (Ok x) rule e = absurd cc
+rule_noted first line (Err other) rule e =
+    let same : rule ≡ other = cc in
+    ap (λ r. with_breaks first (rule_break line r)) same
+
+pub none_noted : {X : Type 0} (first : Option Break) (line : Line) (made : Result X Reason) → None ≡ result_err made
+    → first ≡ with_breaks first (broken_by line made)
+none_noted first line (Ok x) e = sym (none_more first)
+none_noted first line (Err other) e = absurd cc
+
+pub ruleset noted_laws = (rule_noted, none_noted)

@@ -1,7 +1,7 @@
 pub mod Contents
 pub mod Filtered
-pub mod Firsts
+pub mod FunctionBlocks
 pub mod Instructions
 pub mod Kept
-pub mod Operands
+pub mod Parts
 pub mod Turns

@@ -15,12 +15,12 @@ use Rattle.stl_tree.specs.declared.raw.RawBlock.{RawBlock}
 use Rattle.stl_tree.specs.declared.raw.RawData.{RawData}
 use Rattle.stl_tree.specs.declared.raw.RawProgram.{RawProgram}
 use Rattle.stl_tree.specs.declared.raw.SymbolLine.{SymbolLine}
-use Rattle.symbol_names.specs.inner.Firsts.{with_breaks}
+use Rattle.block_variables.specs.Firsts.{with_breaks}
 use Rattle.symbol_names.specs.inner.Kept.{block_breaks, db_breaks, line_breaks}
 use Rattle.name_tables.specs.Before.{block_numbers, db_numbers, names_before, number_of_block, number_of_db, numbers_before, with_block}
 use Rattle.std.specs.List.{flat_map}
 use Rattle.symbol_names.proofs.Filtered.{flat_more}
-use Rattle.symbol_names.proofs.Firsts.{behind, none_more}
+use Rattle.block_variables.proofs.Firsts.{behind, none_more}
 
 -- a stage that judges items, each in a state
 module _ {S X : Type 0} (all : S → List X → List Break) (item : S → X → List Break) (next : S → X → S)
@@ -88,26 +88,26 @@ module _ {X : Type 0} (number : X → BlockKind × Result ℕ Reason) (xs : List
       subst (λ o. IfSome o (λ (b : BlockKind × Result ℕ Reason). n ≡ b.1))
       (ap (λ l. slice_get l i) are ∙ slice_get-map number xs i ∙ ap (option_map number) (slice_get_read xs (length xs) i x refl before is)) h
 
-module _ (symbols : List SymbolLine) where
+module _ (text : RawProgram) where
   abbrev db_item : List (BlockKind × ℕ) → RawData → List Break
-  db_item before d = db_breaks before d (block_number symbols block.Db d.name)
+  db_item before d = db_breaks text before d (block_number text.symbols block.Db d.name)
 
   abbrev next_db : List (BlockKind × ℕ) → RawData → List (BlockKind × ℕ)
-  next_db before d = with_block before (number_of_db symbols d)
+  next_db before d = with_block before (number_of_db text.symbols d)
 
   pub db_turn : (first later whole : Option Break) (dbs : List RawData) (i : ℕ) (d : RawData) → i < length dbs → d ≡ get_or dbs i d
-      → later ≡ with_breaks first (db_breaks (numbers_before (take i (db_numbers symbols dbs))) d (block_number symbols block.Db d.name))
-      → with_breaks first (dbs_behind symbols (numbers_before (take i (db_numbers symbols dbs))) (drop i dbs)) ≡ whole
-      → with_breaks later (dbs_behind symbols (numbers_before (take (i + 1) (db_numbers symbols dbs))) (drop (i + 1) dbs)) ≡ whole
+      → later ≡ with_breaks first (db_breaks text (numbers_before (take i (db_numbers text.symbols dbs))) d (block_number text.symbols block.Db d.name))
+      → with_breaks first (dbs_behind text (numbers_before (take i (db_numbers text.symbols dbs))) (drop i dbs)) ≡ whole
+      → with_breaks later (dbs_behind text (numbers_before (take (i + 1) (db_numbers text.symbols dbs))) (drop (i + 1) dbs)) ≡ whole
   db_turn first later whole dbs i d before is e so_far =
-      turn (dbs_behind symbols) db_item next_db (λ s. refl) (λ s x xs. refl) first later whole
-      (numbers_before (take i (db_numbers symbols dbs))) (numbers_before (take (i + 1) (db_numbers symbols dbs))) dbs i d before is
-      (numbers_more (number_of_db symbols) dbs i d before is) e so_far
+      turn (dbs_behind text) db_item next_db (λ s. refl) (λ s x xs. refl) first later whole
+      (numbers_before (take i (db_numbers text.symbols dbs))) (numbers_before (take (i + 1) (db_numbers text.symbols dbs))) dbs i d before is
+      (numbers_more (number_of_db text.symbols) dbs i d before is) e so_far
 
   pub dbs_ended : (first whole : Option Break) (dbs : List RawData) (i : ℕ) → length dbs ≤ i
-      → with_breaks first (dbs_behind symbols (numbers_before (take i (db_numbers symbols dbs))) (drop i dbs)) ≡ whole → first ≡ whole
+      → with_breaks first (dbs_behind text (numbers_before (take i (db_numbers text.symbols dbs))) (drop i dbs)) ≡ whole → first ≡ whole
   dbs_ended first whole dbs i past so_far =
-      ended (dbs_behind symbols) db_item next_db (λ s. refl) (λ s x xs. refl) first whole (numbers_before (take i (db_numbers symbols dbs))) dbs i past so_far
+      ended (dbs_behind text) db_item next_db (λ s. refl) (λ s x xs. refl) first whole (numbers_before (take i (db_numbers text.symbols dbs))) dbs i past so_far
 
 module _ (text : RawProgram) where
   abbrev next_block : List (BlockKind × ℕ) → RawBlock → List (BlockKind × ℕ)

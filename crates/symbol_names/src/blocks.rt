@@ -1,29 +1,23 @@
 //! The blocks of a text that are no data blocks.
 ghost use Rattle.std.specs.Prelude.{◌≡◌, ◌∷◌, ◌++◌, [], IfOk, OnOk, Ok, map, take};
-ghost use Rattle.std.specs.List.{flat_map};
 ghost use Rattle.name_tables.specs.Before.{block_numbers, numbers_before};
-ghost use Rattle.stl_rules.specs.Layouts.{breaks_in};
 ghost use Rattle.stl_rules.specs.Names.{block_number};
-ghost use Rattle.stl_rules.specs.Programs.{block_name, body_of, instr_of, instrs_of, op_of, or_any, with_list};
-ghost use Rattle.stl_rules.specs.Raw.{most_local};
-ghost use Rattle.stl_rules.specs.Stages.{blocks_behind, instr_breaks};
-ghost use Rattle.symbol_names.specs.inner.Firsts.{with_breaks};
+ghost use Rattle.stl_rules.specs.Programs.{block_name, body_of};
+ghost use Rattle.stl_rules.specs.Stages.{blocks_behind};
+ghost use Rattle.block_variables.specs.Firsts.{with_breaks};
 ghost use Rattle.symbol_names.specs.inner.Kept.{block_breaks, block_within, content_breaks_of, name_within};
-ghost use Rattle.symbol_names.specs.inner.Refused.{own_of};
+ghost use Rattle.operand_scopes.specs.Refused.{own_of};
 
-use crate::declarations::IndexedDeclarations;
-use crate::first::{join, note};
+use crate::bodies::{body_of, note_instrs};
 use crate::headings::note_heading;
-use crate::scope::OperandScope;
-use body_labels::{Labels, list_count};
-use component_index::Components;
-use instruction_operands::{may_have, op_or_rule};
+use block_variables::{BlockVariables, join};
+use body_labels::Labels;
+use instruction_operands::may_have;
 use name_tables::Names;
-use s7_base::{Break, List, NoMemory, Reason, rest_after};
+use operand_scopes::{IndexedDeclarations, OperandScope};
+use s7_base::{Break, List, NoMemory, Reason};
 use std::alloc::Global;
-use stl_mnemonics::mnemonic_named;
-use stl_tree::{Block, BlockKind, BlockName, Instr, Op, RawBlock, RawInstr};
-use symbol_layout::{MOST_LOCAL, first_break};
+use stl_tree::{Block, BlockKind, BlockName, Instr, RawBlock};
 
 /// The blocks of a text, and the first rule that is broken in them.
 #[derive(Drop)]
@@ -32,95 +26,6 @@ pub struct Blocks {
     pub made: List<Block>,
 
     pub first: Option<Break>,
-}
-
-/// The instruction of a raw one; where it breaks a rule this is noted, and the instruction is any.
-#[tactic(auto, using(crate::proofs::Firsts::none_more), unfolding(stl_rules::specs::Programs::op_of))]
-fn op_of(
-    alloc: Global,
-    scope: &OperandScope<'_, '_>,
-    raw: &RawInstr,
-    first: &mut Option<Break>,
-) -> Result<Op, NoMemory>
-    ensures op { IfOk result (λ op. op ≡ or_any (op_of scope.now raw.now.op)) }
-    ensures first { OnOk result (first.new ≡ with_breaks first.old (instr_breaks scope.now raw.now)) }
-{
-    let what = mnemonic_named(raw.op.mnemonic.as_slice());
-    let resolved_operand = scope.resolved_operand(alloc, &raw.op.operand)?;
-    match op_or_rule(what, resolved_operand) {
-        Ok(op) => Ok(op),
-        Err(rule) => {
-            note(first, raw.line, rule);
-            Ok(Op::Nop)
-        }
-    }
-}
-
-/// A jump list with the number of its `JU`, which are the first of these instructions.
-fn with_list(op: Op, rest: &[RawInstr]) -> Op
-    ensures { result ≡ with_list rest.now op }
-{
-    match op {
-        Op::JumpList(_, to) => Op::JumpList(list_count(rest), to),
-        other => other,
-    }
-}
-
-/// Adds an instruction, which comes before these, to a body.
-fn put_instr(
-    alloc: Global,
-    scope: &OperandScope<'_, '_>,
-    raw: &RawInstr,
-    rest: &[RawInstr],
-    body: &mut List<Instr>,
-    first: &mut Option<Break>,
-) -> Result<(), NoMemory>
-    ensures body { OnOk result (body.new ≡ body.old ++ instr_of scope.now raw.now rest.now ∷ []) }
-    ensures first { OnOk result (first.new ≡ with_breaks first.old (instr_breaks scope.now raw.now)) }
-{
-    let op = op_of(alloc, scope, raw, first)?;
-    let op = with_list(op, rest);
-    body.push(Instr { line: raw.line, op })
-}
-
-/// The instructions of a body but for its end word.
-#[tactic(auto, using(crate::proofs::Instructions::more_laws))]
-fn put_instrs(
-    alloc: Global,
-    scope: &OperandScope<'_, '_>,
-    raws: &[RawInstr],
-    body: &mut List<Instr>,
-    first: &mut Option<Break>,
-) -> Result<(), NoMemory>
-    ensures body { OnOk result (body.new ≡ body.old ++ instrs_of scope.now raws.now) }
-    ensures first { OnOk result (first.new ≡ with_breaks first.old (flat_map (instr_breaks scope.now) raws.now)) }
-{
-    let mut rest = raws;
-    while let [raw, ..] = rest {
-        let behind = rest_after(rest, 1);
-        put_instr(alloc, scope, raw, behind, body, first)?;
-        rest = behind;
-    }
-    Ok(())
-}
-
-/// The instructions of a block.
-fn body_of(
-    alloc: Global,
-    scope: &OperandScope<'_, '_>,
-    first: &mut Option<Break>,
-) -> Result<List<Instr>, NoMemory>
-    ensures body { IfOk result (λ body. body ≡ body_of scope.now) }
-    ensures first { OnOk result (first.new ≡ with_breaks first.old (flat_map (instr_breaks scope.now) scope.now.block.body)) }
-{
-    let raw = scope.block();
-    let mut body = List::new(alloc);
-    put_instrs(alloc, scope, raw.body.as_slice(), &mut body, first)?;
-    body.push(Instr {
-        line: raw.end_line,
-        op: Op::BlockEnd,
-    })?;
-    Ok(body)
 }
 
 /// The name of a block by its kind and its number.
@@ -144,93 +49,130 @@ fn name_within(kind: BlockKind, number: Result<u32, Reason>) -> BlockName
     }
 }
 
-/// The temporaries of a block; notes the rule that they break.
-#[tactic(auto, using(crate::proofs::Firsts::joins))]
-fn temps_of<'t>(
-    alloc: Global,
-    raw: &'t RawBlock,
-    first: &mut Option<Break>,
-) -> Result<IndexedDeclarations<'t>, NoMemory>
-    ensures temps { IfOk result (λ temps. temps ≡ (most_local, raw.now.temps ∷ [])) }
-    ensures first { OnOk result (first.new ≡ with_breaks first.old (breaks_in most_local (raw.now.temps ∷ []))) }
-{
-    let temps = [raw.temps.as_slice()];
-    let temps_first = first_break(alloc, &temps, MOST_LOCAL)?;
-    join(first, temps_first);
-    let components = Components::new(alloc, &temps)?;
-    Ok(IndexedDeclarations::new(components, MOST_LOCAL, temps_first.is_some()))
+/// What is known of the blocks of a text when their bodies are judged.
+#[derive(Clone, Copy)]
+pub struct Known<'s, 't> {
+    pub names: &'s Names<'t>,
+
+    /// The declarations of the data blocks.
+    pub declarations: &'s [IndexedDeclarations<'t>],
+
+    /// The variables of the blocks.
+    pub variables: &'s [BlockVariables<'t>],
 }
 
-/// The instructions of a block, by what names mean in it.
-#[tactic(auto, using(crate::proofs::Firsts::behind))]
+/// The instructions of a block, by what names mean in it; notes the rules that its variables and its instructions
+/// break.
+#[tactic(auto, using(block_variables::proofs::Firsts::behind, block_variables::proofs::Firsts::joins))]
 fn body_in(
     alloc: Global,
-    names: &Names<'_>,
-    declarations: &[IndexedDeclarations<'_>],
+    known: &Known<'_, '_>,
+    variables: &BlockVariables<'_>,
     raw: &RawBlock,
     first: &mut Option<Break>,
 ) -> Result<List<Instr>, NoMemory>
-    requires { declarations.now ≡ map own_of names.now.dbs }
-    ensures body { IfOk result (λ body. body ≡ body_of (record { text = names.now; block = raw.now })) }
-    ensures first { OnOk result (first.new ≡ with_breaks first.old (content_breaks_of (record { text = names.now; block = raw.now }))) }
+    requires declarations { known.now.declarations.now ≡ map own_of known.now.names.now.dbs }
+    requires variables { known.now.variables.now ≡ known.now.names.now.blocks }
+    requires own { variables.now ≡ raw.now }
+    ensures body { IfOk result (λ body. body ≡ body_of (record { text = known.now.names.now; block = raw.now })) }
+    ensures first { OnOk result (first.new ≡ with_breaks first.old (content_breaks_of (record { text = known.now.names.now; block = raw.now }))) }
 {
-    let temps = temps_of(alloc, raw, first)?;
+    join(first, variables.first());
     let labels = Labels::new(alloc, raw.body.as_slice())?;
-    let scope = OperandScope::new(names, declarations, raw, &temps, &labels);
+    let scope = OperandScope::new(
+        known.names,
+        known.declarations,
+        known.variables,
+        raw,
+        variables,
+        &labels,
+    );
     body_of(alloc, &scope, first)
 }
 
-/// Adds a block, by its place and its number.
-#[tactic(auto, using(crate::proofs::Firsts::behind))]
+/// Notes the rules that the variables and the instructions of a block break.
+#[tactic(auto, using(block_variables::proofs::Firsts::behind, block_variables::proofs::Firsts::joins))]
+fn note_body(
+    alloc: Global,
+    known: &Known<'_, '_>,
+    variables: &BlockVariables<'_>,
+    raw: &RawBlock,
+    first: &mut Option<Break>,
+) -> Result<(), NoMemory>
+    requires declarations { known.now.declarations.now ≡ map own_of known.now.names.now.dbs }
+    requires variables { known.now.variables.now ≡ known.now.names.now.blocks }
+    requires own { variables.now ≡ raw.now }
+    ensures { OnOk result (first.new ≡ with_breaks first.old (content_breaks_of (record { text = known.now.names.now; block = raw.now }))) }
+{
+    join(first, variables.first());
+    let labels = Labels::new(alloc, raw.body.as_slice())?;
+    let scope = OperandScope::new(
+        known.names,
+        known.declarations,
+        known.variables,
+        raw,
+        variables,
+        &labels,
+    );
+    note_instrs(alloc, &scope, raw.body.as_slice(), first)
+}
+
+/// Adds a block, by its place, its number and its variables.
+#[tactic(auto, using(block_variables::proofs::Firsts::behind))]
 fn put_block(
     alloc: Global,
-    names: &Names<'_>,
-    declarations: &[IndexedDeclarations<'_>],
+    known: &Known<'_, '_>,
     place: usize,
     number: Result<u32, Reason>,
+    variables: &BlockVariables<'_>,
     raw: &RawBlock,
     blocks: &mut Blocks,
 ) -> Result<(), NoMemory>
-    requires declarations { declarations.now ≡ map own_of names.now.dbs }
-    requires number { number ≡ block_number names.now.symbols raw.now.kind raw.now.name }
-    ensures made { OnOk result (blocks.new.made ≡ blocks.old.made ++ block_within names.now raw.now ∷ []) }
-    ensures first { OnOk result (blocks.new.first ≡ with_breaks blocks.old.first (block_breaks names.now
-        (numbers_before (take place (block_numbers names.now.symbols names.now.blocks))) raw.now)) }
+    requires declarations { known.now.declarations.now ≡ map own_of known.now.names.now.dbs }
+    requires variables { known.now.variables.now ≡ known.now.names.now.blocks }
+    requires own { variables.now ≡ raw.now }
+    requires number { number ≡ block_number known.now.names.now.symbols raw.now.kind raw.now.name }
+    ensures made { OnOk result (blocks.new.made ≡ blocks.old.made ++ block_within known.now.names.now raw.now ∷ []) }
+    ensures first { OnOk result (blocks.new.first ≡ with_breaks blocks.old.first (block_breaks known.now.names.now
+        (numbers_before (take place (block_numbers known.now.names.now.symbols known.now.names.now.blocks))) raw.now)) }
 {
+    let numbers = known.names.blocks();
     note_heading(
         raw.kind,
         raw.line,
-        names.blocks(),
+        numbers,
         place,
         number,
         &mut blocks.first,
     );
-    let body = body_in(alloc, names, declarations, raw, &mut blocks.first)?;
+    let body = body_in(alloc, known, variables, raw, &mut blocks.first)?;
     blocks.made.push(Block {
         name: name_within(raw.kind, number),
         line: raw.line,
-        formals: List::new(alloc),
+        formals: variables.copy_formals(alloc)?,
         body,
     })
 }
 
 /// Adds blocks one after another.
+#[tactic(auto, using(crate::proofs::Parts::same_at))]
 fn put_each(
     alloc: Global,
-    names: &Names<'_>,
-    declarations: &[IndexedDeclarations<'_>],
+    known: &Known<'_, '_>,
     raws: &[RawBlock],
     blocks: &mut Blocks,
 ) -> Result<(), NoMemory>
-    requires declarations { declarations.now ≡ map own_of names.now.dbs }
-    requires raws { raws.now ≡ names.now.blocks }
-    ensures made { OnOk result (blocks.new.made ≡ blocks.old.made ++ map (block_within names.now) raws.now) }
-    ensures first { OnOk result (blocks.new.first ≡ with_breaks blocks.old.first (blocks_behind names.now [] raws.now)) }
+    requires declarations { known.now.declarations.now ≡ map own_of known.now.names.now.dbs }
+    requires variables { known.now.variables.now ≡ known.now.names.now.blocks }
+    requires raws { raws.now ≡ known.now.names.now.blocks }
+    ensures made { OnOk result (blocks.new.made ≡ blocks.old.made ++ map (block_within known.now.names.now) raws.now) }
+    ensures first { OnOk result (blocks.new.first ≡ with_breaks blocks.old.first (blocks_behind known.now.names.now [] raws.now)) }
 {
     for place in 0..raws.len() {
         let raw = &raws[place];
-        let number = names.blocks().number_at(place);
-        put_block(alloc, names, declarations, place, number, raw, blocks)?;
+        let number = known.names.blocks().number_at(place);
+        let variables = &known.variables[place];
+        put_block(alloc, known, place, number, variables, raw, blocks)?;
     }
     Ok(())
 }
@@ -238,20 +180,85 @@ fn put_each(
 /// Adds the blocks of a text.
 pub fn put_blocks(
     alloc: Global,
-    names: &Names<'_>,
-    declarations: &[IndexedDeclarations<'_>],
+    known: &Known<'_, '_>,
     raws: &[RawBlock],
     first: Option<Break>,
 ) -> Result<Blocks, NoMemory>
-    requires declarations { declarations.now ≡ map own_of names.now.dbs }
-    requires raws { raws.now ≡ names.now.blocks }
-    ensures made { IfOk result (λ b. b.made ≡ map (block_within names.now) raws.now) }
-    ensures first { IfOk result (λ b. b.first ≡ with_breaks first (blocks_behind names.now [] raws.now)) }
+    requires declarations { known.now.declarations.now ≡ map own_of known.now.names.now.dbs }
+    requires variables { known.now.variables.now ≡ known.now.names.now.blocks }
+    requires raws { raws.now ≡ known.now.names.now.blocks }
+    ensures made { IfOk result (λ b. b.made ≡ map (block_within known.now.names.now) raws.now) }
+    ensures first { IfOk result (λ b. b.first ≡ with_breaks first (blocks_behind known.now.names.now [] raws.now)) }
 {
     let mut blocks = Blocks {
         made: List::new(alloc),
         first,
     };
-    put_each(alloc, names, declarations, raws, &mut blocks)?;
+    put_each(alloc, known, raws, &mut blocks)?;
     Ok(blocks)
+}
+
+/// Notes the rules that a block breaks, by its place, its number and its variables.
+#[tactic(auto, using(block_variables::proofs::Firsts::behind))]
+fn note_block(
+    alloc: Global,
+    known: &Known<'_, '_>,
+    place: usize,
+    number: Result<u32, Reason>,
+    variables: &BlockVariables<'_>,
+    raw: &RawBlock,
+    first: &mut Option<Break>,
+) -> Result<(), NoMemory>
+    requires declarations { known.now.declarations.now ≡ map own_of known.now.names.now.dbs }
+    requires variables { known.now.variables.now ≡ known.now.names.now.blocks }
+    requires own { variables.now ≡ raw.now }
+    requires number { number ≡ block_number known.now.names.now.symbols raw.now.kind raw.now.name }
+    ensures { OnOk result (first.new ≡ with_breaks first.old (block_breaks known.now.names.now
+        (numbers_before (take place (block_numbers known.now.names.now.symbols known.now.names.now.blocks))) raw.now)) }
+{
+    note_heading(
+        raw.kind,
+        raw.line,
+        known.names.blocks(),
+        place,
+        number,
+        first,
+    );
+    note_body(alloc, known, variables, raw, first)
+}
+
+/// Notes the rules that the blocks of a text break.
+#[tactic(auto, using(crate::proofs::Parts::same_at))]
+pub fn note_blocks(
+    alloc: Global,
+    known: &Known<'_, '_>,
+    raws: &[RawBlock],
+    first: &mut Option<Break>,
+) -> Result<(), NoMemory>
+    requires declarations { known.now.declarations.now ≡ map own_of known.now.names.now.dbs }
+    requires variables { known.now.variables.now ≡ known.now.names.now.blocks }
+    requires raws { raws.now ≡ known.now.names.now.blocks }
+    ensures { OnOk result (first.new ≡ with_breaks first.old (blocks_behind known.now.names.now [] raws.now)) }
+{
+    for place in 0..raws.len() {
+        let raw = &raws[place];
+        let number = known.names.blocks().number_at(place);
+        let variables = &known.variables[place];
+        note_block(alloc, known, place, number, variables, raw, first)?;
+    }
+    Ok(())
+}
+
+/// The variables of all blocks.
+pub fn variables_of<'t>(
+    alloc: Global,
+    raws: &'t [RawBlock],
+) -> Result<Vec<BlockVariables<'t>>, NoMemory>
+    ensures { IfOk result (λ variables. variables.items ≡ raws.now) }
+{
+    let mut variables = Vec::with_capacity(alloc, raws.len())?;
+    for raw in raws {
+        variables.push(BlockVariables::new(alloc, raw)?)?;
+    }
+    Ok(variables)
 }

@@ -1,11 +1,11 @@
 //! The rules of the symbol table, and of headings of blocks.
 ghost use Rattle.std.specs.Prelude.{◌≡◌, [], OnOk, take};
 ghost use Rattle.stl_rules.specs.Stages.{heading_breaks, is_address, symbols_behind};
-ghost use Rattle.symbol_names.specs.inner.Firsts.{with_breaks};
+ghost use Rattle.block_variables.specs.Firsts.{with_breaks};
 ghost use Rattle.name_tables.specs.Before.{names_before, numbers_before};
 ghost use Rattle.symbol_names.specs.inner.Kept.{line_breaks};
 
-use crate::first::{note, note_if};
+use block_variables::{note, note_if};
 use instruction_operands::may_have;
 use name_tables::{Numbers, Symbols};
 use s7_base::{Break, Line, NoMemory, Reason};
@@ -25,7 +25,7 @@ pub fn is_address(address: SymbolAddress) -> bool
 }
 
 /// Notes the rules that a line of the symbol table breaks.
-#[tactic(auto, using(crate::proofs::Firsts::behind))]
+#[tactic(auto, using(block_variables::proofs::Firsts::behind))]
 fn note_line(
     alloc: Global,
     symbols: &Symbols<'_>,
@@ -64,7 +64,7 @@ pub fn note_symbols(
 }
 
 /// Notes the rules that the heading of a block breaks.
-#[tactic(auto, using(crate::proofs::Firsts::behind))]
+#[tactic(auto, using(block_variables::proofs::Firsts::behind))]
 pub fn note_heading(
     kind: BlockKind,
     line: Line,

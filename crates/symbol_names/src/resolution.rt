@@ -1,16 +1,17 @@
 //! The program of a raw program, or the first rule of names, blocks and layouts that it breaks.
-ghost use Rattle.std.specs.Prelude.{◌≡◌, ◌++◌, ◌<◌, IfOk, OnOk, is_none, map, slice_get};
+ghost use Rattle.std.specs.Prelude.{◌≡◌, ◌++◌, ◌<◌, [], IfOk, None, OnOk, is_none, map, slice_get};
+ghost use Rattle.block_variables.specs.Firsts.{with_breaks};
 ghost use Rattle.std.specs.List.{filter_map};
 ghost use Rattle.std.specs.Option.{option_to_list};
 ghost use Rattle.memory_areas.specs.declared.sizes.TheConstants.{MOST_BLOCKS};
 ghost use Rattle.s7_base.specs.Answers.{Answers};
 ghost use Rattle.s7_base.specs.Broken.{first_of_all};
 ghost use Rattle.stl_rules.specs.Programs.{symbol_area, symbol_in};
-ghost use Rattle.stl_rules.specs.Stages.{names as names_stage};
+ghost use Rattle.stl_rules.specs.Stages.{names as names_stage, symbols_behind};
 ghost use Rattle.stl_rules.specs.Verdict.{resolved_program};
-ghost use Rattle.symbol_names.specs.inner.Kept.{block_within, data_kept, symbol_kept};
+ghost use Rattle.symbol_names.specs.inner.Kept.{block_within, data_kept, instance_kept, symbol_kept};
 
-use crate::blocks::{Blocks, put_blocks};
+use crate::blocks::{Blocks, Known, note_blocks, put_blocks, variables_of};
 use crate::data::{FoundDataBlocks, note_too_many, put_dbs};
 use crate::headings::{is_address, note_symbols};
 use data_contents::in_order;
@@ -18,59 +19,95 @@ use memory_areas::{Area, AreaName, DataBlock, Place};
 use name_tables::Names;
 use s7_base::{Break, List, NoMemory, Rejection};
 use std::alloc::Global;
-use stl_tree::{Block, Program, RawPlace, RawProgram, Symbol, SymbolAddress, SymbolLine};
+use stl_tree::{Block, Instance, Program, RawPlace, RawProgram, Symbol, SymbolAddress, SymbolLine};
 
 /// The parts of a program but for its symbols, as far as they break no rule.
 #[derive(Drop)]
 struct ProgramParts {
     dbs: List<DataBlock>,
+    instances: List<Instance>,
     blocks: List<Block>,
     first: Option<Break>,
 }
 
-/// All rules that a raw program breaks, and the parts that can be made, by its names.
-#[tactic(auto, using(crate::proofs::Firsts::behind, crate::proofs::Firsts::from_none))]
-fn parts_by(alloc: Global, names: &Names<'_>, raw: &RawProgram) -> Result<ProgramParts, NoMemory>
-    requires { names.now ≡ raw.now }
-    ensures dbs { IfOk result (λ p. p.dbs ≡ filter_map (data_kept (is_none (slice_get raw.now.dbs MOST_BLOCKS)) raw.now.symbols) raw.now.dbs) }
+/// The rules that the symbol table breaks.
+fn first_in_symbols(alloc: Global, names: &Names<'_>) -> Result<Option<Break>, NoMemory>
+    ensures { IfOk result (λ first. first ≡ with_breaks None (symbols_behind [] names.now.symbols)) }
+{
+    let mut first = None;
+    let lines = names.text().symbols.as_slice();
+    note_symbols(alloc, names.symbols(), lines, &mut first)?;
+    Ok(first)
+}
+
+/// All rules that a raw program breaks, and the parts that can be made.
+#[tactic(auto, using(crate::proofs::Parts::first_of_names))]
+fn parts_of(alloc: Global, raw: &RawProgram) -> Result<ProgramParts, NoMemory>
+    ensures dbs { IfOk result (λ p. p.dbs ≡ filter_map (data_kept (is_none (slice_get raw.now.dbs MOST_BLOCKS)) raw.now) raw.now.dbs) }
+    ensures instances { IfOk result (λ p. p.instances ≡ filter_map (instance_kept raw.now) raw.now.dbs) }
     ensures blocks { IfOk result (λ p. p.blocks ≡ map (block_within raw.now) raw.now.blocks) }
     ensures first { IfOk result (λ p. p.first ≡ first_of_all (names_stage raw.now)) }
 {
-    let mut first = None;
-    note_symbols(alloc, names.symbols(), raw.symbols.as_slice(), &mut first)?;
+    let names = Names::new(alloc, raw)?;
+    let first = first_in_symbols(alloc, &names)?;
+    let variables = variables_of(alloc, raw.blocks.as_slice())?;
     let FoundDataBlocks {
         declarations,
         made,
+        instances,
         first,
-    } = put_dbs(alloc, names, raw.dbs.as_slice(), first)?;
+    } = put_dbs(
+        alloc,
+        &names,
+        variables.as_slice(),
+        true,
+        raw.dbs.as_slice(),
+        first,
+    )?;
     let mut later = first;
     note_too_many(raw.dbs.as_slice(), &mut later);
-    let blocks = put_blocks(
-        alloc,
-        names,
-        declarations.as_slice(),
-        raw.blocks.as_slice(),
-        later,
-    )?;
+    let known = Known {
+        names: &names,
+        declarations: declarations.as_slice(),
+        variables: variables.as_slice(),
+    };
     let Blocks {
         made: blocks,
         first,
-    } = blocks;
+    } = put_blocks(alloc, &known, raw.blocks.as_slice(), later)?;
     Ok(ProgramParts {
         dbs: made,
+        instances,
         blocks,
         first,
     })
 }
 
-/// All rules that a raw program breaks, and the parts that can be made.
-fn parts_of(alloc: Global, raw: &RawProgram) -> Result<ProgramParts, NoMemory>
-    ensures dbs { IfOk result (λ p. p.dbs ≡ filter_map (data_kept (is_none (slice_get raw.now.dbs MOST_BLOCKS)) raw.now.symbols) raw.now.dbs) }
-    ensures blocks { IfOk result (λ p. p.blocks ≡ map (block_within raw.now) raw.now.blocks) }
-    ensures first { IfOk result (λ p. p.first ≡ first_of_all (names_stage raw.now)) }
+/// The first rule of names, blocks and layouts that a raw program breaks. Nothing is made of it.
+#[tactic(auto, using(crate::proofs::Parts::first_of_names))]
+pub fn first_in_names(alloc: Global, raw: &RawProgram) -> Result<Option<Break>, NoMemory>
+    ensures { IfOk result (λ first. first ≡ first_of_all (names_stage raw.now)) }
 {
     let names = Names::new(alloc, raw)?;
-    parts_by(alloc, &names, raw)
+    let first = first_in_symbols(alloc, &names)?;
+    let variables = variables_of(alloc, raw.blocks.as_slice())?;
+    let found = put_dbs(
+        alloc,
+        &names,
+        variables.as_slice(),
+        false,
+        raw.dbs.as_slice(),
+        first,
+    )?;
+    let mut later = found.first;
+    note_too_many(raw.dbs.as_slice(), &mut later);
+    let known = Known {
+        names: &names,
+        declarations: found.declarations.as_slice(),
+        variables: variables.as_slice(),
+    };
+    note_blocks(alloc, &known, raw.blocks.as_slice(), &mut later)?;
+    Ok(later)
 }
 
 /// The area of a symbol's place.
@@ -139,7 +176,12 @@ fn put_symbol(symbols: &mut List<Symbol>, symbol: Option<Symbol>) -> Result<(), 
 pub fn resolve(alloc: Global, raw: RawProgram) -> Result<Program, Rejection>
     ensures { Answers result (resolved_program raw) }
 {
-    let ProgramParts { dbs, blocks, first } = parts_of(alloc, &raw)?;
+    let ProgramParts {
+        dbs,
+        instances,
+        blocks,
+        first,
+    } = parts_of(alloc, &raw)?;
     if let Some(first) = first {
         return Err(Rejection::Refused(first.line, first.rule));
     }
@@ -147,7 +189,7 @@ pub fn resolve(alloc: Global, raw: RawProgram) -> Result<Program, Rejection>
     let symbols = symbols_of(alloc, raw.symbols)?;
     Ok(Program {
         dbs,
-        instances: List::new(alloc),
+        instances,
         blocks,
         symbols,
     })

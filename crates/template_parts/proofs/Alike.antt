@@ -1,49 +1,58 @@
 -- Related states, as one thing after another changes.
 use Rattle.std.proofs.Common.{◌≡◌, ℕ, suc, ◌+◌, ◌^◌, ◌<◌, pos, List, [], ◌∷◌, ◌++◌, length, Option, Some, None, refl, sym, ap, subst, ◌∙◌, arith}
-use Rattle.std.specs.Prelude.{ℤ, slice_set}
+use Rattle.std.specs.Prelude.{ℤ, slice_get, slice_set}
 use Rattle.memory_areas.specs.Areas.{Contents}
 use Rattle.memory_areas.specs.Access.{HoldsBytes, area_named}
+use Rattle.memory_areas.specs.Memory.{HasActivations, HasBlocks}
 use Rattle.memory_areas.specs.declared.place.AreaName.{AreaName}
 use Rattle.memory_areas.specs.declared.place.Place.{Place}
 use Rattle.status_word.specs.StatusBits.{StatusBits}
 use Rattle.s7_base.specs.declared.check.Entry.{Entry}
 use Rattle.s7_base.specs.declared.register.Reg.{Reg}
 use Rattle.s7_base.specs.declared.register.Reg.TheVariants as reg
+use Rattle.s7_base.specs.declared.word.Width.{Width}
+use Rattle.stl_tree.specs.Calls.{cell_of, going_on, going_on_at}
 use Rattle.stl_tree.specs.Now.{Activation, Now, depth}
 use Rattle.stl_tree.specs.Registers.{RegisterValues}
-use Rattle.stl_tree.specs.StlRun.{going_on, going_on_at}
 pub use Rattle.instruction_laws.proofs.RangeEffects.{any_status}
 use Rattle.instruction_laws.specs.Ranges.{AreInRange}
 use Rattle.st_tree.specs.State.{Activation as Running, State, db_number, di_number, depth as depth_of_state, place_of, with_local}
-use Rattle.st_tree.specs.declared.state.Reference.{Reference}
-use Rattle.st_tree.specs.Values.{pattern}
+use Rattle.st_tree.specs.Values.{pattern, type_of_width}
 use Rattle.st_tree.specs.declared.state.Value.{Value}
-use Rattle.st_tree.specs.declared.state.Reference.TheVariants as reference
-use Rattle.template_parts.specs.Related.{AreAlike, AreFormals, Frames, IsConstant, Related, StandForSame, formals_of_block, value_in, without_cells}
+use Rattle.template_parts.specs.Related.{AreAlike, AreFormals, AreHeld, Constant, Frames, IsHeld, Related, Wait, Waiting, formals_of_block, without_cells}
 use Rattle.template_parts.proofs.Cells.{cell_read_alike}
 use Rattle.template_parts.proofs.Units.{last_with, with_locals}
 
--- Formals
+-- Waiting units
 
--- a formal stands for the same where the cells are as they were
-cell_kept : (before after : Contents) (waiting : List Running) (p : Place) (r : Reference) → after.cells ≡ before.cells
-    → StandForSame before waiting p r → StandForSame after waiting p r
-cell_kept before after waiting p (reference.Register r) e h = h
-cell_kept before after waiting p (reference.Place q ty) e h = h
-cell_kept before after waiting p (reference.Local d i) e h = (h.0, by (value_in waiting d i) h.1)
-  where
-    by : (v : Option Value) → IsConstant before p v → IsConstant after p v
-    by None k = k
-    by (Some v) k = cell_read_alike p h.0 v.ty after before e ∙ k
+-- a constant is held where the cells are as they were
+pub held_kept : (before after : Contents) (depth k : ℕ) (w : Width) (v : Option Value) → after.cells ≡ before.cells
+    → IsHeld before (cell_of depth k) w v → IsHeld after (cell_of depth k) w v
+held_kept before after depth k w None e h = h
+held_kept before after depth k w (Some v) e h = cell_read_alike (cell_of depth k) tt (type_of_width w) after before e ∙ h
 
-formals_kept : (before after : Contents) (waiting : List Running) (places : List (Option Place)) (references : List Reference) → after.cells ≡ before.cells
-    → AreFormals before waiting places references → AreFormals after waiting places references
-formals_kept before after waiting [] [] e h = tt
-formals_kept before after waiting [] (r ∷ references) e h = elim h [ ]
-formals_kept before after waiting (None ∷ places) references e h = elim h [ ]
-formals_kept before after waiting (Some p ∷ places) [] e h = elim h [ ]
-formals_kept before after waiting (Some p ∷ places) (r ∷ references) e h =
-    (cell_kept before after waiting p r e h.0, formals_kept before after waiting places references e h.1)
+all_held : (before after : Contents) (depth k : ℕ) (constants : List (Option Constant)) (unit : Running) → after.cells ≡ before.cells
+    → AreHeld before depth k constants unit → AreHeld after depth k constants unit
+all_held before after depth k [] unit e h = tt
+all_held before after depth k (None ∷ constants) unit e h = all_held before after depth (suc k) constants unit e h
+all_held before after depth k (Some c ∷ constants) unit e h = (
+  held_kept before after depth k c.width (slice_get unit.locals c.local) e h.0,
+  all_held before after depth (suc k) constants unit e h.1,
+)
+
+wait_kept : (before after : Contents) (d : ℕ) (waiting : List Waiting) (units : List Running) → after.cells ≡ before.cells
+    → Wait before d waiting units → Wait after d waiting units
+wait_kept before after d [] [] e h = tt
+wait_kept before after d (was ∷ waiting) (unit ∷ units) e h =
+    (h.0, all_held before after (suc d) 0 was.constants unit e h.1, wait_kept before after (suc d) waiting units e h.2)
+wait_kept before after d waiting units e h = absurd h
+
+-- as many wait
+pub wait_length : (memory : Contents) (d : ℕ) (waiting : List Waiting) (units : List Running) → Wait memory d waiting units
+    → length units ≡ length waiting
+wait_length memory d [] [] h = refl
+wait_length memory d (was ∷ waiting) (unit ∷ units) h = ap suc (wait_length memory (suc d) waiting units h.2)
+wait_length memory d waiting units h = absurd h
 
 -- The running unit
 
@@ -53,7 +62,7 @@ last_set : (waiting : List Running) (running : Running) (i : ℕ) (v : Value)
 last_set [] running i v = refl
 last_set (a ∷ waiting) running i v = ap (λ (rest : List Running). a ∷ rest) (last_set waiting running i v)
 
-one_longer : (waiting : List Running) (running : Running) → length (waiting ++ running ∷ []) ≡ suc (length waiting)
+pub one_longer : (waiting : List Running) (running : Running) → length (waiting ++ running ∷ []) ≡ suc (length waiting)
 one_longer [] running = refl
 one_longer (a ∷ waiting) running = ap suc (one_longer waiting running)
 
@@ -63,7 +72,8 @@ module _ (frames : Frames) (now : Now) (s : State) (related : Related frames now
   -- the number of the running unit is that of those that wait
   pub as_many_wait : depth_of_state s ≡ length frames.waiting
   as_many_wait =
-      let all : length s.activations ≡ suc (length frames.waiting) = ap length related.units ∙ one_longer frames.waiting related.running in
+      let all : length s.activations ≡ suc (length related.units) = ap length related.activations ∙ one_longer related.units related.running in
+      let many : length related.units ≡ length frames.waiting = wait_length now.memory 0 frames.waiting related.units related.wait in
       omega arith
 
   -- other status bits, and register variables that have their numbers
@@ -75,10 +85,14 @@ module _ (frames : Frames) (now : Now) (s : State) (related : Related frames now
         range = any_status now.registers bits related.range;
         memory = related.memory;
         bytes = related.bytes;
+        sizes = related.sizes;
+        faults = related.faults;
         blocks = related.blocks;
-        running = related.running;
-        units = related.units;
         depth = related.depth;
+        units = related.units;
+        wait = related.wait;
+        running = related.running;
+        activations = related.activations;
         formals = related.formals;
       }
 
@@ -91,27 +105,35 @@ module _ (frames : Frames) (now : Now) (s : State) (related : Related frames now
         range = range;
         memory = related.memory;
         bytes = related.bytes;
+        sizes = related.sizes;
+        faults = related.faults;
         blocks = related.blocks;
-        running = related.running;
-        units = related.units;
         depth = related.depth;
+        units = related.units;
+        wait = related.wait;
+        running = related.running;
+        activations = related.activations;
         formals = related.formals;
       }
 
   -- another memory, which holds bytes, and in its cells what was there
-  pub keep_memory : (m : Contents) → HoldsBytes m → m.cells ≡ now.memory.cells
+  pub keep_memory : (m : Contents) → HoldsBytes m → HasActivations m → HasBlocks frames.dbs m → m.cells ≡ now.memory.cells
       → Related frames (record now { memory = m }) (record s { memory = without_cells m })
-  keep_memory m holds cells =
+  keep_memory m holds sizes faults cells =
       record {
         registers = related.registers;
         range = related.range;
         memory = refl;
         bytes = holds;
+        sizes = sizes;
+        faults = faults;
         blocks = related.blocks;
-        running = related.running;
-        units = related.units;
         depth = related.depth;
-        formals = formals_kept now.memory m frames.waiting (formals_of_block frames.blocks) related.running.formals cells related.formals;
+        units = related.units;
+        wait = wait_kept now.memory m 0 frames.waiting related.units cells related.wait;
+        running = related.running;
+        activations = related.activations;
+        formals = related.formals;
       }
 
   -- other open brackets, of which the related state says nothing
@@ -122,26 +144,35 @@ module _ (frames : Frames) (now : Now) (s : State) (related : Related frames now
         range = related.range;
         memory = related.memory;
         bytes = related.bytes;
+        sizes = related.sizes;
+        faults = related.faults;
         blocks = related.blocks;
-        running = related.running;
-        units = related.units;
         depth = related.depth;
+        units = related.units;
+        wait = related.wait;
+        running = related.running;
+        activations = related.activations;
         formals = related.formals;
       }
 
   -- another value in a local of the running unit
   pub keep_local : (i : ℕ) (v : Value) → Related frames now (record s { activations = with_local (depth_of_state s) i v s.activations })
   keep_local i v =
+      let many : length related.units ≡ length frames.waiting = wait_length now.memory 0 frames.waiting related.units related.wait in
       record {
         registers = related.registers;
         range = related.range;
         memory = related.memory;
         bytes = related.bytes;
+        sizes = related.sizes;
+        faults = related.faults;
         blocks = related.blocks;
-        running = record related.running { locals = slice_set related.running.locals i v };
-        units = ap (λ (d : ℕ). with_local d i v s.activations) as_many_wait
-            ∙ ap (with_local (length frames.waiting) i v) related.units ∙ last_set frames.waiting related.running i v;
         depth = related.depth;
+        units = related.units;
+        wait = related.wait;
+        running = record related.running { locals = slice_set related.running.locals i v };
+        activations = ap (λ (d : ℕ). with_local d i v s.activations) (as_many_wait ∙ sym many)
+            ∙ ap (with_local (length related.units) i v) related.activations ∙ last_set related.units related.running i v;
         formals = related.formals;
       }
 
@@ -153,10 +184,14 @@ module _ (frames : Frames) (now : Now) (s : State) (related : Related frames now
         range = related.range;
         memory = related.memory;
         bytes = related.bytes;
+        sizes = related.sizes;
+        faults = related.faults;
         blocks = related.blocks;
-        running = record related.running { locals = xs };
-        units = ap (with_locals xs) related.units ∙ last_with xs frames.waiting related.running;
         depth = related.depth;
+        units = related.units;
+        wait = related.wait;
+        running = record related.running { locals = xs };
+        activations = ap (with_locals xs) related.activations ∙ last_with xs related.units related.running;
         formals = related.formals;
       }
 
@@ -165,11 +200,11 @@ abbrev pub frames_on : Frames → Frames
 frames_on frames = record frames { blocks = going_on frames.blocks }
 
 -- the same formals, and as many blocks
-on_formals : (blocks : List Activation) → formals_of_block (going_on blocks) ≡ formals_of_block blocks
+pub on_formals : (blocks : List Activation) → formals_of_block (going_on blocks) ≡ formals_of_block blocks
 on_formals [] = refl
 on_formals (a ∷ waiting) = refl
 
-on_length : (blocks : List Activation) → length (going_on blocks) ≡ length blocks
+pub on_length : (blocks : List Activation) → length (going_on blocks) ≡ length blocks
 on_length [] = refl
 on_length (a ∷ waiting) = refl
 
@@ -192,10 +227,14 @@ keep_position frames now s related =
       bytes = related.bytes;
       blocks = ap going_on related.blocks;
       running = related.running;
-      units = related.units;
+      sizes = related.sizes;
+      faults = related.faults;
       depth = related.depth ∙ sym (on_length frames.blocks);
+      units = related.units;
+      wait = related.wait;
+      activations = related.activations;
       formals =
-          subst (λ (places : List (Option Place)). AreFormals now.memory frames.waiting places related.running.formals)
+          subst (λ (places : List (Option Place)). AreFormals frames.waiting frames.dbs frames.formals places related.running.formals)
           (sym (on_formals frames.blocks)) related.formals;
     }
 
@@ -210,10 +249,14 @@ keep_position_at to frames now s related =
       bytes = related.bytes;
       blocks = ap (going_on_at to) related.blocks;
       running = related.running;
-      units = related.units;
+      sizes = related.sizes;
+      faults = related.faults;
       depth = related.depth ∙ sym (at_length to frames.blocks);
+      units = related.units;
+      wait = related.wait;
+      activations = related.activations;
       formals =
-          subst (λ (places : List (Option Place)). AreFormals now.memory frames.waiting places related.running.formals)
+          subst (λ (places : List (Option Place)). AreFormals frames.waiting frames.dbs frames.formals places related.running.formals)
           (sym (at_formals to frames.blocks)) related.formals;
     }
 

@@ -28,6 +28,7 @@ local_misses low n i above h = ap (missed low n) (reads_of_read (var.Local i)) �
 pub reach_disorder : (first : ℕ) (o : Operand) → disorder first first (reach_of first o) ≡ 0
 reach_disorder first (operand.Direct a byte x) = refl
 reach_disorder first (operand.Opened n byte x) = simp order_equations
+reach_disorder first (operand.Formal k) = refl
 reach_disorder first (operand.ByMemory a pointer_area byte) = simp order_equations (omega arith)
 reach_disorder first (operand.ByRegister a r offset) = simp order_equations (omega arith)
 reach_disorder first (operand.Crossing r offset) = simp order_equations (omega arith)
@@ -35,6 +36,7 @@ reach_disorder first (operand.Crossing r offset) = simp order_equations (omega a
 pub reach_sets : (first : ℕ) (o : Operand) → locals_set (reach_of first o) ≡ length (types_reached o)
 reach_sets first (operand.Direct a byte x) = refl
 reach_sets first (operand.Opened n byte x) = refl
+reach_sets first (operand.Formal k) = refl
 reach_sets first (operand.ByMemory a pointer_area byte) = refl
 reach_sets first (operand.ByRegister a r offset) = refl
 reach_sets first (operand.Crossing r offset) = refl
@@ -47,6 +49,7 @@ by_pointer low n i w above h = ap (missed low n) (reads_of_area_read w (local_of
 pub reading_misses : (n first : ℕ) (o : Operand) (w : Width) → first + length (types_reached o) ≤ n → misses first n (reading_of first o w) ≡ 0
 reading_misses n first (operand.Direct a byte x) w h = simp order_equations
 reading_misses n first (operand.Opened m byte x) w h = simp order_equations
+reading_misses n first (operand.Formal k) w h = simp order_equations
 reading_misses n first (operand.ByMemory a pointer_area byte) w h = by_pointer first n (first + 1) w (omega arith) (omega arith)
 reading_misses n first (operand.ByRegister a r offset) w h = by_pointer first n first w (omega arith) (omega arith)
 reading_misses n first (operand.Crossing r offset) w h = by_pointer first n first w (omega arith) (omega arith)
@@ -60,6 +63,7 @@ pub writing_disorder : (n first : ℕ) (o : Operand) (w : Width) (e : Expr) (res
     → disorder first n (writing_of first o w e ∷ rest) ≡ 0
 writing_disorder n first (operand.Direct a byte x) w e rest h k l = omega (arith, k, l)
 writing_disorder n first (operand.Opened m byte x) w e rest h k l = omega (arith, k, l)
+writing_disorder n first (operand.Formal m) w e rest h k l = omega (arith, k, l)
 writing_disorder n first (operand.ByMemory a pointer_area byte) w e rest h k l = through first n (first + 1) w e rest (omega arith) (omega arith) k l
 writing_disorder n first (operand.ByRegister a r offset) w e rest h k l = through first n first w e rest (omega arith) (omega arith) k l
 writing_disorder n first (operand.Crossing r offset) w e rest h k l = through first n first w e rest (omega arith) (omega arith) k l
@@ -67,6 +71,7 @@ writing_disorder n first (operand.Crossing r offset) w e rest h k l = through fi
 pub writing_sets : (first : ℕ) (o : Operand) (w : Width) (e : Expr) (rest : List Stmt) → locals_set (writing_of first o w e ∷ rest) ≡ locals_set rest
 writing_sets first (operand.Direct a byte x) w e rest = refl
 writing_sets first (operand.Opened m byte x) w e rest = refl
+writing_sets first (operand.Formal m) w e rest = refl
 writing_sets first (operand.ByMemory a pointer_area byte) w e rest = refl
 writing_sets first (operand.ByRegister a r offset) w e rest = refl
 writing_sets first (operand.Crossing r offset) w e rest = refl

@@ -4,14 +4,13 @@
 -- A row that reads its operand and does no more than DoesRow says cites `fetch_effect`, with `bit_shown` or
 -- `number_shown w` for its reading: it is left to show what the statements behind do from a state t in which the
 -- operand is worth what is read at its place. Where it writes the operand too, `writes` of `IsFetched` says what that
--- does, from t on as long as the way is kept, and `write_goes_on` and its like say how the statements go on. One that
--- writes alone cites `reach_effect`, with the value that it writes and the row's own write; what stands behind comes to
--- its end. Any other cites `reaches` of `Reaching`, for both ways out.
+-- does in related states as long as the way is kept (`Puts`). One that writes alone cites `reach_effect`, with the value that it writes and the row's own
+-- write; what stands behind comes to its end. Any other cites `reaches` of `Reaching`, for both ways out.
 use Rattle.std.proofs.Common.{◌≡◌, ℕ, ◌+◌, ◌<◌, ◌≤◌, pos, Bool, true, false, if◌then◌else◌, List, [], ◌∷◌, ◌++◌, length, Result, Ok, Err, ◌⊎◌, inl, inr, refl, sym, ap, subst, ◌∙◌, arith}
 use Rattle.std.specs.Prelude.{slice_get, Some}
 use Rattle.std.specs.Int.{from_bool}
 use Rattle.std.proofs.lemmas.List.{append_assoc, length-append}
-use Rattle.memory_areas.specs.Access.{HoldsBytes, and_then, read_bit}
+use Rattle.memory_areas.specs.Access.{and_then, read_bit}
 use Rattle.memory_areas.specs.Areas.{Contents}
 use Rattle.memory_areas.specs.declared.place.Place.{Place}
 use Rattle.s7_base.specs.declared.outcome.Fault.{Fault}
@@ -23,8 +22,9 @@ use Rattle.stl_tree.specs.Accumulators.{read_number}
 use Rattle.stl_tree.specs.Now.{Effect, Now, enter, fault, go, leave, next, with_memory, with_value}
 use Rattle.stl_tree.specs.Operands.{OperandPlace, place_of_operand, with_place}
 use Rattle.stl_tree.specs.declared.program.Operand.{Operand}
+use Rattle.st_tree.specs.Fitting.{IsOf}
 use Rattle.st_tree.specs.Meaning.{Calls, Out, body_meaning}
-use Rattle.st_tree.specs.State.{Activation as StActivation, State, depth, own_of, read_place, write_place}
+use Rattle.st_tree.specs.State.{Activation as StActivation, State, own_of, read_place, write_place}
 use Rattle.st_tree.specs.Value.{value}
 use Rattle.st_tree.specs.Values.{flag, type_of_width, typed}
 use Rattle.st_tree.specs.declared.expr.Expr.{Expr}
@@ -36,12 +36,12 @@ use Rattle.st_tree.specs.declared.state.Value.{Value}
 use Rattle.st_tree.proofs.Equations.{assign_goes_on, assign_stops_at_value}
 use Rattle.template_parts.specs.Builders.{local_of, set_local_of}
 use Rattle.template_parts.specs.Fetching.{fetch_of, fetched_value_of, may_fault, reach_of, reading_of, types_fetched, types_reached, writing_of}
-use Rattle.template_parts.specs.Related.{Frames, IsInMemory, Related, without_cells}
-use Rattle.template_parts.proofs.Alike.{keep_local, keep_memory, same_areas}
-use Rattle.template_parts.proofs.Cells.{LiesInMemory, read_alike, write_alike, write_keeps_cells}
+use Rattle.template_parts.specs.Related.{Frames, Related}
+use Rattle.template_parts.proofs.Alike.{keep_local, same_areas}
 use Rattle.template_parts.specs.DoesInstruction.{DoesInstruction, Leads, Stops}
-use Rattle.st_tree.proofs.Locals.{as_deep, local_read, local_wrote, own_length, own_other, own_same, with_own}
-use Rattle.template_parts.proofs.MemoryEffects.{KeepsWay, Writes, keeps_itself, write_goes_on, write_misses, write_stops_at_place, written_holds}
+use Rattle.st_tree.proofs.Locals.{local_read, local_wrote, own_length, own_other, own_same, with_own}
+use Rattle.template_parts.proofs.MemoryEffects.{KeepsWay, fewer, keeps_itself, kept_on, local_kept}
+use Rattle.template_parts.proofs.Putting.{Puts, PutsAt}
 use Rattle.template_parts.proofs.Reaching.{LeadsTo, Misses, Reaches, StopsBefore, found_with, reaches}
 
 -- By what an operand names
@@ -69,47 +69,17 @@ placed o now effect goal r e h = subst (λ (q : Result OperandPlace Fault). goal
 pub record IsFetched (g : List Located) (frames : Frames) (s : State) (o : Operand)
     (w : Width) (f : OperandPlace) (first : ℕ) (e : Expr) (t : State) : Type 0 where
   pub related : Related frames f.after t
-  pub in_memory : IsInMemory f.place.area
   pub as_many : length (own_of t.activations) ≡ length (own_of s.activations)
   pub below : (i : ℕ) → i < first → slice_get (own_of t.activations) i ≡ slice_get (own_of s.activations) i
   pub worth : (u : State) → u.memory ≡ t.memory → u.activations ≡ t.activations
       → u.registers reg.DbNo ≡ t.registers reg.DbNo → u.registers reg.DiNo ≡ t.registers reg.DiNo
       → value g e u ≡ read_place (type_of_width w) f.place f.after.memory
   pub here : value g e t ≡ read_place (type_of_width w) f.place f.after.memory
-  pub writes : (u : State) → KeepsWay (first + length (types_fetched o w)) t u → Writes g (type_of_width w) (Ok f.place) u (writing_of first o w)
-
--- a way that is kept with more locals is kept
-fewer : (many few : ℕ) (t u : State) → few ≤ many → KeepsWay many t u → KeepsWay few t u
-fewer many few t u h keeps = record { db = keeps.db; di = keeps.di; deep = keeps.deep; locals = λ i small. keeps.locals i (omega arith) }
-
--- and so from a state before
-kept_on : (many : ℕ) (t u x : State) → KeepsWay many t u → KeepsWay many u x → KeepsWay many t x
-kept_on many t u x h k =
-    record { db = k.db ∙ h.db; di = k.di ∙ h.di; deep = k.deep ∙ h.deep; locals = λ i small. k.locals i small ∙ h.locals i small }
-
--- registers and memory may change
-registers_kept : (many : ℕ) (t u : State) → u.activations ≡ t.activations
-    → u.registers reg.DbNo ≡ t.registers reg.DbNo → u.registers reg.DiNo ≡ t.registers reg.DiNo → KeepsWay many t u
-registers_kept many t u activations db di =
-    record {
-      db = db;
-      di = di;
-      deep = ap length activations;
-      locals = λ i small. ap (λ (running : List StActivation). slice_get (own_of running) i) activations;
-    }
-
--- and so may a local behind those of the way
-pub local_kept : (many i : ℕ) (v : Value) (t : State) → many ≤ i → KeepsWay many t (with_own i v t)
-local_kept many i v t h =
-    record {
-      db = refl;
-      di = refl;
-      deep = as_deep t.activations (depth t) i v;
-      locals = λ j small. own_other i v t j (λ same. absurd (omega arith));
-    }
+  pub writes : (then_now : Now) (u : State) → Related frames then_now u → KeepsWay (first + length (types_fetched o w)) t u
+      → PutsAt g frames w (Ok f.place) then_now u (writing_of first o w)
 
 module _ (g : List Located) (calls : Calls) (units : ℕ) (frames : Frames) (now : Now) (s : State)
-    (first : ℕ) (o : Operand) (w : Width) (way : Reaches g calls units frames now s first o) where
+    (first : ℕ) (o : Operand) (w : Width) (way : Reaches g calls units frames now s first w o) where
   -- the local that takes what may fault
   abbrev later : ℕ
   later = first + length (types_reached o)
@@ -143,8 +113,8 @@ module _ (g : List Located) (calls : Calls) (units : ℕ) (frames : Frames) (now
 
     reading_missed : value g (reading_of first o w) way.to ≡ Err x
     reading_missed =
-        way.reached.reads w way.to (keeps_itself later way.to)
-        ∙ ap (λ (r : Result Place Fault). and_then r (λ p. read_place (type_of_width w) p way.to.memory)) none
+        way.reached.reads way.to refl refl refl refl
+        ∙ ap (λ (r : Result Place Fault). and_then r (λ p. read_place (type_of_width w) p way.after.memory)) none
 
     stops_missed : StopsBefore g calls units s (fetching true) now.memory x
     stops_missed rest =
@@ -165,22 +135,23 @@ module _ (g : List Located) (calls : Calls) (units : ℕ) (frames : Frames) (now
     is_found : place_of_operand o now ≡ Ok place_found
     is_found = way.is ∙ ap (λ (r : Result Place Fault). found_with r way.after) some
 
-    place_in_memory : IsInMemory p.area
-    place_in_memory = subst LiesInMemory some way.in_memory
-
     -- what is read there
     abbrev is_there : Result Value Fault
     is_there = read_place (type_of_width w) p way.after.memory
 
-    reads : (u : State) → u.memory ≡ way.to.memory → KeepsWay later way.to u → value g (reading_of first o w) u ≡ is_there
-    reads u memory keeps =
-        way.reached.reads w u keeps
-        ∙ ap (λ (r : Result Place Fault). and_then r (λ q. read_place (type_of_width w) q u.memory)) some
-        ∙ ap (read_place (type_of_width w) p) (memory ∙ way.reached.related.memory)
-        ∙ read_alike p way.after.memory place_in_memory (type_of_width w)
+    reads : (u : State) → u.memory ≡ way.to.memory → u.activations ≡ way.to.activations
+        → u.registers reg.DbNo ≡ way.to.registers reg.DbNo → u.registers reg.DiNo ≡ way.to.registers reg.DiNo
+        → value g (reading_of first o w) u ≡ is_there
+    reads u memory activations db di =
+        way.reached.reads u memory activations db di
+        ∙ ap (λ (r : Result Place Fault). and_then r (λ q. read_place (type_of_width w) q way.after.memory)) some
 
-    writes : (u : State) → KeepsWay later way.to u → Writes g (type_of_width w) (Ok p) u (writing_of first o w)
-    writes u keeps = subst (λ (r : Result Place Fault). Writes g (type_of_width w) r u (writing_of first o w)) some (way.reached.writes w u keeps)
+    reads_here : value g (reading_of first o w) way.to ≡ is_there
+    reads_here = reads way.to refl refl refl refl
+
+    writes : (then_now : Now) (u : State) → Related frames then_now u → KeepsWay later way.to u → PutsAt g frames w (Ok p) then_now u (writing_of first o w)
+    writes then_now u alike keeps =
+        subst (λ (r : Result Place Fault). PutsAt g frames w r then_now u (writing_of first o w)) some (way.reached.writes then_now u alike keeps)
 
     abbrev Fetched : Bool → State → Type 0
     Fetched b t = IsFetched g frames s o w place_found first (fetched b) t
@@ -190,12 +161,11 @@ module _ (g : List Located) (calls : Calls) (units : ℕ) (frames : Frames) (now
     reached_alone more =
         record {
           related = way.reached.related;
-          in_memory = place_in_memory;
           as_many = way.reached.as_many;
           below = way.reached.below;
-          worth = λ u memory activations db di. reads u memory (registers_kept later way.to u activations db di);
-          here = reads way.to refl (keeps_itself later way.to);
-          writes = λ u keeps. writes u (fewer (first + length (types_fetched o w)) later way.to u (omega arith) keeps);
+          worth = λ u memory activations db di. reads u memory activations db di;
+          here = reads_here;
+          writes = λ then_now u alike keeps. writes then_now u alike (fewer (first + length (types_fetched o w)) later way.to u (omega arith) keeps);
         }
 
     -- and where one may be, and the local takes a value
@@ -209,14 +179,13 @@ module _ (g : List Located) (calls : Calls) (units : ℕ) (frames : Frames) (now
         let there : slice_get (own_of (holding v).activations) later ≡ Some v = own_same later v way.to (omega arith) in
         record {
           related = keep_local frames way.after way.to way.reached.related later v;
-          in_memory = place_in_memory;
           as_many = own_length later v way.to ∙ many;
           below = λ i h. own_other later v way.to i (λ same. absurd (omega arith)) ∙ way.reached.below i h;
           worth = λ u memory activations db di.
               local_read g later v u (ap (λ (running : List StActivation). slice_get (own_of running) later) activations ∙ there) ∙ sym e;
           here = local_read g later v (holding v) there ∙ sym e;
-          writes = λ u keeps.
-              writes u
+          writes = λ then_now u alike keeps.
+              writes then_now u alike
               (kept_on later way.to (holding v) u (local_kept later later v way.to (omega arith))
               (fewer (first + length (types_fetched o w)) later (holding v) u (omega arith) keeps));
         }
@@ -226,14 +195,14 @@ module _ (g : List Located) (calls : Calls) (units : ℕ) (frames : Frames) (now
         let many : length (own_of way.to.activations) ≡ length (own_of s.activations) = way.reached.as_many in
         begins true rest
         ∙ assign_goes_on g calls (var.Local later) (reading_of first o w) rest units way.to (holding v) v
-        (reads way.to refl (keeps_itself later way.to) ∙ e) (local_wrote g later v way.to (omega arith))
+        (reads_here ∙ e) (local_wrote g later v way.to (omega arith))
 
     held_stops : (x : Fault) → is_there ≡ Err x → StopsBefore g calls units s (fetching true) now.memory x
     held_stops x e rest =
         record {
           at = way.to;
           stops = begins true rest
-              ∙ assign_stops_at_value g calls (var.Local later) (reading_of first o w) rest units way.to x (reads way.to refl (keeps_itself later way.to) ∙ e);
+              ∙ assign_stops_at_value g calls (var.Local later) (reading_of first o w) rest units way.to x (reads_here ∙ e);
           areas = same_before;
         }
 
@@ -312,7 +281,7 @@ same_fault shown (Ok v) x e = absurd cc
 same_fault shown (Err y) x e = cc
 
 module _ (g : List Located) (calls : Calls) (units : ℕ) (frames : Frames) (now : Now) (s : State)
-    (related : Related frames now s) (first : ℕ) (o : Operand) (w : Width) (lies : IsOperand w o) where
+    (related : Related frames now s) (first : ℕ) (o : Operand) (w : Width) (lies : IsOperand frames.formals w o) where
   -- a row that reads its operand: its effect is one by what is read at the place
   module _ {A : Type 0} (read : Place → Contents → Result A Fault) (shown : A → Value) (as_read : IsReadAs w read shown)
       (effect : Place → Now → A → Effect) (rest : List Stmt) (room : first + length (types_fetched o w) ≤ length (own_of s.activations))
@@ -325,7 +294,7 @@ module _ (g : List Located) (calls : Calls) (units : ℕ) (frames : Frames) (now
     abbrev ReadGoal : Effect → Type 0
     ReadGoal = DoesInstruction (body_meaning g calls (fetch_of first o w ++ rest) units s) units first frames s now.memory
 
-    read_target : (way : Reaches g calls units frames now s first o) (target : Result Place Fault)
+    read_target : (way : Reaches g calls units frames now s first w o) (target : Result Place Fault)
         → way.target ≡ target → ReadGoal (with_place o now read_effect)
     read_target way (Err x) none =
         placed o now read_effect ReadGoal (Err x) (missed g calls units frames now s first o w way x none)
@@ -345,7 +314,7 @@ module _ (g : List Located) (calls : Calls) (units : ℕ) (frames : Frames) (now
         subst (λ (r : Result A Fault). ReadGoal (with_value r (effect p way.after)))
         (sym (same_fault shown (read p way.after.memory) x (sym (as_read p way.after.memory) ∙ e))) (stops rest)))
 
-    read_way : Reaches g calls units frames now s first o ⊎ Misses g calls units now s first o → ReadGoal (with_place o now read_effect)
+    read_way : Reaches g calls units frames now s first w o ⊎ Misses g calls units now s first o → ReadGoal (with_place o now read_effect)
     read_way (inl way) = read_target way way.target refl
     read_way (inr met) =
         let own : List Stmt = if may_fault o then set_local_of (first + length (types_reached o)) (reading_of first o w) ∷ [] else [] in
@@ -358,12 +327,13 @@ module _ (g : List Located) (calls : Calls) (units : ℕ) (frames : Frames) (now
         (with_place o now (λ p after. with_value (read p after.memory) (effect p after)))
     fetch_effect =
         read_way
-        (reaches g calls units frames now s related first o w lies
+        (reaches g calls units frames now s related first w o lies
         (omega (arith, length-append (types_reached o) (if may_fault o then type_of_width w ∷ [] else []))))
 
   -- a row that writes its operand and does not read it: an expression with a value in each related state is written
   -- as the row writes, and what stands behind comes to its end
   module _ (e : Expr) (v : Now → Value) (worth : (after : Now) (t : State) → Related frames after t → value g e t ≡ Ok (v after))
+      (fits : (after : Now) (t : State) → Related frames after t → IsOf (type_of_width w) (v after))
       (put : Place → Now → Result Contents Fault) (puts : (p : Place) (after : Now) → write_place (type_of_width w) p (v after) after.memory ≡ put p after)
       (row : Now → Now) (rest : List Stmt) (room : first + length (types_reached o) ≤ length (own_of s.activations))
       (does : (after : Now) (t : State) → Related frames after t
@@ -374,72 +344,55 @@ module _ (g : List Located) (calls : Calls) (units : ℕ) (frames : Frames) (now
     abbrev WriteGoal : Effect → Type 0
     WriteGoal = DoesInstruction (body_meaning g calls (reach_of first o ++ writing_of first o w e ∷ rest) units s) units first frames s now.memory
 
-    module _ (way : Reaches g calls units frames now s first o) where
-      -- where the way leads, the expression has its value
-      has_value : value g e way.to ≡ Ok (v way.after)
-      has_value = worth way.after way.to way.reached.related
+    module _ (way : Reaches g calls units frames now s first w o) where
+      -- where the way leads, the expression has its value, and the write does what it does in the program
+      abbrev Written : Result Contents Fault → Type 0
+      Written =
+          Puts (body_meaning g calls (writing_of first o w e ∷ rest) units way.to) (body_meaning g calls rest) units frames way.after way.to
 
-      write_done : (p : Place) → way.target ≡ Ok p → (memory : Result Contents Fault) → put p way.after ≡ memory
-          → write_place (type_of_width w) p (v way.after) way.to.memory ≡ and_then memory (λ m. Ok (without_cells m))
-      write_done p some memory wrote =
-          let lies : IsInMemory p.area = place_in_memory g calls units frames now s first o w way p some in
-          ap (write_place (type_of_width w) p (v way.after)) way.reached.related.memory
-          ∙ write_alike p way.after.memory lies (type_of_width w) (v way.after)
-          ∙ ap (λ (r : Result Contents Fault). and_then r (λ m. Ok (without_cells m))) (puts p way.after ∙ wrote)
+      written : (target : Result Place Fault) → way.target ≡ target
+          → Written (and_then target (λ p. write_place (type_of_width w) p (v way.after) way.after.memory))
+      written target is =
+          subst (λ (r : Result Place Fault). Written (and_then r (λ p. write_place (type_of_width w) p (v way.after) way.after.memory))) is
+          ((way.reached.writes way.after way.to way.reached.related (keeps_itself (first + length (types_reached o)) way.to)).puts
+          calls units e (v way.after) rest (fits way.after way.to way.reached.related) (worth way.after way.to way.reached.related))
 
-      by_written : (p : Place) → way.target ≡ Ok p → (memory : Result Contents Fault)
-          → put p way.after ≡ memory → WriteGoal (with_memory memory way.after (λ done. next (row done)))
-      by_written p some (Ok m) wrote =
-          let t : State = way.to in
-          let u : State = record t { memory = without_cells m } in
-          let cells : m.cells ≡ way.after.memory.cells =
-          write_keeps_cells p way.after.memory (place_in_memory g calls units frames now s first o w way p some)
-          (type_of_width w) (v way.after) m (puts p way.after ∙ wrote) in
-          let holds : HoldsBytes m = written_holds (type_of_width w) p (v way.after) way.after.memory m way.reached.related.bytes (puts p way.after ∙ wrote) in
-          let ended : Leads (body_meaning g calls rest units u) units (first + length (types_reached o)) frames u (row (record way.after { memory = m })) =
-          does (record way.after { memory = m }) u (keep_memory frames way.after t way.reached.related m holds cells) in
-          let many : length (own_of u.activations) ≡ length (own_of s.activations) = way.reached.as_many in
+      by_written : (p : Place) → (memory : Result Contents Fault) → Written memory → WriteGoal (with_memory memory way.after (λ done. next (row done)))
+      by_written p (Ok m) done =
+          let many : length (own_of way.to.activations) ≡ length (own_of s.activations) = way.reached.as_many in
+          let ended : Leads (body_meaning g calls rest units done.to) units (first + length (types_reached o)) frames done.to
+          (row (record way.after { memory = m })) = does (record way.after { memory = m }) done.to done.related in
           record {
             to = ended.to;
-            goes = way.goes (writing_of first o w e ∷ rest)
-                ∙ write_goes_on g (type_of_width w) p t (writing_of first o w)
-                (writes g calls units frames now s first o w way p some t (keeps_itself (first + length (types_reached o)) t))
-                calls units e rest (v way.after) (without_cells m) has_value (write_done p some (Ok m) wrote)
-                ∙ ended.goes;
+            goes = way.goes (writing_of first o w e ∷ rest) ∙ done.goes ∙ ended.goes;
             related = ended.related;
-            as_many = ended.as_many ∙ many;
-            below = λ i h. ended.below i (omega arith) ∙ way.reached.below i h;
+            as_many = ended.as_many ∙ ap length done.own ∙ many;
+            below = λ i h. ended.below i (omega arith) ∙ ap (λ (xs : List Value). slice_get xs i) done.own ∙ way.reached.below i h;
           }
-      by_written p some (Err x) wrote =
-          let t : State = way.to in
+      by_written p (Err x) done =
           record {
-            at = t;
-            stops = way.goes (writing_of first o w e ∷ rest)
-                ∙ write_stops_at_place g (type_of_width w) p t (writing_of first o w)
-                (writes g calls units frames now s first o w way p some t (keeps_itself (first + length (types_reached o)) t))
-                calls units e rest (v way.after) x has_value (write_done p some (Err x) wrote);
+            at = way.to;
+            stops = way.goes (writing_of first o w e ∷ rest) ∙ done;
             areas = same_before g calls units frames now s first o w way;
           }
 
       write_target : (target : Result Place Fault) → way.target ≡ target → WriteGoal (with_place o now write_effect)
       write_target (Ok p) some =
           placed o now write_effect WriteGoal (Ok (record { place = p; after = way.after }))
-          (is_found g calls units frames now s first o w way p some) (by_written p some (put p way.after) refl)
+          (is_found g calls units frames now s first o w way p some)
+          (by_written p (put p way.after) (subst Written (puts p way.after) (written (Ok p) some)))
       write_target (Err x) none =
           placed o now write_effect WriteGoal (Err x) (missed g calls units frames now s first o w way x none)
           (record {
             at = way.to;
-            stops = way.goes (writing_of first o w e ∷ rest)
-                ∙ write_misses g (type_of_width w) way.target way.to (writing_of first o w)
-                (way.reached.writes w way.to (keeps_itself (first + length (types_reached o)) way.to))
-                calls units e rest (v way.after) x has_value none;
+            stops = way.goes (writing_of first o w e ∷ rest) ∙ written (Err x) none;
             areas = same_before g calls units frames now s first o w way;
           })
 
-    write_way : Reaches g calls units frames now s first o ⊎ Misses g calls units now s first o → WriteGoal (with_place o now write_effect)
+    write_way : Reaches g calls units frames now s first w o ⊎ Misses g calls units now s first o → WriteGoal (with_place o now write_effect)
     write_way (inl way) = write_target way way.target refl
     write_way (inr met) = placed o now write_effect WriteGoal (Err met.met) met.is (met.stops (writing_of first o w e ∷ rest))
 
     pub reach_effect : DoesInstruction (body_meaning g calls (reach_of first o ++ writing_of first o w e ∷ rest) units s) units first frames s now.memory
         (with_place o now (λ p after. with_memory (put p after) after (λ done. next (row done))))
-    reach_effect = write_way (reaches g calls units frames now s related first o w lies room)
+    reach_effect = write_way (reaches g calls units frames now s related first w o lies room)

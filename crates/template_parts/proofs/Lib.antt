@@ -1,5 +1,7 @@
+pub mod AfterWrites
 pub mod Alike
 pub mod Cells
+pub mod Constants
 pub mod Example
 pub mod FetchBounds
 pub mod FetchOrder
@@ -9,6 +11,7 @@ pub mod Numbers
 pub mod Obligations
 pub mod Operands
 pub mod Pointers
+pub mod Putting
 pub mod Reaching
 pub mod ReadRegisters
 pub mod RegisterEffects

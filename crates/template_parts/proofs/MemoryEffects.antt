@@ -1,5 +1,5 @@
 -- Rows that read or write a place of memory: what an access does there, by a direct variable or by a pointer in a local.
-use Rattle.std.proofs.Common.{◌≡◌, ℕ, ◌^◌, ◌<◌, pos, List, ◌∷◌, length, Result, Ok, Err, Some, refl, ap, subst, ◌∙◌, arith}
+use Rattle.std.proofs.Common.{◌≡◌, ℕ, ◌^◌, ◌<◌, ◌≤◌, pos, List, ◌∷◌, length, Result, Ok, Err, Some, refl, ap, subst, ◌∙◌, arith}
 use Rattle.std.specs.Prelude.{slice_get}
 use Rattle.memory_areas.specs.Access.{HoldsBytes, and_then, place_aimed, aim_of_pointer}
 use Rattle.memory_areas.specs.Areas.{Contents}
@@ -10,7 +10,7 @@ use Rattle.s7_base.specs.declared.register.Reg.TheVariants as reg
 use Rattle.s7_base.specs.declared.word.Width.{Width}
 use Rattle.stl_tree.specs.Now.{Effect, Now, depth, with_value}
 use Rattle.st_tree.specs.Meaning.{Calls, Faults, Out, body_meaning, state_or_fault, then_do}
-use Rattle.st_tree.specs.State.{State, area_read, area_write, own_of, place_of, pointed_at, read_place, write_at, write_place}
+use Rattle.st_tree.specs.State.{Activation as Running, State, area_read, area_write, depth as depth_of_state, own_of, place_of, pointed_at, read_place, write_at, write_place}
 use Rattle.st_tree.specs.Value.{value}
 use Rattle.st_tree.specs.Values.{pattern, type_of_width}
 use Rattle.st_tree.specs.declared.expr.Expr.{Expr}
@@ -28,7 +28,7 @@ use Rattle.template_parts.specs.Builders.{local_of}
 use Rattle.template_parts.specs.Related.{Frames, Related}
 use Rattle.template_parts.proofs.Alike.{as_deep_as, place_now, same_db, same_di, same_place}
 use Rattle.template_parts.specs.DoesInstruction.{DoesInstruction, Stops}
-use Rattle.st_tree.proofs.Locals.{local_read}
+use Rattle.st_tree.proofs.Locals.{as_deep, local_read, own_other, with_own}
 use Rattle.template_parts.proofs.Pointers.{dword}
 
 -- a row by a value that a fault may stand in the place of
@@ -49,6 +49,36 @@ pub record KeepsWay (many : ℕ) (t u : State) : Type 0 where
 
 pub keeps_itself : (many : ℕ) (t : State) → KeepsWay many t t
 keeps_itself many t = record { db = refl; di = refl; deep = refl; locals = λ i h. refl }
+
+-- a way that is kept with more locals is kept
+pub fewer : (many few : ℕ) (t u : State) → few ≤ many → KeepsWay many t u → KeepsWay few t u
+fewer many few t u h keeps = record { db = keeps.db; di = keeps.di; deep = keeps.deep; locals = λ i small. keeps.locals i (omega arith) }
+
+-- and so from a state before
+pub kept_on : (many : ℕ) (t u x : State) → KeepsWay many t u → KeepsWay many u x → KeepsWay many t x
+kept_on many t u x h k =
+    record { db = k.db ∙ h.db; di = k.di ∙ h.di; deep = k.deep ∙ h.deep; locals = λ i small. k.locals i small ∙ h.locals i small }
+
+-- registers and memory may change
+pub registers_kept : (many : ℕ) (t u : State) → u.activations ≡ t.activations
+    → u.registers reg.DbNo ≡ t.registers reg.DbNo → u.registers reg.DiNo ≡ t.registers reg.DiNo → KeepsWay many t u
+registers_kept many t u activations db di =
+    record {
+      db = db;
+      di = di;
+      deep = ap length activations;
+      locals = λ i small. ap (λ (running : List Running). slice_get (own_of running) i) activations;
+    }
+
+-- and so may a local behind those of the way
+pub local_kept : (many i : ℕ) (v : Value) (t : State) → many ≤ i → KeepsWay many t (with_own i v t)
+local_kept many i v t h =
+    record {
+      db = refl;
+      di = refl;
+      deep = as_deep t.activations (depth_of_state t) i v;
+      locals = λ j small. own_other i v t j (λ same. absurd (omega arith));
+    }
 
 -- What an access does
 

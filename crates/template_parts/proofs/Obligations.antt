@@ -5,6 +5,7 @@ use Rattle.std.specs.List.{flat_map}
 use Rattle.std.proofs.lemmas.List.{append-nil}
 use Rattle.std.proofs.lemmas.List.Elements.{All-append}
 use Rattle.s7_base.specs.declared.register.Reg.{Reg}
+use Rattle.stl_tree.specs.Accepted.{HasOperand, Widths}
 use Rattle.stl_tree.specs.Reads.{reads_of}
 use Rattle.stl_tree.specs.declared.program.Op.{Op}
 use Rattle.st_tree.proofs.Common.{flat_map-append}
@@ -21,7 +22,7 @@ use Rattle.graph_rules.specs.Divisors.{IsSureDivisor, divisors_in}
 use Rattle.graph_rules.specs.Runs.{IsWritten, written_by_more}
 use Rattle.template_parts.specs.Nodes.{nodes_in}
 use Rattle.template_parts.specs.Reading.{IsAmong}
-use Rattle.template_parts.specs.Templates.{AreInOrder, AreTyped, Do, IsLow, IsPlainBody, IsTemplate, Serves}
+use Rattle.template_parts.specs.Templates.{AreInOrder, AreTyped, Do, HasFormals, IsLow, IsPlainBody, IsTemplate, Serves}
 use Rattle.graph_rules.specs.Writes.{AreWrites}
 use Rattle.template_parts.proofs.ReadRegisters.{AllRead, Has}
 
@@ -65,17 +66,18 @@ order_in_parts low first middle one two xs ys e h k =
 -- Templates
 
 -- a template, by what is shown of its statements one thing at a time
-pub is_template : (registers : List Reg) (first : ℕ) (types : List StType) (body : List Stmt) → AreWrites body → length body ≤ 11 → nodes_in body ≤ 91
-    → ((P : Reg → Type 0) → Has P registers → AllRead P (body ++ [])) → disorder first first body ≡ 0 → locals_set body ≡ length types
-    → ((sight : UnitScope) → AreTyped sight first types → IsPlainBody sight (body ++ [])) → IsTemplate registers first types body
-is_template registers first types body writes few small reads order sets plain =
+pub is_template : (o : Op) (first : ℕ) (types : List StType) (body : List Stmt) → AreWrites body → length body ≤ 11 → nodes_in body ≤ 91
+    → ((P : Reg → Type 0) → Has P (reads_of o) → AllRead P (body ++ [])) → disorder first first body ≡ 0 → locals_set body ≡ length types
+    → ((sight : UnitScope) (formals : Widths) → HasFormals sight formals → HasOperand formals o → AreTyped sight first types → IsPlainBody sight (body ++ []))
+    → IsTemplate o first types body
+is_template o first types body writes few small reads order sets plain =
     record {
       writes = writes;
       few = few;
       small = small;
-      reads = alone (AllRead (λ (r : Reg). IsAmong r registers)) body (reads (λ (r : Reg). IsAmong r registers) (λ r h. h));
+      reads = alone (AllRead (λ (r : Reg). IsAmong r (reads_of o))) body (reads (λ (r : Reg). IsAmong r (reads_of o)) (λ r h. h));
       locals = ordered first first (length types) body order sets;
-      plain = λ sight typed. alone (IsPlainBody sight) body (plain sight typed);
+      plain = λ sight formals named operand typed. alone (IsPlainBody sight) body (plain sight formals named operand typed);
     }
 
 -- What is counted of statements whose locals have these types
@@ -95,14 +97,15 @@ with_sizes body m n writes e f few small order sets =
 
 -- statements with sizes serve an instruction, by what they do and read and how they are typed
 pub by_sizes : (o : Op) (first : ℕ) (types : List StType) (body : List Stmt) → HasSizes first types body → Do o first types body
-    → ((P : Reg → Type 0) → Has P (reads_of o) → AllRead P (body ++ [])) → ((sight : UnitScope) → AreTyped sight first types → IsPlainBody sight (body ++ []))
+    → ((P : Reg → Type 0) → Has P (reads_of o) → AllRead P (body ++ []))
+    → ((sight : UnitScope) (formals : Widths) → HasFormals sight formals → HasOperand formals o → AreTyped sight first types → IsPlainBody sight (body ++ []))
     → Serves o first types body
 by_sizes o first types body sizes does reads plain =
-    record { does = does; template = is_template (reads_of o) first types body sizes.writes sizes.few sizes.small reads sizes.order sizes.sets plain }
+    record { does = does; template = is_template o first types body sizes.writes sizes.few sizes.small reads sizes.order sizes.sets plain }
 
 -- Plain bodies
 
-well_typed_in_parts : (sight : UnitScope) (xs ys : List Stmt) → are_well_typed sight false xs ≡ true → are_well_typed sight false ys ≡ true
+pub well_typed_in_parts : (sight : UnitScope) (xs ys : List Stmt) → are_well_typed sight false xs ≡ true → are_well_typed sight false ys ≡ true
     → are_well_typed sight false (xs ++ ys) ≡ true
 well_typed_in_parts sight [] ys h k = k
 well_typed_in_parts sight (x ∷ xs) ys h k =
@@ -113,11 +116,11 @@ well_typed_in_parts sight (x ∷ xs) ys h k =
     by true e others = others e
     by false e others = absurd cc
 
-nesting_in_parts : (xs ys : List Stmt) → body_nesting (xs ++ ys) ≡ max (body_nesting xs) (body_nesting ys)
+pub nesting_in_parts : (xs ys : List Stmt) → body_nesting (xs ++ ys) ≡ max (body_nesting xs) (body_nesting ys)
 nesting_in_parts [] ys = omega arith
 nesting_in_parts (x ∷ xs) ys = omega (arith, nesting_in_parts xs ys)
 
-calls_in_parts : (xs ys : List Stmt) → calls_in (xs ++ ys) ≡ calls_in xs ++ calls_in ys
+pub calls_in_parts : (xs ys : List Stmt) → calls_in (xs ++ ys) ≡ calls_in xs ++ calls_in ys
 calls_in_parts xs ys =
     ap (flat_map (λ (x : Stmt). call_step (out-Stmt x))) (flat_map-append (λ (x : Stmt). x ∷ inner_statements x) xs ys)
     ∙ flat_map-append (λ (x : Stmt). call_step (out-Stmt x)) (statements_in xs) (statements_in ys)

@@ -49,6 +49,9 @@ module _ (P : Reg → Type 0) where
   pub direct_reads : (a : AreaName) (byte x : ℕ) (w : Width) → Reads (expr.Read (var.Direct a byte x w))
   direct_reads a byte x w = subst (EachRegister P) (sym (reads_of_read (var.Direct a byte x w))) tt
 
+  pub formal_reads : (i : ℕ) → Reads (expr.Read (var.Formal i))
+  formal_reads i = subst (EachRegister P) (sym (reads_of_read (var.Formal i))) tt
+
   pub constant_reads : (ty : StType) (n : ℤ) → Reads (expr.Literal ty n)
   constant_reads ty n = subst (EachRegister P) (sym (reads_of_literal ty n)) tt
 

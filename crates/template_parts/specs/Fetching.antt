@@ -24,6 +24,7 @@ use Rattle.template_parts.specs.Pointing.{crossing_of, in_area_of, sum_of}
 abbrev pub reach_of : ℕ → Operand → List Stmt
 reach_of first (operand.Direct a byte bit) = []
 reach_of first (operand.Opened n byte bit) = set_of reg.DbNo (constant_of type.Word (pos n)) ∷ []
+reach_of first (operand.Formal k) = []
 reach_of first (operand.ByMemory a pointer_area byte) =
     set_local_of first (expr.Read (var.Direct pointer_area byte 0 width.Dword))
     ∷ set_local_of (first + 1) (in_area_of a (local_of first)) ∷ []
@@ -34,6 +35,7 @@ reach_of first (operand.Crossing r offset) = set_local_of first (crossing_of r o
 abbrev pub types_reached : Operand → List StType
 types_reached (operand.Direct a byte bit) = []
 types_reached (operand.Opened n byte bit) = []
+types_reached (operand.Formal k) = []
 types_reached (operand.ByMemory a pointer_area byte) = type.Dword ∷ type.Dword ∷ []
 types_reached (operand.ByRegister a r offset) = type.Dword ∷ []
 types_reached (operand.Crossing r offset) = type.Dword ∷ []
@@ -47,17 +49,19 @@ pointer_local first o = first
 abbrev pub reading_of : ℕ → Operand → Width → Expr
 reading_of first (operand.Direct a byte bit) w = expr.Read (var.Direct a byte bit w)
 reading_of first (operand.Opened n byte bit) w = expr.Read (var.Direct area.Db byte bit w)
+reading_of first (operand.Formal k) w = expr.Read (var.Formal k)
 reading_of first o w = expr.AreaRead w (local_of (pointer_local first o))
 
 -- a write of an operand that was reached
 abbrev pub writing_of : ℕ → Operand → Width → Expr → Stmt
 writing_of first (operand.Direct a byte bit) w e = stmt.Assign (var.Direct a byte bit w) e
 writing_of first (operand.Opened n byte bit) w e = stmt.Assign (var.Direct area.Db byte bit w) e
+writing_of first (operand.Formal k) w e = stmt.Assign (var.Formal k) e
 writing_of first o w e = stmt.AreaWrite w (local_of (pointer_local first o)) e
 
 -- Fetching
 
--- an access to an operand may fault: it lies in a data block, or is found by a pointer
+-- an access to an operand may fault: it lies in a data block, or is found by a pointer; a formal stands for what may
 abbrev pub may_fault : Operand → Bool
 may_fault (operand.Direct area.Db byte bit) = true
 may_fault (operand.Direct area.Di byte bit) = true

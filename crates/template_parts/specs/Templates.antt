@@ -2,6 +2,8 @@
 -- and are those of a plain graph.
 use Rattle.std.specs.Prelude.{◌≡◌, ℕ, ◌+◌, ◌≤◌, ◌<◌, true, false, List, [], length, All, slice_get, Some}
 use Rattle.s7_base.specs.declared.register.Reg.{Reg}
+use Rattle.s7_base.specs.declared.word.Width.{Width}
+use Rattle.stl_tree.specs.Accepted.{HasOperand, Widths}
 use Rattle.stl_tree.specs.Instructions.{effect_of}
 use Rattle.stl_tree.specs.Now.{Now}
 use Rattle.stl_tree.specs.Reads.{reads_of}
@@ -11,6 +13,7 @@ use Rattle.st_tree.specs.Meaning.{Calls, body_meaning}
 use Rattle.st_tree.specs.Nesting.{body_nesting}
 use Rattle.st_tree.specs.BodyParts.{calls_in, expressions_in, height, reads_in}
 use Rattle.st_tree.specs.State.{State, own_of}
+use Rattle.st_tree.specs.Values.{type_of_width}
 use Rattle.st_tree.specs.WellTyped.{UnitScope, are_well_typed, variable_type}
 use Rattle.st_tree.specs.declared.expr.Expr.{Expr}
 use Rattle.st_tree.specs.declared.expr.StType.{StType}
@@ -40,6 +43,11 @@ pub record IsPlainBody (sight : UnitScope) (body : List Stmt) : Type 0 where
   pub divisors : All IsSureDivisor (divisors_in body)
   pub calls : calls_in body ≡ []
 
+-- the formals have the types of these widths
+abbrev pub HasFormals : UnitScope → Widths → Type 0
+HasFormals sight formals =
+    (k : ℕ) (w : Width) → slice_get formals k ≡ Some w → variable_type sight (var.Formal k) ≡ Some (type_of_width w)
+
 -- the locals from one on have these types
 abbrev pub AreTyped : UnitScope → ℕ → List StType → Type 0
 AreTyped sight first types =
@@ -60,25 +68,28 @@ pub record AreInOrder (low first count : ℕ) (body : List Stmt) : Type 0 where
 
 -- Templates
 
--- statements that may be the template of an instruction which reads these registers, with locals of these types from
--- the first one on, and no others: at most eleven, which write one thing each, and at most 91 nodes of expressions
-pub record IsTemplate (registers : List Reg) (first : ℕ) (types : List StType) (body : List Stmt) : Type 0 where
+-- statements that may be the template of an instruction: they read its registers alone, and locals of these types from
+-- the first one on, and no others; they are at most eleven, which write one thing each, with at most 91 nodes of
+-- expressions; and they are plain where a unit has these locals, and formals that the operand of the instruction may be
+pub record IsTemplate (o : Op) (first : ℕ) (types : List StType) (body : List Stmt) : Type 0 where
   pub writes : AreWrites body
   pub few : length body ≤ 11
   pub small : nodes_in body ≤ 91
-  pub reads : EachRegister (λ (r : Reg). IsAmong r registers) (reads_in body)
+  pub reads : EachRegister (λ (r : Reg). IsAmong r (reads_of o)) (reads_in body)
   pub locals : AreInOrder first first (length types) body
-  pub plain : (sight : UnitScope) → AreTyped sight first types → IsPlainBody sight body
+  pub plain : (sight : UnitScope) (formals : Widths) → HasFormals sight formals → HasOperand formals o
+      → AreTyped sight first types → IsPlainBody sight body
 
--- statements do what the instruction does, in each pair of related states in which the unit has their locals
+-- statements do what the instruction does, in each pair of related states of a block in which it may stand, where the
+-- unit has their locals
 abbrev pub Do : Op → ℕ → List StType → List Stmt → Type 0
 Do o first types body =
     (globals : List Located) (calls : Calls) (units : ℕ) (frames : Frames) (now : Now) (s : State)
-    → Related frames now s
+    → HasOperand frames.formals o → Related frames now s
     → first + length types ≤ length (own_of s.activations)
     → DoesInstruction (body_meaning globals calls body units s) units first frames s now.memory (effect_of o now)
 
 -- what the statements of an instruction owe that opens and closes no bracket
 pub record Serves (o : Op) (first : ℕ) (types : List StType) (body : List Stmt) : Type 0 where
   pub does : Do o first types body
-  pub template : IsTemplate (reads_of o) first types body
+  pub template : IsTemplate o first types body

@@ -13,7 +13,8 @@ use st_tree::{Expr, StType, Stmt, Var};
 use std::alloc::Global;
 use stl_tree::{Ar, Operand};
 
-/// Whether an access to an operand may fault: it lies in a data block, or is found by a pointer.
+/// Whether an access to an operand may fault: it lies in a data block, or is found by a pointer; a formal stands for
+/// what may.
 pub fn may_fault(operand: &Operand) -> bool
     ensures { result ≡ may_fault operand.now }
 {
@@ -34,7 +35,7 @@ pub fn push_reach(
     ensures { OnOk result (steps.new ≡ steps.old ++ reach_of first operand.now) }
 {
     match *operand {
-        Operand::Direct(_, _, _) => Ok(()),
+        Operand::Direct(_, _, _) | Operand::Formal(_) => Ok(()),
         Operand::Opened(number, _, _) => {
             steps.push(set_register(Reg::DbNo, constant(StType::Word, i64::from(number))))
         }
@@ -105,6 +106,7 @@ pub fn reading(alloc: Global, first: u32, operand: &Operand, width: Width) -> Re
         Operand::Opened(_, byte, bit) => {
             Ok(Expr::Read(Var::Direct(AreaName::Db, byte, bit, width)))
         }
+        Operand::Formal(position) => Ok(Expr::Read(Var::Formal(position))),
         _ => {
             let pointer = local(pointer_local(first, operand));
             Ok(Expr::AreaRead(width, Boxed::new(alloc, pointer)?))
@@ -130,6 +132,7 @@ pub fn writing(
         Operand::Opened(_, byte, bit) => {
             Ok(Stmt::Assign(Var::Direct(AreaName::Db, byte, bit, width), value))
         }
+        Operand::Formal(position) => Ok(Stmt::Assign(Var::Formal(position), value)),
         _ => {
             let pointer = local(pointer_local(first, operand));
             let (pointer, value) = box_both(alloc, pointer, value)?;
@@ -155,7 +158,7 @@ fn behind_reached(first: u32, operand: &Operand) -> u32
     ensures { result ≡ first + length (types_reached operand.now) }
 {
     match *operand {
-        Operand::Direct(_, _, _) | Operand::Opened(_, _, _) => first,
+        Operand::Direct(_, _, _) | Operand::Opened(_, _, _) | Operand::Formal(_) => first,
         Operand::ByMemory(_, _, _) => first + 2,
         Operand::ByRegister(_, _, _) | Operand::Crossing(_, _) => first + 1,
     }
@@ -166,7 +169,7 @@ pub fn types_reached(operand: &Operand) -> &'static [StType]
     ensures { result.now ≡ types_reached operand.now }
 {
     match *operand {
-        Operand::Direct(_, _, _) | Operand::Opened(_, _, _) => &[],
+        Operand::Direct(_, _, _) | Operand::Opened(_, _, _) | Operand::Formal(_) => &[],
         Operand::ByMemory(_, _, _) => &[StType::Dword, StType::Dword],
         Operand::ByRegister(_, _, _) | Operand::Crossing(_, _) => &[StType::Dword],
     }
@@ -180,7 +183,9 @@ pub fn types_fetched(operand: &Operand, width: Width) -> &'static [StType]
         return &[];
     }
     match *operand {
-        Operand::Direct(_, _, _) | Operand::Opened(_, _, _) => one_of_width(width),
+        Operand::Direct(_, _, _) | Operand::Opened(_, _, _) | Operand::Formal(_) => {
+            one_of_width(width)
+        }
         Operand::ByMemory(_, _, _) => third_of_width(width),
         Operand::ByRegister(_, _, _) | Operand::Crossing(_, _) => second_of_width(width),
     }

@@ -16,7 +16,7 @@ use Rattle.stl_grammar.specs.declared.declaration.Section.{Section}
 use Rattle.stl_grammar.specs.declared.declaration.Section.TheVariants as part
 use Rattle.stl_grammar.specs.declared.declaration.Written.{Written}
 use Rattle.stl_grammar.specs.declared.item.Item.{Item}
-use Rattle.stl_grammar.specs.declared.item.Item.TheVariants.{Opens, Mark, Starts, Symbol, Declares, Closes, Instr, Initial, Ends}
+use Rattle.stl_grammar.specs.declared.item.Item.TheVariants.{Opens, Mark, Starts, Symbol, Declares, InstanceOf, Closes, Instr, Initial, Ends}
 use Rattle.stl_grammar.specs.declared.item.Reading.{Reading}
 use Rattle.stl_tree.specs.declared.raw.BlockKind.{BlockKind}
 use Rattle.stl_tree.specs.declared.raw.BlockKind.TheVariants as block
@@ -96,6 +96,7 @@ item_code reading (Opens line kind name result) h = opened_code line kind name r
 item_code reading (Starts section) h = record { done = h.done; last = h.last }
 item_code reading (Symbol line) h = record { done = h.done; last = h.last }
 item_code reading Mark h = h
+item_code reading (InstanceOf name) h = record { done = h.done; last = h.last }
 item_code reading (Declares name line type) h = type_code name line type type.innermost reading h
 item_code reading (Closes items) h = closed_code items reading.structs reading h
 item_code reading (Instr instr) h = record { done = h.done; last = changed (with_instr instr) (λ raw k. k) reading.last h.last }

@@ -1,7 +1,6 @@
 -- The jumps of a body that breaks no rule lead to its instructions, and its jump lists are whole.
-use Rattle.std.proofs.Common.{◌≡◌, ℕ, zero, suc, ◌+◌, ◌-◌, ◌≤◌, ◌<◌, ◌⊎◌, inl, inr, List, [], ◌∷◌, ◌++◌, length, drop, get_or, Bool, true, false, not, cond, ◌&&◌, ◌==◌, nat_eq, Option, Some, None, is_none, refl, sym, ap, subst, ◌∙◌, arith}
-use Rattle.std.specs.Prelude.{All, min, nat_le, nat_lt, option_and_then, slice_get}
-use Rattle.std.specs.Cmp.Lexicographic.{pointwise}
+use Rattle.std.proofs.Common.{◌≡◌, ℕ, zero, suc, ◌+◌, ◌-◌, ◌≤◌, ◌<◌, ◌⊎◌, inl, inr, List, [], ◌∷◌, ◌++◌, length, drop, get_or, Bool, true, false, not, cond, ◌&&◌, ◌==◌, Option, Some, None, is_none, refl, sym, ap, subst, ◌∙◌, arith}
+use Rattle.std.specs.Prelude.{All, nat_le, nat_lt, option_and_then, slice_get}
 use Rattle.std.specs.List.{prefix_len}
 use Rattle.std.proofs.Math.Nat.{min-eq_left, min-le_left}
 use Rattle.std.proofs.lemmas.Bool.{and_parts, eqb-true, leb-false, leb-true, ltb-false, ltb-true, not-false}
@@ -20,15 +19,14 @@ use Rattle.stl_rules.proofs.Lists.{no_parts}
 use Rattle.stl_statement_grammar.specs.Mnemonics.{mnemonic_named}
 use Rattle.stl_statement_grammar.specs.declared.mnemonic.Mnemonic.{Mnemonic}
 use Rattle.stl_statement_grammar.specs.declared.mnemonic.Mnemonic.TheVariants as is
-use Rattle.stl_tree.specs.Accepted.{AreJumps, AreListed, AreUnlabelled, HasList, HaveLists, IsAlways, IsOutside, IsTarget, open_at, targets_of}
-use Rattle.stl_tree.specs.Brackets.{open_behind}
+use Rattle.stl_tree.specs.Accepted.{AreJumps, AreListed, HasList, HaveLists, IsAlways, IsOutside, IsTarget, Widths, open_at, targets_of}
 use Rattle.stl_tree.specs.declared.program.Instr.{Instr}
 use Rattle.stl_tree.specs.declared.program.JumpTest.TheVariants as jump
 use Rattle.stl_tree.specs.declared.program.Op.{Op}
 use Rattle.stl_tree.specs.declared.program.Op.TheVariants as op
 use Rattle.stl_tree.specs.declared.raw.RawInstr.{RawInstr}
 use Rattle.verdict_laws.proofs.DataBlockLaws.{not_broken}
-use Rattle.verdict_laws.proofs.ProgramLaws.{AimsAt, HasPart, IsClear, Turn, always, behind_instr, instr_is, lists, turn_by, turn_of}
+use Rattle.verdict_laws.proofs.ProgramLaws.{AimsAt, HasPart, IsClear, always, behind_instr, instr_is, lists, turn_by, turn_of, widths_of_block}
 
 -- Labels
 
@@ -79,11 +77,12 @@ always_op rest (op.Jump jump.Always to) e = tt
 always_op rest other e = absurd cc
 
 -- the targets of an instruction aim so
-aimed : (rest : List RawInstr) (o : Op) (aim Q : ℕ → Type 0) → ((to : ℕ) → aim to → Q to) → HasPart aim o → All Q (targets_of (with_list rest o))
-aimed rest (op.Jump t to) aim Q k h = All-cons Q to [] (k to h.1) (All-nil Q)
-aimed rest (op.Loop to) aim Q k h = All-cons Q to [] (k to h) (All-nil Q)
-aimed rest (op.JumpList count to) aim Q k h = All-cons Q to [] (k to h) (All-nil Q)
-aimed rest other aim Q k h = All-nil Q
+aimed : (formals : Widths) (rest : List RawInstr) (o : Op) (aim Q : ℕ → Type 0) → ((to : ℕ) → aim to → Q to) → HasPart formals aim o
+    → All Q (targets_of (with_list rest o))
+aimed formals rest (op.Jump t to) aim Q k h = All-cons Q to [] (k to h.1) (All-nil Q)
+aimed formals rest (op.Loop to) aim Q k h = All-cons Q to [] (k to h) (All-nil Q)
+aimed formals rest (op.JumpList count to) aim Q k h = All-cons Q to [] (k to h) (All-nil Q)
+aimed formals rest other aim Q k h = All-nil Q
 
 -- Bodies
 
@@ -137,7 +136,8 @@ module _ (scope : OperandScope) (clear : IsClear scope) where
       let of_known : (to : ℕ) → AimsAt scope label to → Q to =
       λ to aim. let t = known label raw.line to aim p.target in subst Q (sym t.is) (k t.label t.there) in
       All-cons (λ (i : Instr). All Q (targets_of i.op)) (instr_of scope raw rest) (instrs_of scope rest ++ last)
-      (aimed rest (or_any (op_of scope raw.op)) (AimsAt scope label) Q of_known (instr_is scope raw clear (All-head Kept raw rest all)).0)
+      (aimed (widths_of_block scope.block) rest (or_any (op_of scope raw.op))
+      (AimsAt scope label) Q of_known (instr_is scope raw clear (All-head Kept raw rest all)).0)
       (all_targets Q k (at + 1) rest (All-tail Kept raw rest all) p.more)
 
   -- no bracket is open at a label
@@ -214,7 +214,7 @@ module _ (scope : OperandScope) (clear : IsClear scope) where
       let i = instr_is scope raw clear own in
       ((λ t. by (or_any (op_of scope raw.op)) i.0 i.1 t), (parts at raw rest e).more)
     where
-      by : (o : Op) → HasPart (AimsAt scope (label_of raw.op.operand)) o → turn_of o ≡ turn_by (mnemonic_named raw.op.mnemonic)
+      by : (o : Op) → HasPart (widths_of_block scope.block) (AimsAt scope (label_of raw.op.operand)) o → turn_of o ≡ turn_by (mnemonic_named raw.op.mnemonic)
           → turn_by (mnemonic_named raw.op.mnemonic) ≡ lists → 1 ≤ listed_in rest
       by (op.JumpList count to) part is t = (whole_of at raw rest to part t e).some
       by (op.Jump jump.Always to) part is t = let apart : always ≡ lists = is ∙ t in absurd cc
@@ -266,7 +266,7 @@ module _ (scope : OperandScope) (clear : IsClear scope) where
         let i = instr_is scope raw clear own in
         by (or_any (op_of scope raw.op)) i.0 (sym i.1)
       where
-        by : (o : Op) → HasPart (AimsAt scope (label_of raw.op.operand)) o → turn_by (mnemonic_named raw.op.mnemonic) ≡ turn_of o
+        by : (o : Op) → HasPart (widths_of_block scope.block) (AimsAt scope (label_of raw.op.operand)) o → turn_by (mnemonic_named raw.op.mnemonic) ≡ turn_of o
             → HasList (body_of scope) at (with_list rest o) (instrs_of scope rest ++ last)
         by (op.JumpList count to) part t =
             let w = whole_of at raw rest to part t e in

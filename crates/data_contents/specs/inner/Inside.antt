@@ -4,7 +4,7 @@ use Rattle.s7_base.specs.declared.word.Width.{Width}
 use Rattle.stl_rules.specs.Extents.{extent_of_width, width_of}
 use Rattle.stl_rules.specs.Layouts.{breaks_in}
 use Rattle.stl_rules.specs.Paths.{component_in}
-use Rattle.stl_rules.specs.Raw.{most_in_block}
+use Rattle.stl_rules.specs.Interfaces.{most_in_block}
 use Rattle.stl_rules.specs.declared.layout.Component.{Component}
 use Rattle.stl_tree.specs.declared.raw.Declaration.{Declaration}
 use Rattle.stl_tree.specs.declared.raw.ElemType.{ElemType}

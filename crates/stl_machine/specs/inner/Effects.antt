@@ -16,10 +16,11 @@ HasEffect defined (Ok (Go to)) before after = defined ≡ go to (now_of after)
 HasEffect defined (Ok Leave) before after = defined ≡ leave (now_of after)
 HasEffect defined (Err f) before after = (defined ≡ fault f) × (after.memory ≡ before.memory)
 
--- an instruction had its defined effect, and the activations are as they were
+-- an instruction had its defined effect, and the activations and the position in the body are as they were
 pub record Does (defined : Effect) (result : Result Found Fault) (before after : State) : Type 0 where
   pub effect : HasEffect defined result before after
   pub frames : after.frames ≡ before.frames
+  pub at : after.at ≡ before.at
 
 -- the next instruction of a run; none where it is over, or where no instruction follows
 abbrev pub next_of : Standing → Option Instr

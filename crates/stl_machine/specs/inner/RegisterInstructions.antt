@@ -1,4 +1,4 @@
--- Which instructions work on the registers alone.
+-- Which instructions work on the registers alone, and which call no block.
 use Rattle.stl_tree.specs.declared.program.Op.{Op}
 use Rattle.stl_tree.specs.declared.program.Op.TheVariants as op
 
@@ -24,3 +24,9 @@ IsOnRegisters op.ExchangeAr = Unit {0}
 IsOnRegisters (op.AddAr a amount) = Unit {0}
 IsOnRegisters op.ExchangeDb = Unit {0}
 IsOnRegisters elsewhere = ⊥
+
+-- which instructions call no block
+abbrev pub IsNoCall : Op → Type 0
+IsNoCall (op.Call c) = ⊥
+IsNoCall (op.CallIf c) = ⊥
+IsNoCall other = Unit {0}

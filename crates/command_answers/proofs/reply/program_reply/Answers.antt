@@ -1,5 +1,5 @@
 use Rattle.std.proofs.Common.{refl, ap}
-use Rattle.command_answers.proofs.Answering.{done_alone, its_blocks, translates}
+use Rattle.command_answers.proofs.Answering.{done_alone, translates}
 use Rattle.command_answers.proofs.InputsRead.{image_reads}
 use Rattle.command_answers.specs.Answer.{AnswersCheck, AnswersRunStl, AnswersTranslate, accepted_line}
 use Rattle.command_answers.specs.inner.Replies.{work_of}
@@ -22,6 +22,3 @@ returns-in-Check-clause-answer g c =
 pub returns-in-Run-clause-reads : goal.returns-in-Run-clause-reads
 returns-in-Run-clause-reads g c =
     image_reads (work_of c.args.job.now) (AnswersRunStl c.in-Run.steps c.in-Run.call) _ _ (ap work_of c.in-Run.is) c.run_reply.ensures.reads
-
-pub run_reply-requires : goal.run_reply-requires
-run_reply-requires g c = its_blocks c.args.program.now c.requires

@@ -12,10 +12,10 @@ pub returns-clause-proper : goal.returns-clause-proper
 returns-clause-proper c =
     let graph = c.args.graph in
     IfOk-weaker c.tree_of.result (λ (tree : StProgram). tree ≡ text_of_graph graph) Proper
-    (λ tree e. subst Proper (sym e) (proper_text graph c.requires.plain c.requires.writes)) c.tree_of.ensures
+    (λ tree e. subst Proper (sym e) (proper_text graph c.requires)) c.tree_of.ensures
 
 pub returns-clause-same : goal.returns-clause-same
 returns-clause-same c =
     let graph = c.args.graph in
     IfOk-weaker c.tree_of.result (λ (tree : StProgram). tree ≡ text_of_graph graph) (λ (tree : StProgram). SameAsGraph graph tree)
-    (λ tree e. subst (λ (tree : StProgram). SameAsGraph graph tree) (sym e) (same_text graph c.requires.plain c.requires.writes)) c.tree_of.ensures
+    (λ tree e. subst (λ (tree : StProgram). SameAsGraph graph tree) (sym e) (same_text graph c.requires)) c.tree_of.ensures

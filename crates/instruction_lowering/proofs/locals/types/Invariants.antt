@@ -6,4 +6,4 @@ abbrev pub decreases-loop-instr : goal.decreases-loop-instr
 decreases-loop-instr l = length l.rest
 
 abbrev pub invariant-loop-instr : goal.invariant-loop-instr
-invariant-loop-instr l = l.types ++ types_in l.rest ≡ types_in l.body
+invariant-loop-instr l = l.types ++ types_in l.blocks l.rest ≡ types_in l.blocks l.body

@@ -7,5 +7,5 @@ decreases-loop-instr l = length l.rest
 
 abbrev pub invariant-loop-instr : goal.invariant-loop-instr
 invariant-loop-instr l =
-    (l.steps ++ steps_of l.spot l.rest ≡ l.fn.steps ++ steps_of l.fn.spot l.fn.instructions)
-    × (used_behind l.spot l.rest ≡ used_behind l.fn.spot l.fn.instructions)
+    (l.steps ++ steps_of l.blocks l.spot l.rest ≡ l.fn.steps ++ steps_of l.blocks l.fn.spot l.fn.instructions)
+    × (used_behind l.blocks l.spot l.rest ≡ used_behind l.blocks l.fn.spot l.fn.instructions)

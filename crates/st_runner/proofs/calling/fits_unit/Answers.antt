@@ -1,5 +1,5 @@
 use Rattle.st_tree.proofs.Common.{sym, subst, ◌∙◌, FitsUnit, BlockName}
-use Rattle.st_runner.specs.inner.Fitting.{Decides}
+use Rattle.memory_areas.specs.Memory.{Decides}
 use Rattle.st_runner.proofs.Fits.{instance_decides, none_declared}
 use Rattle.st_runner.proofs.calling.fits_unit.Goals as goal
 

@@ -2,8 +2,8 @@ use Rattle.std.proofs.Common.{List, refl, sym, ap, ◌∙◌}
 use Rattle.std.specs.Prelude.{codes}
 use Rattle.s7_base.specs.declared.token.Token.{Token}
 use Rattle.stl_grammar.specs.Declarations.{bounds_at, dims_at}
-use Rattle.stl_declarations.specs.inner.Lists.{next_of}
-use Rattle.stl_declarations.proofs.Lists.{begun, ended, went_on, stopped, missing, left_out}
+use Rattle.stl_constants.specs.inner.Lists.{next_of}
+use Rattle.stl_constants.proofs.ListReading.{begun, ended, went_on, stopped, missing, left_out}
 use Rattle.stl_declarations.proofs.declaration.dims_at.Goals as goal
 
 pub loop-rest-init : goal.loop-rest-init

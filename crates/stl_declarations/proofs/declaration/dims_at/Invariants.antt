@@ -1,6 +1,6 @@
 use Rattle.std.proofs.Common.{◌≡◌, length}
 use Rattle.stl_grammar.specs.Declarations.{dims_at}
-use Rattle.stl_declarations.specs.inner.Lists.{read_further}
+use Rattle.stl_constants.specs.inner.Lists.{read_further}
 use Rattle.stl_declarations.proofs.declaration.dims_at.Given as goal
 
 -- the dimensions so far and those that are left are those of the whole

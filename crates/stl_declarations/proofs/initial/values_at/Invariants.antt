@@ -1,6 +1,6 @@
 use Rattle.std.proofs.Common.{◌≡◌, length}
 use Rattle.stl_grammar.specs.Initials.{values_at}
-use Rattle.stl_declarations.specs.inner.Lists.{read_further}
+use Rattle.stl_constants.specs.inner.Lists.{read_further}
 use Rattle.stl_declarations.proofs.initial.values_at.Given as goal
 
 -- the values so far and those that are left are those of the whole

@@ -2,8 +2,8 @@ use Rattle.std.proofs.Common.{sym, ap, ◌∙◌}
 use Rattle.std.proofs.lemmas.Option.{slice_get_past}
 use Rattle.memory_areas.specs.declared.sizes.TheConstants.{MOST_BLOCKS}
 use Rattle.stl_rules.specs.Stages.{one_too_many}
-use Rattle.symbol_names.specs.inner.Firsts.{with_breaks}
-use Rattle.symbol_names.proofs.Firsts.{none_more}
+use Rattle.block_variables.specs.Firsts.{with_breaks}
+use Rattle.block_variables.proofs.Firsts.{none_more}
 use Rattle.symbol_names.proofs.data.note_too_many.Goals as goal
 
 pub returns-in-None : goal.returns-in-None

@@ -1,5 +1,5 @@
 use Rattle.std.proofs.Common.{◌≡◌, ap, take, ◌∙◌}
-use Rattle.symbol_names.specs.inner.Firsts.{with_breaks}
+use Rattle.block_variables.specs.Firsts.{with_breaks}
 use Rattle.name_tables.specs.Before.{names_before}
 use Rattle.symbol_names.specs.inner.Kept.{line_breaks}
 use Rattle.symbol_names.proofs.Turns.{symbol_turn, symbols_ended}

@@ -1,6 +1,6 @@
 use Rattle.std.proofs.Common.{◌≡◌, [], take, drop}
 use Rattle.stl_rules.specs.Stages.{symbols_behind}
-use Rattle.symbol_names.specs.inner.Firsts.{with_breaks}
+use Rattle.block_variables.specs.Firsts.{with_breaks}
 use Rattle.name_tables.specs.Before.{names_before}
 use Rattle.symbol_names.proofs.headings.note_symbols.Given as goal
 

@@ -1,0 +1,2 @@
+pub mod FormalPlaces
+pub mod Kept

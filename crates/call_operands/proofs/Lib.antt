@@ -1,0 +1,4 @@
+pub mod ActualLists
+pub mod Calls
+pub mod LeastRules
+pub mod Misses

@@ -1,0 +1,2 @@
+pub mod ActualPlaces
+pub mod Rules

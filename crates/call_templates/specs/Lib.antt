@@ -1,0 +1,2 @@
+pub mod CallLaw
+pub mod Calls
