@@ -216,7 +216,7 @@ name_kind() {
         P[IQEA][BWD]*) kind="an address of the peripherals, which are not translated: copy them to I, Q or M in a block that stays in STL" ;;
         SF[CB]*) kind="a block of the system, and those are not translated" ;;
         UDT*) kind="a type of one's own, and those are not translated" ;;
-        F[CB]*) kind="a block that is not supported yet" ;;
+        F[CB]*) kind="a block, which stands in headings and calls alone" ;;
         [EA][\ 0-9]* | [EA][BWD]*) kind="a German address: export the symbols with English mnemonics, which the SIMATIC Manager sets under Options, Customize, Language" ;;
         *) return 1 ;;
     esac

@@ -30,7 +30,7 @@ ORGANIZATION_BLOCK OB 1
 CALL "Sub";
 END_ORGANIZATION_BLOCK
 ORGANIZATION_BLOCK OB 2
-CALL "Sub"; // REFUSE Unsupported(NotBuilt)
+CALL "Sub"; // REFUSE Unsupported(SystemCall)
 END_ORGANIZATION_BLOCK
 ORGANIZATION_BLOCK OB 3
 L "Bad".x; // REFUSE UnknownName
@@ -40,7 +40,7 @@ ORGANIZATION_BLOCK OB 3
 OPN "Recipe";
 END_ORGANIZATION_BLOCK
 ORGANIZATION_BLOCK OB 4
-m1: UC FC 99; // REFUSE Unsupported(NotBuilt)
+m1: UC FC 99; // REFUSE Unsupported(SystemCall)
 ORGANIZATION_BLOCK OB 5
 BEGIN A I 0.0;
 END
@@ -52,18 +52,18 @@ code.awl:2: FC 3 "Sub": Unsupported(Timer): A T 1; // REFUSE Unsupported(Timer)
 code.awl:4: FB 7: accepted
 code.awl:6: FC 4: accepted
 code.awl:2: OB 1 needs FC 3 "Sub": Unsupported(Timer): A T 1; // REFUSE Unsupported(Timer)
-code.awl:13: OB 2: Unsupported(NotBuilt): CALL "Sub"; // REFUSE Unsupported(NotBuilt)
+code.awl:13: OB 2: Unsupported(SystemCall): CALL "Sub"; // REFUSE Unsupported(SystemCall)
 code.awl:16: OB 3, where DB 11 "Bad" is not accepted: UnknownName: L "Bad".x; // REFUSE UnknownName
 code.awl:18: text outside the blocks: BadStatement: A I 0.0; // REFUSE BadStatement
 code.awl:19: OB 3: DuplicateBlock: ORGANIZATION_BLOCK OB 3
-code.awl:23: OB 4: Unsupported(NotBuilt): m1: UC FC 99; // REFUSE Unsupported(NotBuilt)
+code.awl:23: OB 4: Unsupported(SystemCall): m1: UC FC 99; // REFUSE Unsupported(SystemCall)
 code.awl:24: OB 5: accepted
 OB: 1 of 6 are accepted
 FB: 1 of 1 are accepted
 FC: 1 of 2 are accepted
 DB: 1 of 2 are accepted
 4 of 11 blocks are accepted
-2 Unsupported(NotBuilt)
+2 Unsupported(SystemCall)
 2 Unsupported(Timer)
 1 BadStatement
 1 DuplicateBlock

@@ -67,13 +67,13 @@ silent_of() {
 silent_of BadToken '@A I 0.0; // \xC3\xA4 U E 0.0 %I0.0' "a comment is no cause"
 silent_of BadToken '@A "\xC3\xA4\xA0"; // "' "what stands in quotes is no cause"
 silent_of BadOperand '@A MW 0;' "an operand without a name has no symbol"
-silent_of 'Unsupported(NotBuilt)' '@SLW 16;' "a number that is too great is left to the page"
+silent_of 'BadStatement' '@SLW 16;' "a number that is too great is left to the page"
 silent_of BadStatement 'END_ORGANIZATION_BLOCK\nDATA_BLOCK DB 1\nSTRUCT\n x : INT;\nEND_STRUCT;\nBEGIN\n@x := y;\nEND_DATA_BLOCK' "an initial value is no label"
 said_of BadToken '@A \xE2\x80\x9EF\xC3\xB6\xE2\x80\x9C;' 'the bytes E2 80 9E at column 3 are a typographic quote: put the plain " or '"'"' there: A <E2 80 9E>Fö“;'
 said_of BadToken '@\tA "F\xC3\xB6";\xC2\xA0= M 0.0;' 'the bytes C2 A0 at column 9 are a no-break space: put a plain blank there: A "Fö";<C2 A0>= M 0.0;'
 said_of BadToken '@A I\0 0.0;' 'the byte at column 4 is a NUL: delete it, or save the file as plain text: A I<00> 0.0;'
-said_of 'Unsupported(NotBuilt)' '@= A 4.0; A I 0.0;' 'A 4.0 is a German address, of an input (E), an output (A) or a counter (Z): English mnemonics are needed. The SIMATIC Manager sets them under Options, Customize, Language; then generate the source once more'
-said_of 'Unsupported(NotBuilt)' '@L EW 4;' 'EW 4 is a German address, of an input (E), an output (A) or a counter (Z): English mnemonics are needed. The SIMATIC Manager sets them under Options, Customize, Language; then generate the source once more'
+said_of 'BadStatement' '@= A 4.0; A I 0.0;' 'A 4.0 is a German address, of an input (E), an output (A) or a counter (Z): English mnemonics are needed. The SIMATIC Manager sets them under Options, Customize, Language; then generate the source once more'
+said_of 'BadStatement' '@L EW 4;' 'EW 4 is a German address, of an input (E), an output (A) or a counter (Z): English mnemonics are needed. The SIMATIC Manager sets them under Options, Customize, Language; then generate the source once more'
 said_of BadStatement '@UN E 1.0; SPB m1;' 'UN is a German mnemonic: English ones are needed. The SIMATIC Manager sets them under Options, Customize, Language; then generate the source once more'
 said_of 'Unsupported(DateTime)' '@L S5T#2S;\nNOP 0;\nSE "Delay";' 'this is the time of SE "DELAY" on line 6: timers are not translated'
 said_of UnknownName '@A "Start";' 'the text has no symbol table. Export the symbols as SDF, and name both files behind --join'
@@ -93,7 +93,7 @@ name_is F "SFC 20 (kinds.sdf:4), a block of the system"
 name_is U "UDT 2 (kinds.sdf:5), a type of one's own"
 name_is E "E 0.0 (kinds.sdf:6), a German address"
 name_is Out "AW 4 (kinds.sdf:7), a German address"
-name_is FC "FB 1 (kinds.sdf:8), a block that is not supported yet"
+name_is FC "FB 1 (kinds.sdf:8), a block, which stands in headings and calls alone"
 unknown_is() {
     printf 'ORGANIZATION_BLOCK OB 1\nA "%b"; // REFUSE UnknownName\nEND_ORGANIZATION_BLOCK\n' "$1" > "$room/named.awl"
     LC_ALL=C.UTF-8 front check --join kinds.sdf named.awl

@@ -6,15 +6,15 @@ explained() {
     says "$1" "explain $2' says"
 }
 
-printf 'ANSWER 1 line 3: Unsupported(NotBuilt)\n\n  SP \t T  1; //F\xf6rderband\r\n' > "$room/a.awl"
+printf 'ANSWER 1 line 3: Unsupported(SystemCall)\n\n  SP \t T  1; //F\xf6rderband\r\n' > "$room/a.awl"
 LC_ALL=C.UTF-8 front check a.awl
-gives "one source by name prints what the program prints" 1 "line 3: Unsupported(NotBuilt)"
-says "the line, a sentence and the text" "a.awl:3: this form is not supported: SP T 1; //Förderband"
-explained "where more is said" NotBuilt
+gives "one source by name prints what the program prints" 1 "line 3: Unsupported(SystemCall)"
+says "the line, a sentence and the text" "a.awl:3: blocks of the system are not translated: SP T 1; //Förderband"
+explained "where more is said" SystemCall
 LC_ALL=C front check a.awl
 says "the text without umlauts where they can't be shown" "//F?rderband"
 front check < "$room/a.awl"
-equal "the same for standard input from a file" "$(head -c 39 "$room/err")" "a.awl:3: this form is not supported: SP"
+equal "the same for standard input from a file" "$(head -c 39 "$room/err")" "a.awl:3: blocks of the system are not t"
 front check < <(cat "$room/a.awl")
 says "no text from a pipe" "explain NAME' says what to change"
 printf '%s\n' 'ANSWER 1 line 1: NoBlocks' 'ANSWER 1 line 1: BadToken' > "$room/two.awl"
@@ -65,12 +65,12 @@ fi
 echo BLOCK > "$room/good.awl"
 LC_ALL=C.UTF-8 front check good.awl a.awl a.awl nowhere.awl b.awl
 gives "a line for each source, and a sum" 7 "good.awl: accepted
-a.awl: line 3: Unsupported(NotBuilt): SP T 1; //Förderband
-a.awl: line 3: Unsupported(NotBuilt): SP T 1; //Förderband
+a.awl: line 3: Unsupported(SystemCall): SP T 1; //Förderband
+a.awl: line 3: Unsupported(SystemCall): SP T 1; //Förderband
 nowhere.awl: can't be read: there is no such file
 b.awl: line 9: BadStatement
 1 of 5 are accepted
-2 Unsupported(NotBuilt)
+2 Unsupported(SystemCall)
 1 BadStatement
 1 can't be read"
 front check good.awl good.awl
