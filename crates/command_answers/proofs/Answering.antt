@@ -21,6 +21,7 @@ use Rattle.st_tree.specs.Proper.{Proper}
 use Rattle.st_tree.specs.Spelling.{spelling}
 use Rattle.st_tree.specs.declared.program.StProgram.{StProgram}
 use Rattle.stl_machine.specs.Machine.{memory_of, outcome_of}
+use Rattle.stl_translate.specs.Named.{Named}
 use Rattle.stl_translate.specs.Same.{Same}
 use Rattle.stl_tree.specs.Accepted.{IsAccepted}
 use Rattle.stl_tree.specs.StlRun.{Standing, running, over, end_of}
@@ -160,15 +161,18 @@ done_alone {X = X} work To x i made text e reply answers =
       written = status_written made Done text reply tt;
     })
 
--- the spelling of a proper tree that means the same as a program is a text that means what the program means
-pub translates : (program : Program) (tree : StProgram) (text : List ℕ) → Proper tree → Same program tree → text ≡ spelling tree → Translates program text
-translates program tree text proper same spelled =
+-- the spelling of a proper tree that means the same as a program, and has its names, is a text that means what the program
+-- means
+pub translates : (program : Program) (tree : StProgram) (text : List ℕ) → Proper tree → Same program tree → Named program tree
+    → text ≡ spelling tree → Translates program text
+translates program tree text proper same named spelled =
     record {
       tree = tree;
       proper = proper;
       spelled = spelled;
       reads_back = subst (λ (written : List ℕ). IsTextOf written tree) (sym spelled) (proper_reads tree proper);
       same = same;
+      named = named;
     }
 
 -- Sources

@@ -3,6 +3,7 @@ mod CallCases
 mod Chains
 mod Entering
 mod Exits
+mod Heads
 mod LoopCases
 mod LoopNesting
 mod LoopTypes

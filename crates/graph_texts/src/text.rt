@@ -2,6 +2,7 @@
 ghost use Rattle.std.specs.Prelude.{◌≡◌, ◌∷◌, [], true, false, IfOk};
 ghost use Rattle.graph_rules.specs.Plain.{Plain};
 ghost use Rattle.st_tree.specs.Proper.{Proper};
+ghost use Rattle.graph_texts.specs.Heads.{KeepHeads};
 ghost use Rattle.graph_texts.specs.SameRuns.{SameAsGraph};
 ghost use Rattle.graph_texts.specs.inner.Dispatch.{dispatch_loop, is_one_node, next_local, text_of_graph, unit_as, unit_of_text};
 ghost use Rattle.graph_texts.specs.inner.Straight.{last_steps};
@@ -11,11 +12,13 @@ use s7_base::{List, NoMemory};
 use st_tree::{GraphPou, GraphProgram, Local, Pou, StExit, StNode, StProgram, StType, Stmt};
 use std::alloc::Global;
 
-/// The tree of a text that means the same as a plain graph program, and that a text can have.
+/// The tree of a text that means the same as a plain graph program, and that a text can have. Its units are called as
+/// those of the graph program.
 pub fn text_of_graph(alloc: Global, graph: GraphProgram) -> Result<StProgram, NoMemory>
     requires { Plain graph }
     ensures proper { IfOk result Proper }
     ensures same { IfOk result (λ tree. SameAsGraph graph tree) }
+    ensures heads { IfOk result (λ tree. KeepHeads graph.pous tree.pous) }
 {
     tree_of(alloc, graph)
 }

@@ -1,2 +1,3 @@
+mod Names
 mod Text
 mod TranslateCases

@@ -2,6 +2,7 @@
 ghost use Rattle.std.specs.Prelude.{IfOk};
 ghost use Rattle.st_tree.specs.Proper.{Proper};
 ghost use Rattle.stl_tree.specs.Accepted.{IsAccepted};
+ghost use Rattle.stl_translate.specs.Named.{Named};
 ghost use Rattle.stl_translate.specs.Same.{Same};
 
 use graph_texts::text_of_graph;
@@ -11,11 +12,13 @@ use st_tree::StProgram;
 use std::alloc::Global;
 use stl_tree::Program;
 
-/// The tree of a text that means the same as the program, and that a text can have.
+/// The tree of a text that means the same as the program, and that a text can have. Its units, their formals and their
+/// locals have the names that the program gives.
 pub fn translate(alloc: Global, program: &Program) -> Result<StProgram, NoMemory>
     requires { IsAccepted program.now }
     ensures proper { IfOk result Proper }
     ensures same { IfOk result (λ tree. Same program.now tree) }
+    ensures named { IfOk result (λ tree. Named program.now tree) }
 {
     let graph = lower(alloc, program)?;
     text_of_graph(alloc, graph)

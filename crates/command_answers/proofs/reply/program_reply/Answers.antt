@@ -11,7 +11,8 @@ returns-in_ok-print-in-Translate-clause-answer g c =
     c.in_ok-print-in-Translate.field-0.items (ap work_of c.in-Translate.is) c.reply_of_text.ensures (
       refl,
       translates c.args.program.now c.in_ok-tree-in-Translate.tree c.in_ok-print-in-Translate.field-0.items
-          c.in_ok-tree-in-Translate.ensures.proper c.in_ok-tree-in-Translate.ensures.same c.in_ok-print-in-Translate.ensures,
+          c.in_ok-tree-in-Translate.ensures.proper c.in_ok-tree-in-Translate.ensures.same c.in_ok-tree-in-Translate.ensures.named
+          c.in_ok-print-in-Translate.ensures,
     )
 
 pub returns-in-Check-clause-answer : goal.returns-in-Check-clause-answer

@@ -1,7 +1,10 @@
 use Rattle.std.proofs.lemmas.Result.{IfOk-weaker}
+use Rattle.graph_texts.specs.Heads.{KeepHeads}
 use Rattle.graph_texts.specs.SameRuns.{SameAsGraph}
 use Rattle.st_tree.specs.declared.program.StProgram.{StProgram}
+use Rattle.stl_translate.specs.Named.{Named}
 use Rattle.stl_translate.specs.Same.{Same}
+use Rattle.stl_translate.proofs.Names.{named_whole}
 use Rattle.stl_translate.proofs.Text.{same_whole}
 use Rattle.stl_translate.proofs.translation.translate.Goals as goal
 
@@ -10,3 +13,9 @@ returns-clause-same c =
     let graph = c.in_ok-graph.graph in
     IfOk-weaker c.text_of_graph.result (λ (tree : StProgram). SameAsGraph graph tree) (λ (tree : StProgram). Same c.args.program.now tree)
     (λ tree e. same_whole c.args.program.now graph tree c.in_ok-graph.ensures.same e) c.text_of_graph.ensures.same
+
+pub returns-clause-named : goal.returns-clause-named
+returns-clause-named c =
+    let graph = c.in_ok-graph.graph in
+    IfOk-weaker c.text_of_graph.result (λ (tree : StProgram). KeepHeads graph.pous tree.pous) (λ (tree : StProgram). Named c.args.program.now tree)
+    (λ tree h. named_whole c.args.program.now graph tree c.in_ok-graph.ensures.same h) c.text_of_graph.ensures.heads
