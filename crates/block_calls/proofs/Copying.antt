@@ -8,8 +8,7 @@ use Rattle.block_calls.specs.Fitting.{AreReached, IsReached, IsReachedIfGiven}
 use Rattle.block_calls.specs.declared.copies.Way.{Way}
 use Rattle.block_calls.specs.declared.copies.Way.TheVariants as way
 use Rattle.block_calls.specs.inner.Copies.{copied_by}
-use Rattle.block_calls.specs.inner.Views.{AreSmall, IsActivationIfGiven}
-use Rattle.memory_areas.proofs.SameFaults.{reached_exists}
+use Rattle.block_calls.specs.inner.Views.{AreSmall}
 use Rattle.memory_areas.specs.Access.{aim_of_place, and_then, bits_wide, fault_of}
 use Rattle.memory_areas.specs.Areas.{Contents}
 use Rattle.memory_areas.specs.Memory.{HasBlocks, Writes}

@@ -2,7 +2,7 @@
 use Rattle.std.proofs.Common.{◌≡◌, ◌≢◌, ℕ, ◌+◌, ◌<◌, ◌==◌, Bool, true, false, List, [], ◌∷◌, length, Option, Some, None, Result, Ok, Err, refl, sym, ap, ◌∙◌, eqb-true, if◌then◌else◌, length-set}
 use Rattle.block_calls.proofs.Fitting.{begins, givable, room, small, takes}
 use Rattle.block_calls.specs.Fitting.{AreActivationsOf, AreReached, StandsIn}
-use Rattle.block_calls.specs.Scenes.{HasEntered, Scene, now_at}
+use Rattle.block_calls.specs.Scenes.{HasEntered, Scene, now_at, returning_to}
 use Rattle.block_calls.specs.inner.Views.{AreSmall, IsGivableActual, now_of}
 use Rattle.memory_areas.specs.Memory.{HasActivations, HasBlocks}
 use Rattle.memory_areas.specs.declared.sizes.TheConstants.{ACTIVATIONS}
@@ -67,33 +67,26 @@ module _ (r : RegisterValues) (m : Contents) (a : Activation) (waiting : List Ac
       (places_same d (k + 1) formals actuals (All-tail (λ (y : Actual). IsGivableActual y (a ∷ waiting)) x actuals h))
 
   -- a call whose actuals are found
-  pub entered : (formals : List Formal) (call : BlockCall) (to : ℕ) (places : List (Option Place)) (written after : Contents) → at + 1 ≡ to
+  pub entered : (formals : List Formal) (call : BlockCall) (to : ℕ) (places : List (Option Place)) (written after : Contents)
       → All (λ (x : Actual). IsGivableActual x (a ∷ waiting)) call.actuals
       → actual_places (length (a ∷ waiting)) 0 formals call.actuals plain ≡ Ok places
       → with_constants (length (a ∷ waiting)) 0 formals call.actuals (with_zero_activation (length (a ∷ waiting)) m) ≡ Ok written
       → after_taking call.instance formals places written ≡ Ok after
-      → after_call formals call whole
+      → returning_to to (after_call formals call whole)
       ≡ Ok (now_at brackets 0 (record {
         registers = record r { di = instance_or call.instance r.di };
         memory = after;
         activations = record { block = call.block; at = 0; instance = call.instance; db = r.db; di = r.di; formals = places } ∷ going_on_at to (a ∷ waiting);
       }))
-  entered formals call to places written after next given found constants taken =
-      let state : ℕ → Now = λ n. record {
-        registers = record r { di = instance_or call.instance r.di };
-        brackets = brackets;
-        memory = after;
-        activations =
-            record { block = call.block; at = 0; instance = call.instance; db = r.db; di = r.di; formals = places } ∷ record a { at = n } ∷ waiting;
-      } in
-      ap (λ (y : Result (List (Option Place)) Fault). and_then y
+  entered formals call to places written after given found constants taken =
+      ap (λ (y : Result (List (Option Place)) Fault). returning_to to (and_then y
       (λ ps. and_then (with_constants (length (a ∷ waiting)) 0 formals call.actuals (with_zero_activation (length (a ∷ waiting)) m))
-      (λ n. and_then (after_taking call.instance formals ps n) (λ t. Ok (with_block call ps t whole)))))
+      (λ n. and_then (after_taking call.instance formals ps n) (λ t. Ok (with_block call ps t whole))))))
       (places_same (length (a ∷ waiting)) 0 formals call.actuals given ∙ found)
-      ∙ ap (λ (y : Result Contents Fault). and_then y (λ n. and_then (after_taking call.instance formals places n) (λ t. Ok (with_block call places t whole))))
+      ∙ ap (λ (y : Result Contents Fault). returning_to to (and_then y
+      (λ n. and_then (after_taking call.instance formals places n) (λ t. Ok (with_block call places t whole)))))
       constants
-      ∙ ap (λ (y : Result Contents Fault). and_then y (λ t. Ok (with_block call places t whole))) taken
-      ∙ ap (λ n. Ok (state n)) next
+      ∙ ap (λ (y : Result Contents Fault). returning_to to (and_then y (λ t. Ok (with_block call places t whole)))) taken
 
   pub refused : (formals : List Formal) (call : BlockCall) (f : Fault) → All (λ (x : Actual). IsGivableActual x (a ∷ waiting)) call.actuals
       → actual_places (length (a ∷ waiting)) 0 formals call.actuals plain ≡ Err f → after_call formals call whole ≡ Err f
@@ -154,10 +147,10 @@ module _ (p : Program) (accepted : IsAccepted p) where
       where
         by : (xs : List Activation) → StandsIn p xs call → All (λ (x : Actual). IsGivableActual x xs) call.actuals
             → actual_places (length xs) 0 (formals_at p call.block) call.actuals (now_of r m xs) ≡ Err f
-            → (brackets : List Entry) (at : ℕ) → at + 1 ≡ to
+            → (brackets : List Entry) (at : ℕ)
             → after_call (formals_at p call.block) call (now_at brackets at (record { registers = r; memory = m; activations = xs })) ≡ Err f
-        by [] s g h brackets at next = absurd s
-        by (a ∷ waiting) s g h brackets at next = refused r m a waiting brackets at (formals_at p call.block) call f g h
+        by [] s g h brackets at = absurd s
+        by (a ∷ waiting) s g h brackets at = refused r m a waiting brackets at (formals_at p call.block) call f g h
 
     module _ (places : List (Option Place))
         (found : actual_places (length activations) 0 (formals_at p call.block) call.actuals (now_of r m activations) ≡ Ok places) where
@@ -175,16 +168,16 @@ module _ (p : Program) (accepted : IsAccepted p) where
           by : (xs : List Activation) → StandsIn p xs call → All (λ (x : Actual). IsGivableActual x xs) call.actuals
               → actual_places (length xs) 0 (formals_at p call.block) call.actuals (now_of r m xs) ≡ Ok places
               → with_constants (length xs) 0 (formals_at p call.block) call.actuals (with_zero_activation (length xs) m) ≡ Ok written
-              → (brackets : List Entry) (at : ℕ) → at + 1 ≡ to
-              → after_call (formals_at p call.block) call (now_at brackets at (record { registers = r; memory = m; activations = xs }))
+              → (brackets : List Entry) (at : ℕ)
+              → returning_to to (after_call (formals_at p call.block) call (now_at brackets at (record { registers = r; memory = m; activations = xs })))
               ≡ Ok (now_at brackets 0 (record {
                 registers = record r { di = instance_or call.instance r.di };
                 memory = after;
                 activations = record { block = call.block; at = 0; instance = call.instance; db = r.db; di = r.di; formals = places } ∷ going_on_at to xs;
               }))
-          by [] s g h c brackets at next = absurd s
-          by (a ∷ waiting) s g h c brackets at next =
-              entered r m a waiting brackets at (formals_at p call.block) call to places written after next g h c taken
+          by [] s g h c brackets at = absurd s
+          by (a ∷ waiting) s g h c brackets at =
+              entered r m a waiting brackets at (formals_at p call.block) call to places written after g h c taken
 
       pub enter_fits : (to : ℕ) → AreActivationsOf p
           (record { block = call.block; at = 0; instance = call.instance; db = r.db; di = r.di; formals = places } ∷ going_on_at to activations)

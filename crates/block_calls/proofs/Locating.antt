@@ -1,11 +1,11 @@
 -- The actuals of a call are found one after another.
-use Rattle.std.proofs.Common.{◌≡◌, ℕ, ◌+◌, ◌-◌, List, [], ◌∷◌, ◌++◌, length, Option, Result, Ok, Err, refl, sym, ap, ◌∙◌, arith}
-use Rattle.std.proofs.lemmas.List.{append_assoc, append-nil}
+use Rattle.std.proofs.Common.{◌≡◌, ℕ, ◌+◌, List, [], ◌∷◌, ◌++◌, Option, Result, Ok, Err, refl, sym, ap, ◌∙◌}
+use Rattle.std.proofs.lemmas.List.{append_assoc}
 use Rattle.memory_areas.specs.Access.{and_then}
 use Rattle.memory_areas.specs.declared.place.Place.{Place}
 use Rattle.s7_base.specs.declared.outcome.Fault.{Fault}
 use Rattle.stl_tree.specs.Calls.{actual_place, actual_places}
-use Rattle.stl_tree.specs.Now.{Activation, Now, depth}
+use Rattle.stl_tree.specs.Now.{Now}
 use Rattle.stl_tree.specs.declared.program.Actual.{Actual}
 use Rattle.stl_tree.specs.declared.program.Formal.{Formal}
 

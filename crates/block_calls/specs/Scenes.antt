@@ -1,5 +1,5 @@
 -- What calls work on, and how they answer.
-use Rattle.std.specs.Prelude.{◌≡◌, ℕ, ◌+◌, Bool, true, false, List, [], ◌∷◌, Option, Some, None, Result, Ok, Err}
+use Rattle.std.specs.Prelude.{◌≡◌, ℕ, Bool, true, false, List, [], ◌∷◌, Option, Some, None, Result, Ok, Err}
 use Rattle.memory_areas.specs.Areas.{Contents}
 use Rattle.memory_areas.specs.declared.call.Call.{Call}
 use Rattle.s7_base.specs.declared.check.Entry.{Entry}
@@ -34,14 +34,25 @@ HasStarted program call true before after =
     Fits program call × (at_run_start program call before.memory.areas ≡ running program (now_at [] 0 after))
 HasStarted program call false before after = (Fits program call → ⊥) × (after ≡ before)
 
--- a call was answered as its definition says: the block begins, and its caller continues at a position; or there is
--- the first fault of an actual, and nothing has changed
+-- the activations, of which the one that called the running one continues at a position
+abbrev pub caller_at : ℕ → List Activation → List Activation
+caller_at to [] = []
+caller_at to (called ∷ waiting) = called ∷ going_on_at to waiting
+
+-- what a call leads to, but that its caller continues at a position
+abbrev pub returning_to : ℕ → Result Now Fault → Result Now Fault
+returning_to to (Ok now) = Ok (record now { activations = caller_at to now.activations })
+returning_to to (Err f) = Err f
+
+-- a call was answered as its definition says, wherever it stands: the block begins, and its caller continues at the
+-- position that is given; or there is the first fault of an actual, and nothing has changed
 abbrev pub HasEntered : Program → BlockCall → ℕ → Result Unit Fault → Scene → Scene → Type 0
 HasEntered program call to (Ok done) before after =
-    (brackets : List Entry) (at : ℕ) → at + 1 ≡ to
-    → after_call (formals_at program call.block) call (now_at brackets at before) ≡ Ok (now_at brackets 0 after)
+    (brackets : List Entry) (at : ℕ)
+    → returning_to to (after_call (formals_at program call.block) call (now_at brackets at before))
+    ≡ Ok (now_at brackets 0 after)
 HasEntered program call to (Err f) before after =
-    ((brackets : List Entry) (at : ℕ) → at + 1 ≡ to
+    ((brackets : List Entry) (at : ℕ)
     → after_call (formals_at program call.block) call (now_at brackets at before) ≡ Err f)
     × (after ≡ before)
 

@@ -5,7 +5,7 @@ ghost use Rattle.block_calls.specs.Fitting.{AreReached};
 ghost use Rattle.block_calls.specs.inner.Copies.{copied_by};
 ghost use Rattle.block_calls.specs.inner.Views.{IsActivationIfGiven};
 ghost use Rattle.stl_tree.specs.Accepted.{LiesInInstance};
-ghost use Rattle.stl_tree.specs.Calls.{all_copied, copied_back, copied_in, is_given_back, is_taken, place_in_instance, with_copy};
+ghost use Rattle.stl_tree.specs.Calls.{all_copied, is_given_back, is_taken, place_in_instance, with_copy};
 ghost use Rattle.stl_tree.specs.StlRun.{formals_at};
 
 use crate::actuals::formals_at;
@@ -67,66 +67,25 @@ fn copy(memory: &mut Memory, width: Width, from: Place, to: Place) -> Result<(),
     write_number(memory, to, width, number)
 }
 
-/// Copies an actual into an instance, where its formal takes it.
-fn copy_in(
-    memory: &mut Memory,
-    instance: u16,
-    formal: &Formal,
-    place: Option<Place>,
-) -> Result<(), Fault>
-    requires { IsActivationIfGiven place }
-    ensures { Writes (copied_in instance formal.now place memory.old) result memory.old memory.new }
-{
-    match place {
-        Some(from) if is_taken(formal.mode) => {
-            copy(
-                memory,
-                formal.width,
-                from,
-                place_in_instance(instance, formal),
-            )
-        }
-        _ => Ok(()),
-    }
-}
-
-/// Copies a formal back to its actual, where it gives it back.
-fn copy_back(
-    memory: &mut Memory,
-    instance: u16,
-    formal: &Formal,
-    place: Option<Place>,
-) -> Result<(), Fault>
-    requires { IsActivationIfGiven place }
-    ensures { Writes (copied_back instance formal.now place memory.old) result memory.old memory.new }
-{
-    match place {
-        Some(to) if is_given_back(formal.mode) => {
-            copy(
-                memory,
-                formal.width,
-                place_in_instance(instance, formal),
-                to,
-            )
-        }
-        _ => Ok(()),
-    }
-}
-
-/// Copies between a formal in an instance and its actual, where it is copied this way.
+/// Copies between a formal in an instance and its actual, where it is there and the formal is copied this way.
 fn copy_one(
     memory: &mut Memory,
     way: Way,
     instance: u16,
     formal: &Formal,
-    place: Option<Place>,
+    actual: Option<Place>,
 ) -> Result<(), Fault>
-    requires { IsActivationIfGiven place }
-    ensures { Writes (copied_by way instance formal.now place memory.old) result memory.old memory.new }
+    requires { IsActivationIfGiven actual }
+    ensures { Writes (copied_by way instance formal.now actual memory.old) result memory.old memory.new }
 {
+    let Some(actual) = actual else {
+        return Ok(());
+    };
+    let own = place_in_instance(instance, formal);
     match way {
-        Way::In => copy_in(memory, instance, formal, place),
-        Way::Back => copy_back(memory, instance, formal, place),
+        Way::In if is_taken(formal.mode) => copy(memory, formal.width, actual, own),
+        Way::Back if is_given_back(formal.mode) => copy(memory, formal.width, own, actual),
+        _ => Ok(()),
     }
 }
 

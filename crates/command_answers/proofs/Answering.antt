@@ -23,7 +23,6 @@ use Rattle.st_tree.specs.declared.program.StProgram.{StProgram}
 use Rattle.stl_machine.specs.Machine.{memory_of, outcome_of}
 use Rattle.stl_translate.specs.Named.{Named}
 use Rattle.stl_translate.specs.Same.{Same}
-use Rattle.stl_tree.specs.Accepted.{IsAccepted}
 use Rattle.stl_tree.specs.StlRun.{Standing, running, over, end_of}
 use Rattle.stl_tree.specs.declared.program.Program.{Program}
 use Rattle.command_answers.specs.Answer.{Reply, Work, alone, Answers, AnswersRun, AnswersSource, AnswersWork, Translates, image_reply, refusal_line, run_reply, run_status, too_long_line, usage_line, source_too_long, refused, read, image_too_long, bad_image, bad_call, ran}

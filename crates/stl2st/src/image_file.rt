@@ -1,4 +1,6 @@
 //! The file with the image.
+ghost use Rattle.std.specs.Prelude.{◌≡◌, None};
+
 use std::fs::File;
 use std::io;
 use std::io::Read;
@@ -14,7 +16,10 @@ pub struct ImageFile<'a> {
 
 impl<'a> ImageFile<'a> {
     /// The file of this name, not yet opened.
-    pub fn of_name(rt: &'a HostRuntime, name: &'a str) -> ImageFile<'a> {
+    pub fn of_name(rt: &'a HostRuntime, name: &'a str) -> ImageFile<'a>
+        ensures name { result.name ≡ name.entry }
+        ensures unopened { result.file ≡ None }
+    {
         ImageFile {
             rt,
             name,

@@ -1,4 +1,5 @@
 mod Activations
+mod Calls
 mod Effects
 mod JumpCases
 mod Pushing

@@ -107,6 +107,7 @@ fn after_return(program: &Program, state: &mut State) -> Progress
 }
 
 /// Begins a block, or ends the run by the fault of an actual.
+#[tactic(auto, using(crate::proofs::Calls::entered_at))]
 fn at_block_entry(program: &Program, call: &BlockCall, state: &mut State) -> Progress
     requires accepted { IsAccepted program.now }
     requires sound { IsStateOf program.now state.old }
