@@ -35,11 +35,11 @@ impl State {
     }
 
     /// The reference of a variable that is no formal, or the fault of an access to it.
-    fn located(&self, globals: &[Located], var: Var) -> Result<Reference, Fault>
+    fn located(&self, globals: &[Located], var: &Var) -> Result<Reference, Fault>
         requires running { IsRunning self.now }
         requires globals { AreGlobals globals.now }
         ensures value { result
-            ≡ and_then (reference_of globals.now var (state_of self.now)) (λ r. check_access r (state_of self.now)) }
+            ≡ and_then (reference_of globals.now var.now (state_of self.now)) (λ r. check_access r (state_of self.now)) }
         ensures reachable { IfOk result IsReachable }
     {
         let reference = self.reference_of(globals, var)?;
@@ -47,10 +47,10 @@ impl State {
     }
 
     /// The reference of an actual, or the fault of an access to it.
-    fn located_actual(&self, globals: &[Located], var: Var) -> Result<Reference, Fault>
+    fn located_actual(&self, globals: &[Located], var: &Var) -> Result<Reference, Fault>
         requires running { IsRunning self.now }
         requires globals { AreGlobals globals.now }
-        ensures value { result ≡ located_actual globals.now var (state_of self.now) }
+        ensures value { result ≡ located_actual globals.now var.now (state_of self.now) }
         ensures reachable { IfOk result IsReachable }
     {
         match var {
@@ -82,7 +82,7 @@ impl State {
     {
         formals.clear();
         for actual in actuals {
-            match self.located_actual(globals, *actual) {
+            match self.located_actual(globals, actual) {
                 Ok(reference) => formals.push_reserved(reference),
                 Err(fault) => return Err(fault),
             }

@@ -42,7 +42,7 @@ impl State {
     {
         match e {
             Expr::Literal(ty, n) => Ok(Value { ty: *ty, n: *n }),
-            Expr::Read(var) => self.read(globals, *var),
+            Expr::Read(var) => self.read(globals, var),
             Expr::Unary(op, operand) => {
                 let v = self.value(globals, operand.get())?;
                 unary(*op, v)
@@ -90,7 +90,7 @@ impl State {
     {
         let found = match e {
             Expr::Literal(ty, n) => Ok(Value { ty: *ty, n: *n }),
-            Expr::Read(var) => self.read(globals, *var),
+            Expr::Read(var) => self.read(globals, var),
             Expr::Binary(op, left, right) => {
                 let Some(Ok(v)) = self.value_at_once(globals, left.get()) else {
                     return None;
@@ -139,10 +139,10 @@ impl State {
     /// Assigns a value that is found by steps of its own. It stays a call, so that its operands take no
     /// place where there are none.
     #[inline(never)]
-    fn assign_found(&mut self, globals: &[Located], var: Var, e: &Expr) -> Result<(), Fault>
+    fn assign_found(&mut self, globals: &[Located], var: &Var, e: &Expr) -> Result<(), Fault>
         requires running { IsRunning self.old }
         requires globals { AreGlobals globals.now }
-        ensures change { Changes (assignment globals.now var e.now (state_of self.old)) result
+        ensures change { Changes (assignment globals.now var.now e.now (state_of self.old)) result
             (state_of self.old) (state_of self.new) }
         ensures sound { (l f : ℕ) → IsSound l f self.old → IsSound l f self.new }
         ensures same { SameShape self.old self.new }
@@ -151,16 +151,23 @@ impl State {
         self.write(globals, var, v)
     }
 
-    /// Assigns the value of an expression to a variable. A fault changes nothing.
+    /// Assigns the value of an expression to a variable. A fault changes nothing. A literal for a register, as most
+    /// often, is given at once.
     #[inline(always)]
-    pub fn assign(&mut self, globals: &[Located], var: Var, e: &Expr) -> Result<(), Fault>
+    pub fn assign(&mut self, globals: &[Located], var: &Var, e: &Expr) -> Result<(), Fault>
         requires running { IsRunning self.old }
         requires globals { AreGlobals globals.now }
-        ensures change { Changes (assignment globals.now var e.now (state_of self.old)) result
+        ensures change { Changes (assignment globals.now var.now e.now (state_of self.old)) result
             (state_of self.old) (state_of self.new) }
         ensures sound { (l f : ℕ) → IsSound l f self.old → IsSound l f self.new }
         ensures same { SameShape self.old self.new }
     {
+        if let Expr::Literal(_, n) = e {
+            if let Var::Register(r) = var {
+                self.registers.give_number(*r, *n);
+                return Ok(());
+            }
+        }
         match self.soon(globals, e) {
             Some(v) => self.write(globals, var, v),
             None => self.assign_found(globals, var, e),

@@ -67,24 +67,31 @@ impl State {
 
     /// The reference of a variable of the running unit.
     #[tactic(auto, using(crate::proofs::Frames::formal_reach, crate::proofs::Frames::global_reach))]
-    pub fn reference_of(&self, globals: &[Located], var: Var) -> Result<Reference, Fault>
+    pub fn reference_of(&self, globals: &[Located], var: &Var) -> Result<Reference, Fault>
         requires running { IsRunning self.now }
         requires globals { AreGlobals globals.now }
-        ensures value { result ≡ reference_of globals.now var (state_of self.now) }
+        ensures value { result ≡ reference_of globals.now var.now (state_of self.now) }
         ensures reachable { IfOk result IsReachable }
     {
         match var {
-            Var::Register(r) => Ok(Reference::Register(r)),
-            Var::Local(i) => Ok(Reference::Local(self.depth(), i)),
-            Var::Formal(i) => self.formal(i),
-            Var::Global(i) => global(globals, i),
+            Var::Register(r) => Ok(Reference::Register(*r)),
+            Var::Local(i) => Ok(Reference::Local(self.depth(), *i)),
+            Var::Formal(i) => self.formal(*i),
+            Var::Global(i) => global(globals, *i),
             Var::Direct(name, byte, bit, width) => {
-                let place = self.place_of(name, byte, bit);
-                Ok(Reference::Place(place, type_of_width(width)))
+                let place = self.place_of(*name, *byte, *bit);
+                Ok(Reference::Place(place, type_of_width(*width)))
             }
             Var::InBlock(number, byte, bit, width) => {
-                let area = Area::Db(number);
-                Ok(Reference::Place(Place { area, byte, bit }, type_of_width(width)))
+                let area = Area::Db(*number);
+                Ok(Reference::Place(
+                    Place {
+                        area,
+                        byte: *byte,
+                        bit: *bit,
+                    },
+                    type_of_width(*width),
+                ))
             }
         }
     }
@@ -101,10 +108,10 @@ impl State {
 
     /// The value at the reference of a variable. It stays a call, since few variables are formals or globals.
     #[inline(never)]
-    fn read_referred(&self, globals: &[Located], var: Var) -> Result<Value, Fault>
+    fn read_referred(&self, globals: &[Located], var: &Var) -> Result<Value, Fault>
         requires running { IsRunning self.now }
         requires globals { AreGlobals globals.now }
-        ensures { result ≡ read globals.now var (state_of self.now) }
+        ensures { result ≡ read globals.now var.now (state_of self.now) }
     {
         let reference = self.reference_of(globals, var)?;
         self.read_at(reference)
@@ -112,24 +119,28 @@ impl State {
 
     /// The value of a variable.
     #[inline(always)]
-    pub fn read(&self, globals: &[Located], var: Var) -> Result<Value, Fault>
+    pub fn read(&self, globals: &[Located], var: &Var) -> Result<Value, Fault>
         requires running { IsRunning self.now }
         requires globals { AreGlobals globals.now }
-        ensures { result ≡ read globals.now var (state_of self.now) }
+        ensures { result ≡ read globals.now var.now (state_of self.now) }
     {
         match var {
-            Var::Register(r) => Ok(self.register(r)),
-            Var::Local(i) => local_at(&self.activations, self.depth(), i),
+            Var::Register(r) => Ok(self.register(*r)),
+            Var::Local(i) => local_at(&self.activations, self.depth(), *i),
             Var::Direct(name, byte, bit, width) => {
-                let place = self.place_of(name, byte, bit);
-                read_place(&self.memory, type_of_width(width), place)
+                let place = self.place_of(*name, *byte, *bit);
+                read_place(&self.memory, type_of_width(*width), place)
             }
             Var::InBlock(number, byte, bit, width) => {
-                let area = Area::Db(number);
+                let area = Area::Db(*number);
                 read_place(
                     &self.memory,
-                    type_of_width(width),
-                    Place { area, byte, bit },
+                    type_of_width(*width),
+                    Place {
+                        area,
+                        byte: *byte,
+                        bit: *bit,
+                    },
                 )
             }
             Var::Formal(_) | Var::Global(_) => self.read_referred(globals, var),
@@ -138,33 +149,37 @@ impl State {
 
     /// Gives a variable a value. A fault changes nothing.
     #[inline(always)]
-    pub fn write(&mut self, globals: &[Located], var: Var, v: Value) -> Result<(), Fault>
+    pub fn write(&mut self, globals: &[Located], var: &Var, v: Value) -> Result<(), Fault>
         requires running { IsRunning self.old }
         requires globals { AreGlobals globals.now }
-        ensures change { Changes (write globals.now var v (state_of self.old)) result
+        ensures change { Changes (write globals.now var.now v (state_of self.old)) result
             (state_of self.old) (state_of self.new) }
         ensures sound { (l f : ℕ) → IsSound l f self.old → IsSound l f self.new }
         ensures same { SameShape self.old self.new }
     {
         match var {
             Var::Register(r) => {
-                self.registers.give_number(r, v.n);
+                self.registers.give_number(*r, v.n);
                 Ok(())
             }
             Var::Local(i) => {
                 let d = self.depth();
-                self.write_local(d, i, v)
+                self.write_local(d, *i, v)
             }
             Var::Direct(name, byte, bit, width) => {
-                let place = self.place_of(name, byte, bit);
-                write_place(&mut self.memory, type_of_width(width), place, v)
+                let place = self.place_of(*name, *byte, *bit);
+                write_place(&mut self.memory, type_of_width(*width), place, v)
             }
             Var::InBlock(number, byte, bit, width) => {
-                let area = Area::Db(number);
+                let area = Area::Db(*number);
                 write_place(
                     &mut self.memory,
-                    type_of_width(width),
-                    Place { area, byte, bit },
+                    type_of_width(*width),
+                    Place {
+                        area,
+                        byte: *byte,
+                        bit: *bit,
+                    },
                     v,
                 )
             }

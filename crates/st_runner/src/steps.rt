@@ -127,7 +127,7 @@ pub fn statement<'t>(
 {
     let globals = tree.globals.as_slice();
     match stmt {
-        Stmt::Assign(var, e) => next(state.assign(globals, *var, e)),
+        Stmt::Assign(var, e) => next(state.assign(globals, var, e)),
         Stmt::AreaWrite(width, pointer, e) => {
             next(state.area_assign(globals, *width, pointer.get(), e.get()))
         }
