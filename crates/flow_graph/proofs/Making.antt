@@ -1,22 +1,46 @@
 -- The nodes of a body are its blocks, each with the exit by which the body goes on.
-use Rattle.std.proofs.Common.{◌≡◌, ℕ, zero, suc, ◌+◌, ◌-◌, ◌<◌, ◌≤◌, Bool, true, false, ◌||◌, ◌==◌, List, [], ◌∷◌, Option, Some, None, option_and_then, drop, get_or, length, map, slice_get, refl, sym, ap, subst, ◌∙◌, arith, add-zero, eqb-true}
+use Rattle.std.proofs.Common.{◌≡◌, ℕ, zero, suc, ◌+◌, ◌-◌, ◌<◌, ◌≤◌, Bool, true, false, ◌||◌, ◌==◌, List, [], ◌∷◌, ◌++◌, Option, Some, None, option_and_then, drop, get_or, length, map, slice_get, refl, sym, ap, subst, ◌∙◌, arith, add-zero, append_assoc, eqb-true}
 use Rattle.std.specs.Prelude.{All}
 use Rattle.std.specs.List.{flat_map, list_any}
 use Rattle.std.proofs.lemmas.Bool.{eqb-false}
 use Rattle.std.proofs.lemmas.Option.{none-some, same_Some}
+use Rattle.std.proofs.lemmas.List.{append-nil}
 use Rattle.std.proofs.lemmas.List.Elements.{All-append, All-drop, All-head, All-nil, All-tail, All-take}
 use Rattle.std.proofs.lemmas.List.Folds.{list_any_at}
 use Rattle.stl_tree.specs.Accepted.{AreTargets, open_at, targets_of}
 use Rattle.stl_tree.specs.Brackets.{open_behind}
-use Rattle.stl_tree.specs.Blocks.{AreBlocksFrom, Way, always, begins_at, if_made, instructions_of, is_aimed_at, is_last_at, on, one_of, stops, unless_ended, way_after, way_by, way_of}
+use Rattle.stl_tree.specs.Blocks.{AreBlocksFrom, AreBlocksOf, Way, always, begins_at, if_made, instructions_of, is_aimed_at, is_last_at, on, one_of, stops, unless_ended, way_after, way_by, way_of}
 use Rattle.stl_tree.specs.declared.program.Instr.{Instr}
 use Rattle.stl_tree.specs.declared.program.JumpTest.TheVariants as jump
 use Rattle.stl_tree.specs.declared.program.Op.{Op}
 use Rattle.stl_tree.specs.declared.program.Op.TheVariants as op
-use Rattle.flow_graph.specs.Graphs.{BeginAt, BeginsAt, IsExitTo, extent_of}
+use Rattle.flow_graph.specs.Graphs.{BeginAt, BeginsAt, HaveExits, IsExitTo, extent_of, ways_after, ways_of}
+use Rattle.flow_graph.specs.declared.graph.Exit.{Exit}
 use Rattle.flow_graph.specs.declared.graph.Node.{Node}
 use Rattle.flow_graph.specs.inner.Beginnings.{AreBeginnings, numbers_from}
-use Rattle.flow_graph.specs.inner.Making.{AreNodes, exit_by, node_of, nodes_from, number_at}
+use Rattle.flow_graph.specs.inner.Making.{AreBlocks, bounds_from, exit_between, exit_by, exits_from, joined_from, number_at}
+
+-- Nodes
+
+-- the node from a position to the one before another
+abbrev node_of : List ℕ → List Instr → ℕ → ℕ → Node
+node_of numbers body first past =
+    record { first = first; past = past; exit = exit_between numbers body first past }
+
+-- the nodes from the first position of one on, where it is known of the positions from a later one on whether blocks
+-- begin there
+abbrev nodes_from : List ℕ → List Instr → ℕ → ℕ → List Bool → List Node
+nodes_from numbers body first at [] = node_of numbers body first at ∷ []
+nodes_from numbers body first at (true ∷ rest) =
+    node_of numbers body first at ∷ nodes_from numbers body at (suc at) rest
+nodes_from numbers body first at (false ∷ rest) = nodes_from numbers body first (suc at) rest
+
+-- nodes are those of a body: its blocks, each with an exit to the nodes that follow it; there are no more of them than
+-- instructions
+record AreNodes (body : List Instr) (nodes : List Node) : Type 0 where
+  blocks : AreBlocksOf body (map extent_of nodes)
+  exits : HaveExits body nodes
+  few : length nodes ≤ length body
 
 -- Blocks
 
@@ -254,12 +278,84 @@ made body rest t targets =
     nodes : List Node
     nodes = nodes_from numbers body 0 1 rest
 
--- the nodes that are made are those of the body
-pub are_nodes : (body : List Instr) (begins : List Bool) (numbers : List ℕ) (nodes : List Node) → AreBeginnings body begins
-    → numbers ≡ numbers_from 0 begins → nodes ≡ nodes_from numbers body 0 1 (drop 1 begins) → 0 < length body → AreTargets body → AreNodes body nodes
-are_nodes body [] numbers nodes known e f some targets = let none : 0 ≡ length body = known.size in absurd (omega (arith, none, some))
-are_nodes body (false ∷ rest) numbers nodes known e f some targets = let first : false ≡ true = known.each 0 some in absurd cc
-are_nodes body (true ∷ rest) numbers nodes known e f some targets =
+made_of : (body : List Instr) (rest : List Bool) → Tells body 1 rest → (numbers : List ℕ) → numbers ≡ numbers_from 0 (true ∷ rest) → AreTargets body
+    → AreNodes body (nodes_from numbers body 0 1 rest)
+made_of body rest t numbers e targets = subst (λ ns. AreNodes body (nodes_from ns body 0 1 rest)) (sym e) (made body rest t targets)
+
+-- Bounds and exits
+
+-- one more node, behind the others
+pub one_more_node : (i : ℕ) (bounds : List ℕ) (exits : List Exit) (exit : Exit)
+    → joined_from i bounds (exits ++ exit ∷ [])
+    ≡ joined_from i bounds exits
+    ++ record { first = get_or bounds (i + length exits) 0; past = get_or bounds (suc (i + length exits)) 0; exit = exit } ∷ []
+one_more_node i bounds [] exit =
+    let e : i ≡ i + 0 = omega arith in
+    ap (λ (k : ℕ). record { first = get_or bounds k 0; past = get_or bounds (suc k) 0; exit = exit } ∷ []) e
+one_more_node i bounds (first ∷ exits) exit =
+    let e : suc i + length exits ≡ i + suc (length exits) = omega arith in
+    ap (λ (nodes : List Node). record { first = get_or bounds i 0; past = get_or bounds (suc i) 0; exit = first } ∷ nodes)
+    (one_more_node (suc i) bounds exits exit ∙ ap (λ (k : ℕ). joined_from (suc i) bounds exits
+    ++ record { first = get_or bounds k 0; past = get_or bounds (suc k) 0; exit = exit } ∷ []) e)
+
+at_first : (before : List ℕ) (first : ℕ) (rest : List ℕ) → get_or (before ++ first ∷ rest) (length before) 0 ≡ first
+at_first [] first rest = refl
+at_first (b ∷ before) first rest = at_first before first rest
+
+at_second : (before : List ℕ) (first second : ℕ) (rest : List ℕ) → get_or (before ++ first ∷ second ∷ rest) (suc (length before)) 0 ≡ second
+at_second [] first second rest = refl
+at_second (b ∷ before) first second rest = at_second before first second rest
+
+length_more : (before : List ℕ) (x : ℕ) → length (before ++ x ∷ []) ≡ suc (length before)
+length_more [] x = refl
+length_more (b ∷ before) x = ap suc (length_more before x)
+
+joins : (numbers : List ℕ) (body : List Instr) (first at : ℕ) (rest : List Bool) (before : List ℕ)
+    → joined_from (length before) (before ++ first ∷ bounds_from at rest) (exits_from numbers body (first ∷ bounds_from at rest))
+    ≡ nodes_from numbers body first at rest
+joins numbers body first at [] before =
+    let exit = exit_between numbers body first at in
+    ap (λ (k : ℕ). record { first = k; past = get_or (before ++ first ∷ at ∷ []) (suc (length before)) 0; exit = exit } ∷ []) (at_first before first (at ∷ []))
+    ∙ ap (λ (k : ℕ). record { first = first; past = k; exit = exit } ∷ []) (at_second before first at [])
+joins numbers body first at (false ∷ rest) before = joins numbers body first (suc at) rest before
+joins numbers body first at (true ∷ rest) before =
+    let exit = exit_between numbers body first at in
+    let more = bounds_from (suc at) rest in
+    let others = exits_from numbers body (at ∷ more) in
+    let bounds = before ++ first ∷ at ∷ more in
+    let same : joined_from (suc (length before)) bounds others ≡ nodes_from numbers body at (suc at) rest =
+    ap (λ (k : ℕ). joined_from k bounds others) (sym (length_more before first))
+    ∙ ap (λ (bs : List ℕ). joined_from (length (before ++ first ∷ [])) bs others) (sym (append_assoc before (first ∷ []) (at ∷ more)))
+    ∙ joins numbers body at (suc at) rest (before ++ first ∷ []) in
+    ap (λ (k : ℕ). record { first = k; past = get_or bounds (suc (length before)) 0; exit = exit } ∷ joined_from (suc (length before)) bounds others)
+    (at_first before first (at ∷ more))
+    ∙ ap (λ (k : ℕ). record { first = first; past = k; exit = exit } ∷ joined_from (suc (length before)) bounds others) (at_second before first at more)
+    ∙ ap (λ (nodes : List Node). record { first = first; past = at; exit = exit } ∷ nodes) same
+
+length_joined : (i : ℕ) (bounds : List ℕ) (exits : List Exit) → length (joined_from i bounds exits) ≡ length exits
+length_joined i bounds [] = refl
+length_joined i bounds (exit ∷ exits) = ap suc (length_joined (suc i) bounds exits)
+
+size_of_exits : (numbers : List ℕ) (body : List Instr) (first at : ℕ) (rest : List Bool)
+    → length (exits_from numbers body (first ∷ bounds_from at rest)) ≡ length (bounds_from at rest)
+size_of_exits numbers body first at [] = refl
+size_of_exits numbers body first at (false ∷ rest) = size_of_exits numbers body first (suc at) rest
+size_of_exits numbers body first at (true ∷ rest) = ap suc (size_of_exits numbers body at (suc at) rest)
+
+-- where no two positions are left, all exits are made
+pub all_made : (numbers : List ℕ) (body : List Instr) (rest bounds : List ℕ) (exits : List Exit) → length rest < 2
+    → exits ++ exits_from numbers body rest ≡ exits_from numbers body bounds → exits ≡ exits_from numbers body bounds
+all_made numbers body [] bounds exits h e = sym (append-nil exits) ∙ e
+all_made numbers body (first ∷ []) bounds exits h e = sym (append-nil exits) ∙ e
+all_made numbers body (first ∷ past ∷ rest) bounds exits h e = absurd (omega (arith, h))
+
+-- what is made is the blocks of the body
+pub blocks_made : (body : List Instr) (begins : List Bool) (numbers bounds : List ℕ) (exits : List Exit) → AreBeginnings body begins
+    → numbers ≡ numbers_from 0 begins → bounds ≡ bounds_from 0 begins → exits ≡ exits_from numbers body bounds → 0 < length body → AreTargets body
+    → AreBlocks body bounds exits
+blocks_made body [] numbers bounds exits known e f g some targets = let none : 0 ≡ length body = known.size in absurd (omega (arith, none, some))
+blocks_made body (false ∷ rest) numbers bounds exits known e f g some targets = let first : false ≡ true = known.each 0 some in absurd cc
+blocks_made body (true ∷ rest) numbers bounds exits known e f g some targets =
     let told : Tells body 1 rest = record {
       size = let size : suc (length rest) ≡ length body = known.size in omega (arith, size);
       each = λ k h.
@@ -267,5 +363,21 @@ are_nodes body (true ∷ rest) numbers nodes known e f some targets =
           let size : suc (length rest) ≡ length body = known.size in
           subst (λ n. get_or rest k false ≡ begins_at body n) g (known.each (suc k) (omega (arith, h, size)));
     } in
-    let P : List ℕ → Type 0 = λ ns. AreNodes body (nodes_from ns body 0 1 rest) in
-    subst (AreNodes body) (sym f) (subst P (sym e) (made body rest told targets))
+    let all : List ℕ = 0 ∷ bounds_from 1 rest in
+    let same : joined_from 0 all (exits_from numbers body all) ≡ nodes_from numbers body 0 1 rest = joins numbers body 0 1 rest [] in
+    let nodes : AreNodes body (joined_from 0 all (exits_from numbers body all)) = subst (AreNodes body) (sym same) (made_of body rest told numbers e targets) in
+    let size : length (exits_from numbers body all) ≡ length (bounds_from 1 rest) = size_of_exits numbers body 0 1 rest in
+    let few : length (joined_from 0 all (exits_from numbers body all)) ≡ length (exits_from numbers body all) =
+    length_joined 0 all (exits_from numbers body all) in
+    let whole : AreBlocks body all (exits_from numbers body all) = record {
+      blocks = nodes.blocks;
+      lead = nodes.exits;
+      size = ap suc size;
+      few = let h = nodes.few in omega (arith, h, few);
+    } in
+    subst (AreBlocks body bounds) (sym g) (subst (λ bs. AreBlocks body bs (exits_from numbers body bs)) (sym f) whole)
+
+-- the exits of joined nodes are those that were joined
+pub exits_joined : (i : ℕ) (bounds : List ℕ) (exits : List Exit) → map (λ (node : Node). ways_of node.exit) (joined_from i bounds exits) ≡ ways_after exits
+exits_joined i bounds [] = refl
+exits_joined i bounds (exit ∷ exits) = ap (λ ways. ways_of exit ∷ ways) (exits_joined (suc i) bounds exits)

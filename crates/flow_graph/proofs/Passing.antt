@@ -6,11 +6,11 @@ use Rattle.std.proofs.lemmas.Bool.{leb-true, leb-false}
 use Rattle.std.proofs.lemmas.Option.{none-some, same_Some, slice_get-map, slice_get_within}
 use Rattle.std.proofs.lemmas.List.{get_or-replicate, get_or-set_same, length-map, length-replicate}
 use Rattle.stl_tree.specs.Segments.{AreAscending, AreAscendingAfter, AreCuts, IsCut, IsOneOf, IsReached, JumpsTo, PassesOver, Ways}
-use Rattle.flow_graph.specs.Graphs.{ways_of}
-use Rattle.flow_graph.specs.declared.graph.Node.{Node}
-use Rattle.flow_graph.specs.inner.Reaching.{AreReached, ways_after}
+use Rattle.flow_graph.specs.Graphs.{ways_after, ways_of}
+use Rattle.flow_graph.specs.Reached.{AreReached}
+use Rattle.flow_graph.specs.declared.graph.Exit.{Exit}
 use Rattle.flow_graph.proofs.Reaching.{ways_at}
-use Rattle.flow_graph.specs.inner.Spans.{cuts_from, note, note_node, spans_from}
+use Rattle.flow_graph.specs.inner.Spans.{cuts_from, note, note_exit, spans_from}
 
 -- One more value in a list
 
@@ -130,111 +130,111 @@ all_noted_or from (to ∷ tos) spans k = by (all_noted_or from tos (note from sp
 
 -- All nodes that are reached
 
-length_node : (r : Bool) (from : ℕ) (node : Node) (spans : List ℕ) → length (note_node r from node spans) ≡ length spans
-length_node true from node spans = length_all from (ways_of node.exit).jumps spans
-length_node false from node spans = refl
+length_exit : (r : Bool) (from : ℕ) (exit : Exit) (spans : List ℕ) → length (note_exit r from exit spans) ≡ length spans
+length_exit true from exit spans = length_all from (ways_of exit).jumps spans
+length_exit false from exit spans = refl
 
-length_spans : (reached : List Bool) (from : ℕ) (nodes : List Node) (spans : List ℕ) → length (spans_from reached from nodes spans) ≡ length spans
+length_spans : (reached : List Bool) (from : ℕ) (exits : List Exit) (spans : List ℕ) → length (spans_from reached from exits spans) ≡ length spans
 length_spans reached from [] spans = refl
-length_spans reached from (node ∷ rest) spans =
-    length_spans reached (suc from) rest (note_node (get_or reached from true) from node spans) ∙ length_node (get_or reached from true) from node spans
+length_spans reached from (exit ∷ rest) spans =
+    length_spans reached (suc from) rest (note_exit (get_or reached from true) from exit spans) ∙ length_exit (get_or reached from true) from exit spans
 
-node_grows : (r : Bool) (from : ℕ) (node : Node) (spans : List ℕ) (k : ℕ) → get_or spans k 0 ≤ get_or (note_node r from node spans) k 0
-node_grows true from node spans k = all_grow from (ways_of node.exit).jumps spans k
-node_grows false from node spans k = omega arith
+exit_grows : (r : Bool) (from : ℕ) (exit : Exit) (spans : List ℕ) (k : ℕ) → get_or spans k 0 ≤ get_or (note_exit r from exit spans) k 0
+exit_grows true from exit spans k = all_grow from (ways_of exit).jumps spans k
+exit_grows false from exit spans k = omega arith
 
-nodes_grow : (reached : List Bool) (from : ℕ) (nodes : List Node) (spans : List ℕ) (k : ℕ)
-    → get_or spans k 0 ≤ get_or (spans_from reached from nodes spans) k 0
-nodes_grow reached from [] spans k = omega arith
-nodes_grow reached from (node ∷ rest) spans k =
-    let now : List ℕ = note_node (get_or reached from true) from node spans in
-    let a : get_or spans k 0 ≤ get_or (note_node (get_or reached from true) from node spans) k 0 =
-    node_grows (get_or reached from true) from node spans k in
-    let b : get_or (note_node (get_or reached from true) from node spans) k 0
-    ≤ get_or (spans_from reached (suc from) rest (note_node (get_or reached from true) from node spans)) k 0 =
-    nodes_grow reached (suc from) rest (note_node (get_or reached from true) from node spans) k in
+exits_grow : (reached : List Bool) (from : ℕ) (exits : List Exit) (spans : List ℕ) (k : ℕ)
+    → get_or spans k 0 ≤ get_or (spans_from reached from exits spans) k 0
+exits_grow reached from [] spans k = omega arith
+exits_grow reached from (exit ∷ rest) spans k =
+    let now : List ℕ = note_exit (get_or reached from true) from exit spans in
+    let a : get_or spans k 0 ≤ get_or (note_exit (get_or reached from true) from exit spans) k 0 =
+    exit_grows (get_or reached from true) from exit spans k in
+    let b : get_or (note_exit (get_or reached from true) from exit spans) k 0
+    ≤ get_or (spans_from reached (suc from) rest (note_exit (get_or reached from true) from exit spans)) k 0 =
+    exits_grow reached (suc from) rest (note_exit (get_or reached from true) from exit spans) k in
     omega (arith, a, b)
 
-node_noted : (r : Bool) (from : ℕ) (node : Node) (spans : List ℕ) (t : ℕ) → r ≡ true → IsOneOf t (ways_of node.exit).jumps → from < length spans
-    → max t (suc from) ≤ get_or (note_node r from node spans) (min from t) 0
-node_noted true from node spans t e o h = all_noted from (ways_of node.exit).jumps spans t o h
-node_noted false from node spans t e o h = absurd cc
+exit_noted : (r : Bool) (from : ℕ) (exit : Exit) (spans : List ℕ) (t : ℕ) → r ≡ true → IsOneOf t (ways_of exit).jumps → from < length spans
+    → max t (suc from) ≤ get_or (note_exit r from exit spans) (min from t) 0
+exit_noted true from exit spans t e o h = all_noted from (ways_of exit).jumps spans t o h
+exit_noted false from exit spans t e o h = absurd cc
 
 -- each jump of a node that is reached is noted
-nodes_noted : (reached : List Bool) (from : ℕ) (nodes : List Node) (spans : List ℕ) (i : ℕ) (node : Node) (t : ℕ) → slice_get nodes i ≡ Some node
-    → get_or reached (from + i) true ≡ true → IsOneOf t (ways_of node.exit).jumps → from + i < length spans
-    → max t (suc (from + i)) ≤ get_or (spans_from reached from nodes spans) (min (from + i) t) 0
-nodes_noted reached from [] spans i node t e r o h = absurd (none-some node e)
-nodes_noted reached from (first ∷ rest) spans zero node t e r o h =
+exits_noted : (reached : List Bool) (from : ℕ) (exits : List Exit) (spans : List ℕ) (i : ℕ) (exit : Exit) (t : ℕ) → slice_get exits i ≡ Some exit
+    → get_or reached (from + i) true ≡ true → IsOneOf t (ways_of exit).jumps → from + i < length spans
+    → max t (suc (from + i)) ≤ get_or (spans_from reached from exits spans) (min (from + i) t) 0
+exits_noted reached from [] spans i exit t e r o h = absurd (none-some exit e)
+exits_noted reached from (first ∷ rest) spans zero exit t e r o h =
     let same : from + 0 ≡ from = add-zero from in
-    let is : first ≡ node = same_Some first node e in
-    let now : List ℕ = note_node (get_or reached from true) from first spans in
-    let a : max t (suc from) ≤ get_or (note_node (get_or reached from true) from first spans) (min from t) 0 =
-    node_noted (get_or reached from true) from first spans t (subst (λ n. get_or reached n true ≡ true) same r)
-    (subst (λ (n : Node). IsOneOf t (ways_of n.exit).jumps) (sym is) o) (subst (λ n. n < length spans) same h) in
-    let b : get_or (note_node (get_or reached from true) from first spans) (min from t) 0
-    ≤ get_or (spans_from reached (suc from) rest (note_node (get_or reached from true) from first spans)) (min from t) 0 =
-    nodes_grow reached (suc from) rest (note_node (get_or reached from true) from first spans) (min from t) in
-    let both : max t (suc from) ≤ get_or (spans_from reached (suc from) rest (note_node (get_or reached from true) from first spans)) (min from t) 0 =
+    let is : first ≡ exit = same_Some first exit e in
+    let now : List ℕ = note_exit (get_or reached from true) from first spans in
+    let a : max t (suc from) ≤ get_or (note_exit (get_or reached from true) from first spans) (min from t) 0 =
+    exit_noted (get_or reached from true) from first spans t (subst (λ n. get_or reached n true ≡ true) same r)
+    (subst (λ (x : Exit). IsOneOf t (ways_of x).jumps) (sym is) o) (subst (λ n. n < length spans) same h) in
+    let b : get_or (note_exit (get_or reached from true) from first spans) (min from t) 0
+    ≤ get_or (spans_from reached (suc from) rest (note_exit (get_or reached from true) from first spans)) (min from t) 0 =
+    exits_grow reached (suc from) rest (note_exit (get_or reached from true) from first spans) (min from t) in
+    let both : max t (suc from) ≤ get_or (spans_from reached (suc from) rest (note_exit (get_or reached from true) from first spans)) (min from t) 0 =
     omega (arith, a, b) in
-    subst (λ n. max t (suc n) ≤ get_or (spans_from reached (suc from) rest (note_node (get_or reached from true) from first spans)) (min n t) 0)
+    subst (λ n. max t (suc n) ≤ get_or (spans_from reached (suc from) rest (note_exit (get_or reached from true) from first spans)) (min n t) 0)
     (sym same) both
-nodes_noted reached from (first ∷ rest) spans (suc i) node t e r o h =
+exits_noted reached from (first ∷ rest) spans (suc i) exit t e r o h =
     let same : suc from + i ≡ from + suc i = omega arith in
-    let now : List ℕ = note_node (get_or reached from true) from first spans in
-    let size : length (note_node (get_or reached from true) from first spans) ≡ length spans =
-    length_node (get_or reached from true) from first spans in
-    let inside : suc from + i < length (note_node (get_or reached from true) from first spans) = omega (arith, size, h) in
-    subst (λ n. max t (suc n) ≤ get_or (spans_from reached (suc from) rest (note_node (get_or reached from true) from first spans)) (min n t) 0) same
-    (nodes_noted reached (suc from) rest (note_node (get_or reached from true) from first spans) i node t e
+    let now : List ℕ = note_exit (get_or reached from true) from first spans in
+    let size : length (note_exit (get_or reached from true) from first spans) ≡ length spans =
+    length_exit (get_or reached from true) from first spans in
+    let inside : suc from + i < length (note_exit (get_or reached from true) from first spans) = omega (arith, size, h) in
+    subst (λ n. max t (suc n) ≤ get_or (spans_from reached (suc from) rest (note_exit (get_or reached from true) from first spans)) (min n t) 0) same
+    (exits_noted reached (suc from) rest (note_exit (get_or reached from true) from first spans) i exit t e
     (subst (λ n. get_or reached n true ≡ true) (sym same) r) o inside)
 
 -- a jump of a node that is reached, with its lesser end and its greatest point
-record IsNoted (reached : List Bool) (from : ℕ) (nodes : List Node) (k end : ℕ) : Type 0 where
+record IsNoted (reached : List Bool) (from : ℕ) (exits : List Exit) (k end : ℕ) : Type 0 where
   number : ℕ
-  node : Node
+  exit : Exit
   to : ℕ
-  there : slice_get nodes number ≡ Some node
+  there : slice_get exits number ≡ Some exit
   seen : get_or reached (from + number) true ≡ true
-  jumps : IsOneOf to (ways_of node.exit).jumps
+  jumps : IsOneOf to (ways_of exit).jumps
   ends : IsFrom (from + number) to k end
 
-node_noted_or : (r : Bool) (from : ℕ) (node : Node) (spans : List ℕ) (k : ℕ) → (get_or (note_node r from node spans) k 0 ≡ get_or spans k 0)
-    ⊎ ((r ≡ true) × OneIsFrom from (ways_of node.exit).jumps k (get_or (note_node r from node spans) k 0))
-node_noted_or true from node spans k = by (all_noted_or from (ways_of node.exit).jumps spans k)
+exit_noted_or : (r : Bool) (from : ℕ) (exit : Exit) (spans : List ℕ) (k : ℕ) → (get_or (note_exit r from exit spans) k 0 ≡ get_or spans k 0)
+    ⊎ ((r ≡ true) × OneIsFrom from (ways_of exit).jumps k (get_or (note_exit r from exit spans) k 0))
+exit_noted_or true from exit spans k = by (all_noted_or from (ways_of exit).jumps spans k)
   where
-    by : (get_or (fold (note from) spans (ways_of node.exit).jumps) k 0 ≡ get_or spans k 0)
-        ⊎ OneIsFrom from (ways_of node.exit).jumps k (get_or (fold (note from) spans (ways_of node.exit).jumps) k 0)
-        → (get_or (fold (note from) spans (ways_of node.exit).jumps) k 0 ≡ get_or spans k 0)
-        ⊎ ((true ≡ true) × OneIsFrom from (ways_of node.exit).jumps k (get_or (fold (note from) spans (ways_of node.exit).jumps) k 0))
+    by : (get_or (fold (note from) spans (ways_of exit).jumps) k 0 ≡ get_or spans k 0)
+        ⊎ OneIsFrom from (ways_of exit).jumps k (get_or (fold (note from) spans (ways_of exit).jumps) k 0)
+        → (get_or (fold (note from) spans (ways_of exit).jumps) k 0 ≡ get_or spans k 0)
+        ⊎ ((true ≡ true) × OneIsFrom from (ways_of exit).jumps k (get_or (fold (note from) spans (ways_of exit).jumps) k 0))
     by (inl e) = inl e
     by (inr o) = inr (refl, o)
-node_noted_or false from node spans k = inl refl
+exit_noted_or false from exit spans k = inl refl
 
 -- what is noted is a jump of a node that is reached
-nodes_noted_or : (reached : List Bool) (from : ℕ) (nodes : List Node) (spans : List ℕ) (k : ℕ)
-    → (get_or (spans_from reached from nodes spans) k 0 ≡ get_or spans k 0)
-    ⊎ IsNoted reached from nodes k (get_or (spans_from reached from nodes spans) k 0)
-nodes_noted_or reached from [] spans k = inl refl
-nodes_noted_or reached from (node ∷ rest) spans k = by (nodes_noted_or reached (suc from) rest now k) (node_noted_or r from node spans k)
+exits_noted_or : (reached : List Bool) (from : ℕ) (exits : List Exit) (spans : List ℕ) (k : ℕ)
+    → (get_or (spans_from reached from exits spans) k 0 ≡ get_or spans k 0)
+    ⊎ IsNoted reached from exits k (get_or (spans_from reached from exits spans) k 0)
+exits_noted_or reached from [] spans k = inl refl
+exits_noted_or reached from (exit ∷ rest) spans k = by (exits_noted_or reached (suc from) rest now k) (exit_noted_or r from exit spans k)
   where
     r : Bool
     r = get_or reached from true
 
     now : List ℕ
-    now = note_node (get_or reached from true) from node spans
+    now = note_exit (get_or reached from true) from exit spans
 
     last : ℕ
-    last = get_or (spans_from reached (suc from) rest (note_node (get_or reached from true) from node spans)) k 0
+    last = get_or (spans_from reached (suc from) rest (note_exit (get_or reached from true) from exit spans)) k 0
 
     by : (last ≡ get_or now k 0) ⊎ IsNoted reached (suc from) rest k last
-        → (get_or now k 0 ≡ get_or spans k 0) ⊎ ((r ≡ true) × OneIsFrom from (ways_of node.exit).jumps k (get_or now k 0))
-        → (last ≡ get_or spans k 0) ⊎ IsNoted reached from (node ∷ rest) k last
+        → (get_or now k 0 ≡ get_or spans k 0) ⊎ ((r ≡ true) × OneIsFrom from (ways_of exit).jumps k (get_or now k 0))
+        → (last ≡ get_or spans k 0) ⊎ IsNoted reached from (exit ∷ rest) k last
     by (inr o) g =
         let same : suc from + o.number ≡ from + suc o.number = omega arith in
         inr (record {
           number = suc o.number;
-          node = o.node;
+          exit = o.exit;
           to = o.to;
           there = o.there;
           seen = subst (λ n. get_or reached n true ≡ true) same o.seen;
@@ -246,7 +246,7 @@ nodes_noted_or reached from (node ∷ rest) spans k = by (nodes_noted_or reached
         let same : from ≡ from + 0 = sym (add-zero from) in
         inr (record {
           number = 0;
-          node = node;
+          exit = exit;
           to = g.1.0;
           there = refl;
           seen = subst (λ n. get_or reached n true ≡ true) same g.0;
@@ -355,114 +355,114 @@ between_passes s t q a b = by (leb t s) refl
     by true e = let h : t ≤ s = leb-true t s e in inr (omega (arith, a, b, h), omega (arith, a, b, h))
     by false e = let h : s < t = leb-false t s e in inl (omega (arith, a, b, h), omega (arith, a, b, h))
 
-node_of_ways : (nodes : List Node) (s : ℕ) (ways : Ways) → slice_get (ways_after nodes) s ≡ Some ways
-    → (node : Node) × (slice_get nodes s ≡ Some node) × (ways_of node.exit ≡ ways)
-node_of_ways nodes s ways e = by (slice_get nodes s) refl (sym (slice_get-map (λ (n : Node). ways_of n.exit) nodes s) ∙ e)
+exit_of_ways : (exits : List Exit) (s : ℕ) (ways : Ways) → slice_get (ways_after exits) s ≡ Some ways
+    → (exit : Exit) × (slice_get exits s ≡ Some exit) × (ways_of exit ≡ ways)
+exit_of_ways exits s ways e = by (slice_get exits s) refl (sym (slice_get-map ways_of exits s) ∙ e)
   where
-    by : (o : Option Node) → slice_get nodes s ≡ o → option_map (λ (n : Node). ways_of n.exit) o ≡ Some ways
-        → (node : Node) × (slice_get nodes s ≡ Some node) × (ways_of node.exit ≡ ways)
+    by : (o : Option Exit) → slice_get exits s ≡ o → option_map ways_of o ≡ Some ways
+        → (exit : Exit) × (slice_get exits s ≡ Some exit) × (ways_of exit ≡ ways)
     by None f g = absurd (none-some ways g)
-    by (Some node) f g = (node, f, same_Some (ways_of node.exit) ways g)
+    by (Some exit) f g = (exit, f, same_Some (ways_of exit) ways g)
 
 -- spans before any jump is noted
-abbrev no_spans : List Node → List ℕ
-no_spans nodes = replicate (length nodes) 0
+abbrev no_spans : List Exit → List ℕ
+no_spans exits = replicate (length exits) 0
 
 -- the spans of nodes of which it is known whether they are reached
-abbrev spans_of : List Bool → List Node → List ℕ
-spans_of reached nodes = spans_from reached 0 nodes (replicate (length nodes) 0)
+abbrev spans_of : List Bool → List Exit → List ℕ
+spans_of reached exits = spans_from reached 0 exits (replicate (length exits) 0)
 
-size_of_spans : (reached : List Bool) (nodes : List Node) → length (spans_of reached nodes) ≡ length nodes
-size_of_spans reached nodes = length_spans reached 0 nodes (replicate (length nodes) 0) ∙ length-replicate (length nodes) 0
+size_of_spans : (reached : List Bool) (exits : List Exit) → length (spans_of reached exits) ≡ length exits
+size_of_spans reached exits = length_spans reached 0 exits (replicate (length exits) 0) ∙ length-replicate (length exits) 0
 
-size_of_ways : (nodes : List Node) → length (ways_after nodes) ≡ length nodes
-size_of_ways nodes = length-map nodes (λ (node : Node). ways_of node.exit)
+size_of_ways : (exits : List Exit) → length (ways_after exits) ≡ length exits
+size_of_ways exits = length-map exits ways_of
 
-free_is_cut : (reached : List Bool) (nodes : List Node) → AreReached (ways_after nodes) reached → (q : ℕ) → IsFree 0 0 (spans_of reached nodes) q
-    → IsCut (ways_after nodes) q
-free_is_cut reached nodes known q f = record {
+free_is_cut : (reached : List Bool) (exits : List Exit) → AreReached (ways_after exits) reached → (q : ℕ) → IsFree 0 0 (spans_of reached exits) q
+    → IsCut (ways_after exits) q
+free_is_cut reached exits known q f = record {
   there =
-      let a : length (spans_of reached nodes) ≡ length nodes = size_of_spans reached nodes in
-      let b : length (ways_after nodes) ≡ length nodes = size_of_ways nodes in
+      let a : length (spans_of reached exits) ≡ length exits = size_of_spans reached exits in
+      let b : length (ways_after exits) ≡ length exits = size_of_ways exits in
       omega (arith, f.there, a, b);
-  free = λ s t r j p. not_passed s t r j (node_of_ways nodes s j.0 j.1) p;
+  free = λ s t r j p. not_passed s t r j (exit_of_ways exits s j.0 j.1) p;
 }
   where
-    not_passed : (s t : ℕ) → IsReached (ways_after nodes) s → (j : JumpsTo (ways_after nodes) s t)
-        → (node : Node) × (slice_get nodes s ≡ Some node) × (ways_of node.exit ≡ j.0) → PassesOver s t q → ⊥
+    not_passed : (s t : ℕ) → IsReached (ways_after exits) s → (j : JumpsTo (ways_after exits) s t)
+        → (exit : Exit) × (slice_get exits s ≡ Some exit) × (ways_of exit ≡ j.0) → PassesOver s t q → ⊥
     not_passed s t r j n p =
         let same : 0 + s ≡ s = omega arith in
-        let there : s < length nodes = slice_get_within nodes s n.0 n.1 in
-        let size : length (no_spans nodes) ≡ length nodes = length-replicate (length nodes) 0 in
+        let there : s < length exits = slice_get_within exits s n.0 n.1 in
+        let size : length (no_spans exits) ≡ length exits = length-replicate (length exits) 0 in
         let seen : get_or reached (0 + s) true ≡ true = subst (λ m. get_or reached m true ≡ true) (sym same) (known.complete s r) in
-        let inside : 0 + s < length (no_spans nodes) = omega (arith, there, size) in
-        let one : IsOneOf t (ways_of n.0.exit).jumps = subst (λ (w : Ways). IsOneOf t w.jumps) (sym n.2) j.2 in
-        let noted : max t (suc s) ≤ get_or (spans_of reached nodes) (min s t) 0 =
-        subst (λ m. max t (suc m) ≤ get_or (spans_of reached nodes) (min m t) 0) same
-        (nodes_noted reached 0 nodes (replicate (length nodes) 0) s n.0 t n.1 seen one inside) in
+        let inside : 0 + s < length (no_spans exits) = omega (arith, there, size) in
+        let one : IsOneOf t (ways_of n.0).jumps = subst (λ (w : Ways). IsOneOf t w.jumps) (sym n.2) j.2 in
+        let noted : max t (suc s) ≤ get_or (spans_of reached exits) (min s t) 0 =
+        subst (λ m. max t (suc m) ≤ get_or (spans_of reached exits) (min m t) 0) same
+        (exits_noted reached 0 exits (replicate (length exits) 0) s n.0 t n.1 seen one inside) in
         let b = passes_between s t q p in
-        let low : get_or (spans_of reached nodes) (min s t) 0 ≤ 0 + q = f.before (min s t) b.0 in
+        let low : get_or (spans_of reached exits) (min s t) 0 ≤ 0 + q = f.before (min s t) b.0 in
         let high : q < max t (suc s) = b.1 in
         omega (arith, noted, low, high)
 
-cut_is_free : (reached : List Bool) (nodes : List Node) → AreReached (ways_after nodes) reached → (q : ℕ) → IsCut (ways_after nodes) q
-    → IsFree 0 0 (spans_of reached nodes) q
-cut_is_free reached nodes known q cut = record {
-  there = omega (arith, size_of_spans reached nodes, there);
+cut_is_free : (reached : List Bool) (exits : List Exit) → AreReached (ways_after exits) reached → (q : ℕ) → IsCut (ways_after exits) q
+    → IsFree 0 0 (spans_of reached exits) q
+cut_is_free reached exits known q cut = record {
+  there = omega (arith, size_of_spans reached exits, there);
   past = omega arith;
-  before = λ k l. by k l (leb (get_or (spans_of reached nodes) k 0) q) refl;
+  before = λ k l. by k l (leb (get_or (spans_of reached exits) k 0) q) refl;
 }
   where
-    there : q < length nodes
-    there = let b : length (ways_after nodes) ≡ length nodes = size_of_ways nodes in omega (arith, cut.there, b)
+    there : q < length exits
+    there = let b : length (ways_after exits) ≡ length exits = size_of_ways exits in omega (arith, cut.there, b)
 
-    passed : (k : ℕ) → k < q → q < get_or (spans_of reached nodes) k 0
-        → (get_or (spans_of reached nodes) k 0 ≡ get_or (no_spans nodes) k 0) ⊎ IsNoted reached 0 nodes k (get_or (spans_of reached nodes) k 0)
+    passed : (k : ℕ) → k < q → q < get_or (spans_of reached exits) k 0
+        → (get_or (spans_of reached exits) k 0 ≡ get_or (no_spans exits) k 0) ⊎ IsNoted reached 0 exits k (get_or (spans_of reached exits) k 0)
         → ⊥
     passed k l h (inl e) =
-        let z : get_or (no_spans nodes) k 0 ≡ 0 = get_or-replicate (length nodes) k 0 0 (omega (arith, l, there)) in
+        let z : get_or (no_spans exits) k 0 ≡ 0 = get_or-replicate (length exits) k 0 0 (omega (arith, l, there)) in
         omega (arith, h, e, z)
     passed k l h (inr o) =
         let same : 0 + o.number ≡ o.number = omega arith in
         let low : min o.number o.to ≡ k = subst (λ m. min m o.to ≡ k) same o.ends.0 in
-        let high : max o.to (suc o.number) ≡ get_or (spans_of reached nodes) k 0 =
-        subst (λ m. max o.to (suc m) ≡ get_or (spans_of reached nodes) k 0) same o.ends.1 in
+        let high : max o.to (suc o.number) ≡ get_or (spans_of reached exits) k 0 =
+        subst (λ m. max o.to (suc m) ≡ get_or (spans_of reached exits) k 0) same o.ends.1 in
         let seen : get_or reached o.number true ≡ true = subst (λ m. get_or reached m true ≡ true) same o.seen in
-        let inside : o.number < length nodes = slice_get_within nodes o.number o.node o.there in
-        let b : length (ways_after nodes) ≡ length nodes = size_of_ways nodes in
-        let r : IsReached (ways_after nodes) o.number = known.sound o.number (omega (arith, inside, b, known.size)) seen in
+        let inside : o.number < length exits = slice_get_within exits o.number o.exit o.there in
+        let b : length (ways_after exits) ≡ length exits = size_of_ways exits in
+        let r : IsReached (ways_after exits) o.number = known.sound o.number (omega (arith, inside, b, known.size)) seen in
         let a : min o.number o.to < q = omega (arith, low, l) in
         let c : q < max o.to (suc o.number) = omega (arith, high, h) in
-        cut.free o.number o.to r (ways_of o.node.exit, ways_at nodes o.number o.node o.there, o.jumps) (between_passes o.number o.to q a c)
+        cut.free o.number o.to r (ways_of o.exit, ways_at exits o.number o.exit o.there, o.jumps) (between_passes o.number o.to q a c)
 
-    by : (k : ℕ) → k < q → (t : Bool) → leb (get_or (spans_of reached nodes) k 0) q ≡ t → get_or (spans_of reached nodes) k 0 ≤ 0 + q
+    by : (k : ℕ) → k < q → (t : Bool) → leb (get_or (spans_of reached exits) k 0) q ≡ t → get_or (spans_of reached exits) k 0 ≤ 0 + q
     by k l true e =
-        let h : get_or (spans_of reached nodes) k 0 ≤ q = leb-true (get_or (spans_of reached nodes) k 0) q e in omega (arith, h)
+        let h : get_or (spans_of reached exits) k 0 ≤ q = leb-true (get_or (spans_of reached exits) k 0) q e in omega (arith, h)
     by k l false e =
-        let h : q < get_or (spans_of reached nodes) k 0 = leb-false (get_or (spans_of reached nodes) k 0) q e in
-        absurd (passed k l h (nodes_noted_or reached 0 nodes (replicate (length nodes) 0) k))
+        let h : q < get_or (spans_of reached exits) k 0 = leb-false (get_or (spans_of reached exits) k 0) q e in
+        absurd (passed k l h (exits_noted_or reached 0 exits (replicate (length exits) 0) k))
 
 -- the points over which no jump of a node that is reached passes
-pub are_cuts : (reached : List Bool) (nodes : List Node) (spans cuts : List ℕ) → AreReached (ways_after nodes) reached
-    → spans ≡ spans_from reached 0 nodes (replicate (length nodes) 0) → cuts ≡ cuts_from 0 0 spans → AreCuts (ways_after nodes) cuts
-are_cuts reached nodes spans cuts known e f =
-    subst (AreCuts (ways_after nodes)) (sym (f ∙ ap (cuts_from 0 0) e)) (record {
-      ascending = ascend 0 0 (spans_of reached nodes);
+pub are_cuts : (reached : List Bool) (exits : List Exit) (spans cuts : List ℕ) → AreReached (ways_after exits) reached
+    → spans ≡ spans_from reached 0 exits (replicate (length exits) 0) → cuts ≡ cuts_from 0 0 spans → AreCuts (ways_after exits) cuts
+are_cuts reached exits spans cuts known e f =
+    subst (AreCuts (ways_after exits)) (sym (f ∙ ap (cuts_from 0 0) e)) (record {
+      ascending = ascend 0 0 (spans_of reached exits);
       each = λ q o.
-          let r = cuts_sound 0 0 (spans_of reached nodes) q o in
+          let r = cuts_sound 0 0 (spans_of reached exits) q o in
           let same : r.0 ≡ q = let g : q ≡ 0 + r.0 = r.1 in omega (arith, g) in
-          free_is_cut reached nodes known q (subst (IsFree 0 0 (spans_of reached nodes)) same r.2);
+          free_is_cut reached exits known q (subst (IsFree 0 0 (spans_of reached exits)) same r.2);
       all = λ q cut.
           let same : 0 + q ≡ q = omega arith in
-          subst (λ n. IsOneOf n (cuts_from 0 0 (spans_of reached nodes))) same
-          (cuts_complete 0 0 (spans_of reached nodes) q (cut_is_free reached nodes known q cut));
+          subst (λ n. IsOneOf n (cuts_from 0 0 (spans_of reached exits))) same
+          (cuts_complete 0 0 (spans_of reached exits) q (cut_is_free reached exits known q cut));
     })
 
 -- there are no more spans than nodes
-pub size_of_spans_after : (reached : List Bool) (nodes : List Node) (spans : List ℕ)
-    → spans ≡ spans_from reached 0 nodes (replicate (length nodes) 0) → length spans ≡ length nodes
-size_of_spans_after reached nodes spans e = ap length e ∙ size_of_spans reached nodes
+pub size_of_spans_after : (reached : List Bool) (exits : List Exit) (spans : List ℕ)
+    → spans ≡ spans_from reached 0 exits (replicate (length exits) 0) → length spans ≡ length exits
+size_of_spans_after reached exits spans e = ap length e ∙ size_of_spans reached exits
 
 -- there are as many truth values as nodes
-pub size_of_reached : (nodes : List Node) (reached : List Bool) → AreReached (ways_after nodes) reached → length reached ≡ length nodes
-size_of_reached nodes reached known = known.size ∙ size_of_ways nodes
+pub size_of_reached : (exits : List Exit) (reached : List Bool) → AreReached (ways_after exits) reached → length reached ≡ length exits
+size_of_reached exits reached known = known.size ∙ size_of_ways exits

@@ -5,9 +5,10 @@ use Rattle.std.proofs.lemmas.Bool.{eqb-false}
 use Rattle.std.proofs.lemmas.Option.{none-some, same_Some, slice_get-map, slice_get_within}
 use Rattle.std.proofs.lemmas.List.{get_or-replicate, get_or-set_other, length-map, length-replicate}
 use Rattle.stl_tree.specs.Segments.{IsOneOf, IsReached, Ways, fall, first, jump}
-use Rattle.flow_graph.specs.Graphs.{ways_of}
-use Rattle.flow_graph.specs.declared.graph.Node.{Node}
-use Rattle.flow_graph.specs.inner.Reaching.{AllReached, AllSeen, AreReached, SearchState, IsClosedButFor, IsSound, count_unseen, state_of, go_on, meet, next_of, ways_after}
+use Rattle.flow_graph.specs.Graphs.{ways_after, ways_of}
+use Rattle.flow_graph.specs.Reached.{AreReached}
+use Rattle.flow_graph.specs.declared.graph.Exit.{Exit}
+use Rattle.flow_graph.specs.inner.Reaching.{AllReached, AllSeen, SearchState, IsClosedButFor, IsSound, count_unseen, state_of, go_on, meet, next_of}
 
 -- Members
 
@@ -155,39 +156,39 @@ next_reached blocks s ways at r = by ways.falls refl
     by true e = (fall r (ways, at, e), jumps)
     by false e = jumps
 
-pub ways_at : (nodes : List Node) (u : ℕ) (node : Node) → slice_get nodes u ≡ Some node → slice_get (ways_after nodes) u ≡ Some (ways_of node.exit)
-ways_at nodes u node e = slice_get-map (λ (n : Node). ways_of n.exit) nodes u ∙ ap (option_map (λ (n : Node). ways_of n.exit)) e
+pub ways_at : (exits : List Exit) (u : ℕ) (exit : Exit) → slice_get exits u ≡ Some exit → slice_get (ways_after exits) u ≡ Some (ways_of exit)
+ways_at exits u exit e = slice_get-map ways_of exits u ∙ ap (option_map ways_of) e
 
 -- the search goes on from a node that it takes
-pub goes_on_reached : (nodes : List Node) (seen : List Bool) (work : List ℕ) (u : ℕ) → IsSound (ways_after nodes) (state_of seen (work ++ u ∷ []))
-    → IsSound (ways_after nodes) (go_on (slice_get nodes u) u (state_of seen work))
-goes_on_reached nodes seen work u s = by (slice_get nodes u) refl
+pub goes_on_reached : (exits : List Exit) (seen : List Bool) (work : List ℕ) (u : ℕ) → IsSound (ways_after exits) (state_of seen (work ++ u ∷ []))
+    → IsSound (ways_after exits) (go_on (slice_get exits u) u (state_of seen work))
+goes_on_reached exits seen work u s = by (slice_get exits u) refl
   where
-    parts : AllReached (ways_after nodes) work × IsReached (ways_after nodes) u
-    parts = taken (ways_after nodes) u work s.work
+    parts : AllReached (ways_after exits) work × IsReached (ways_after exits) u
+    parts = taken (ways_after exits) u work s.work
 
-    less : IsSound (ways_after nodes) (state_of seen work)
+    less : IsSound (ways_after exits) (state_of seen work)
     less = record { size = s.size; seen = s.seen; work = parts.0 }
 
-    by : (o : Option Node) → slice_get nodes u ≡ o → IsSound (ways_after nodes) (go_on o u (state_of seen work))
+    by : (o : Option Exit) → slice_get exits u ≡ o → IsSound (ways_after exits) (go_on o u (state_of seen work))
     by None e = less
-    by (Some node) e =
-        all_meet_reached (ways_after nodes) (next_of u (ways_of node.exit)) (state_of seen work) less
-        (next_reached (ways_after nodes) u (ways_of node.exit) (ways_at nodes u node e) parts.1)
+    by (Some exit) e =
+        all_meet_reached (ways_after exits) (next_of u (ways_of exit)) (state_of seen work) less
+        (next_reached (ways_after exits) u (ways_of exit) (ways_at exits u exit e) parts.1)
 
 -- All that follows is found
 
-pub goes_on_closed : (nodes : List Node) (seen : List Bool) (work : List ℕ) (u : ℕ) → IsClosedButFor (ways_after nodes) (state_of seen (work ++ u ∷ []))
-    → IsClosedButFor (ways_after nodes) (go_on (slice_get nodes u) u (state_of seen work))
-goes_on_closed nodes seen work u h = by (slice_get nodes u) refl
+pub goes_on_closed : (exits : List Exit) (seen : List Bool) (work : List ℕ) (u : ℕ) → IsClosedButFor (ways_after exits) (state_of seen (work ++ u ∷ []))
+    → IsClosedButFor (ways_after exits) (go_on (slice_get exits u) u (state_of seen work))
+goes_on_closed exits seen work u h = by (slice_get exits u) refl
   where
-    here : (o : Option Node) → slice_get nodes u ≡ o → (i : ℕ) (ways : Ways) → slice_get (ways_after nodes) i ≡ Some ways → i ≡ u
-        → option_map (λ (n : Node). ways_of n.exit) o ≡ Some ways
+    here : (o : Option Exit) → slice_get exits u ≡ o → (i : ℕ) (ways : Ways) → slice_get (ways_after exits) i ≡ Some ways → i ≡ u
+        → option_map ways_of o ≡ Some ways
     here o e i ways at same =
-        ap (option_map (λ (n : Node). ways_of n.exit)) (sym e) ∙ sym (slice_get-map (λ (n : Node). ways_of n.exit) nodes u)
-        ∙ subst (λ j. slice_get (ways_after nodes) j ≡ Some ways) same at
+        ap (option_map ways_of) (sym e) ∙ sym (slice_get-map ways_of exits u)
+        ∙ subst (λ j. slice_get (ways_after exits) j ≡ Some ways) same at
 
-    none : slice_get nodes u ≡ None → (i : ℕ) (ways : Ways) → slice_get (ways_after nodes) i ≡ Some ways
+    none : slice_get exits u ≡ None → (i : ℕ) (ways : Ways) → slice_get (ways_after exits) i ≡ Some ways
         → IsOneOf i (work ++ u ∷ []) ⊎ AllSeen seen (next_of i ways) → IsOneOf i work ⊎ AllSeen seen (next_of i ways)
     none e i ways at (inr all) = inr all
     none e i ways at (inl one) = at_one (one_cases i u work one)
@@ -196,34 +197,34 @@ goes_on_closed nodes seen work u h = by (slice_get nodes u) refl
         at_one (inl w) = inl w
         at_one (inr same) = absurd (none-some ways (here None e i ways at same))
 
-    some : (node : Node) → slice_get nodes u ≡ Some node → (i : ℕ) (ways : Ways) → slice_get (ways_after nodes) i ≡ Some ways
+    some : (exit : Exit) → slice_get exits u ≡ Some exit → (i : ℕ) (ways : Ways) → slice_get (ways_after exits) i ≡ Some ways
         → IsOneOf i (work ++ u ∷ []) ⊎ AllSeen seen (next_of i ways)
-        → IsOneOf i (fold meet (state_of seen work) (next_of u (ways_of node.exit))).work
-        ⊎ AllSeen (fold meet (state_of seen work) (next_of u (ways_of node.exit))).seen (next_of i ways)
-    some node e i ways at (inr all) = inr (still_seen (next_of u (ways_of node.exit)) (state_of seen work) (next_of i ways) all)
-    some node e i ways at (inl one) = at_one (one_cases i u work one)
+        → IsOneOf i (fold meet (state_of seen work) (next_of u (ways_of exit))).work
+        ⊎ AllSeen (fold meet (state_of seen work) (next_of u (ways_of exit))).seen (next_of i ways)
+    some exit e i ways at (inr all) = inr (still_seen (next_of u (ways_of exit)) (state_of seen work) (next_of i ways) all)
+    some exit e i ways at (inl one) = at_one (one_cases i u work one)
       where
         js : List ℕ
-        js = next_of u (ways_of node.exit)
+        js = next_of u (ways_of exit)
 
         at_one : IsOneOf i work ⊎ (i ≡ u)
             → IsOneOf i (fold meet (state_of seen work) js).work ⊎ AllSeen (fold meet (state_of seen work) js).seen (next_of i ways)
         at_one (inl w) = inl (all_wait_still js (state_of seen work) i w)
         at_one (inr same) =
-            let w : ways_of node.exit ≡ ways = same_Some (ways_of node.exit) ways (here (Some node) e i ways at same) in
+            let w : ways_of exit ≡ ways = same_Some (ways_of exit) ways (here (Some exit) e i ways at same) in
             inr (subst (λ x. AllSeen (fold meet (state_of seen work) js).seen (next_of i x)) w
-            (subst (λ j. AllSeen (fold meet (state_of seen work) js).seen (next_of j (ways_of node.exit))) (sym same) (all_met js (state_of seen work))))
+            (subst (λ j. AllSeen (fold meet (state_of seen work) js).seen (next_of j (ways_of exit))) (sym same) (all_met js (state_of seen work))))
 
-    by : (o : Option Node) → slice_get nodes u ≡ o → IsClosedButFor (ways_after nodes) (go_on o u (state_of seen work))
+    by : (o : Option Exit) → slice_get exits u ≡ o → IsClosedButFor (ways_after exits) (go_on o u (state_of seen work))
     by None e = λ i ways at m. none e i ways at (h i ways at m)
-    by (Some node) e = λ i ways at m. seen_now i ways at (all_new_wait (next_of u (ways_of node.exit)) (state_of seen work) i m)
+    by (Some exit) e = λ i ways at m. seen_now i ways at (all_new_wait (next_of u (ways_of exit)) (state_of seen work) i m)
       where
-        seen_now : (i : ℕ) (ways : Ways) → slice_get (ways_after nodes) i ≡ Some ways
-            → (get_or seen i true ≡ true) ⊎ IsOneOf i (fold meet (state_of seen work) (next_of u (ways_of node.exit))).work
-            → IsOneOf i (fold meet (state_of seen work) (next_of u (ways_of node.exit))).work
-            ⊎ AllSeen (fold meet (state_of seen work) (next_of u (ways_of node.exit))).seen (next_of i ways)
+        seen_now : (i : ℕ) (ways : Ways) → slice_get (ways_after exits) i ≡ Some ways
+            → (get_or seen i true ≡ true) ⊎ IsOneOf i (fold meet (state_of seen work) (next_of u (ways_of exit))).work
+            → IsOneOf i (fold meet (state_of seen work) (next_of u (ways_of exit))).work
+            ⊎ AllSeen (fold meet (state_of seen work) (next_of u (ways_of exit))).seen (next_of i ways)
         seen_now i ways at (inr w) = inl w
-        seen_now i ways at (inl m) = some node e i ways at (h i ways at m)
+        seen_now i ways at (inl m) = some exit e i ways at (h i ways at m)
 
 -- What is left to do
 
@@ -255,20 +256,20 @@ all_leave (j ∷ js) f =
     omega (arith, a, b)
 
 -- a node that is met gets a mark
-pub goes_on_leaves : (nodes : List Node) (f : SearchState) (u : ℕ)
-    → count_unseen (go_on (slice_get nodes u) u f).seen + length (go_on (slice_get nodes u) u f).work ≤ count_unseen f.seen + length f.work
-goes_on_leaves nodes f u = by (slice_get nodes u)
+pub goes_on_leaves : (exits : List Exit) (f : SearchState) (u : ℕ)
+    → count_unseen (go_on (slice_get exits u) u f).seen + length (go_on (slice_get exits u) u f).work ≤ count_unseen f.seen + length f.work
+goes_on_leaves exits f u = by (slice_get exits u)
   where
-    by : (o : Option Node) → count_unseen (go_on o u f).seen + length (go_on o u f).work ≤ count_unseen f.seen + length f.work
+    by : (o : Option Exit) → count_unseen (go_on o u f).seen + length (go_on o u f).work ≤ count_unseen f.seen + length f.work
     by None = omega arith
-    by (Some node) = all_leave (next_of u (ways_of node.exit)) f
+    by (Some exit) = all_leave (next_of u (ways_of exit)) f
 
-pub goes_on_stays : (nodes : List Node) (f : SearchState) (u j : ℕ) → get_or f.seen j true ≡ true → get_or (go_on (slice_get nodes u) u f).seen j true ≡ true
-goes_on_stays nodes f u j e = by (slice_get nodes u)
+pub goes_on_stays : (exits : List Exit) (f : SearchState) (u j : ℕ) → get_or f.seen j true ≡ true → get_or (go_on (slice_get exits u) u f).seen j true ≡ true
+goes_on_stays exits f u j e = by (slice_get exits u)
   where
-    by : (o : Option Node) → get_or (go_on o u f).seen j true ≡ true
+    by : (o : Option Exit) → get_or (go_on o u f).seen j true ≡ true
     by None = e
-    by (Some node) = all_stay (next_of u (ways_of node.exit)) f j e
+    by (Some exit) = all_stay (next_of u (ways_of exit)) f j e
 
 -- where no node is left to take
 pub none_left : (n : ℕ) (work rest : List ℕ) → n ≡ 0 → work ≡ rest ++ [] → rest ≡ take (n - 1) work → work ≡ []
@@ -280,32 +281,32 @@ none_left n work rest none whole e =
 unseen : (n i : ℕ) → i < n → get_or (replicate n false) i true ≡ true → ⊥
 unseen n i h m = let e : get_or (replicate n false) i true ≡ false = get_or-replicate n i false true h in cc
 
-starts_reached : (nodes : List Node) → IsSound (ways_after nodes) (meet (state_of (replicate (length nodes) false) []) 0)
-starts_reached nodes = meets_reached (ways_after nodes) (state_of (replicate n false) []) 0 none first
+starts_reached : (exits : List Exit) → IsSound (ways_after exits) (meet (state_of (replicate (length exits) false) []) 0)
+starts_reached exits = meets_reached (ways_after exits) (state_of (replicate n false) []) 0 none first
   where
     n : ℕ
-    n = length nodes
+    n = length exits
 
-    none : IsSound (ways_after nodes) (state_of (replicate n false) [])
+    none : IsSound (ways_after exits) (state_of (replicate n false) [])
     none = record {
-      size = length-replicate n false ∙ sym (length-map nodes (λ (node : Node). ways_of node.exit));
+      size = length-replicate n false ∙ sym (length-map exits ways_of);
       seen = λ i h m. absurd (unseen n i (subst (λ m. i < m) (length-replicate n false) h) m);
       work = tt;
     }
 
-starts_closed : (nodes : List Node) → IsClosedButFor (ways_after nodes) (meet (state_of (replicate (length nodes) false) []) 0)
-starts_closed nodes = λ i ways at m. by i ways at (new_waits (state_of (replicate n false) []) 0 i m)
+starts_closed : (exits : List Exit) → IsClosedButFor (ways_after exits) (meet (state_of (replicate (length exits) false) []) 0)
+starts_closed exits = λ i ways at m. by i ways at (new_waits (state_of (replicate n false) []) 0 i m)
   where
     n : ℕ
-    n = length nodes
+    n = length exits
 
-    by : (i : ℕ) (ways : Ways) → slice_get (ways_after nodes) i ≡ Some ways
+    by : (i : ℕ) (ways : Ways) → slice_get (ways_after exits) i ≡ Some ways
         → (get_or (replicate n false) i true ≡ true) ⊎ IsOneOf i (meet (state_of (replicate n false) []) 0).work
         → IsOneOf i (meet (state_of (replicate n false) []) 0).work ⊎ AllSeen (meet (state_of (replicate n false) []) 0).seen (next_of i ways)
     by i ways at (inr w) = inl w
     by i ways at (inl m) =
-        let h : i < length (ways_after nodes) = slice_get_within (ways_after nodes) i ways at in
-        absurd (unseen n i (subst (λ k. i < k) (length-map nodes (λ (node : Node). ways_of node.exit)) h) m)
+        let h : i < length (ways_after exits) = slice_get_within (ways_after exits) i ways at in
+        absurd (unseen n i (subst (λ k. i < k) (length-map exits ways_of) h) m)
 
 starts_first : (n : ℕ) → get_or (meet (state_of (replicate n false) []) 0).seen 0 true ≡ true
 starts_first n = met (state_of (replicate n false) []) 0
@@ -316,15 +317,15 @@ is_start : (P : SearchState → Type 0) (n : ℕ) (f : SearchState) (marks : Lis
 is_start P n f marks none e g h p =
     subst P (sym h) (subst (λ m. P (meet (state_of m none) 0)) (sym e) (subst (λ w. P (meet (state_of (replicate n false) w) 0)) (sym g) p))
 
-pub started_reached : (nodes : List Node) (seen marks : List Bool) (work none : List ℕ) → marks ≡ replicate (length nodes) false → none ≡ []
-    → state_of seen work ≡ meet (state_of marks none) 0 → IsSound (ways_after nodes) (state_of seen work)
-started_reached nodes seen marks work none e g h =
-    is_start (IsSound (ways_after nodes)) (length nodes) (state_of seen work) marks none e g h (starts_reached nodes)
+pub started_reached : (exits : List Exit) (seen marks : List Bool) (work none : List ℕ) → marks ≡ replicate (length exits) false → none ≡ []
+    → state_of seen work ≡ meet (state_of marks none) 0 → IsSound (ways_after exits) (state_of seen work)
+started_reached exits seen marks work none e g h =
+    is_start (IsSound (ways_after exits)) (length exits) (state_of seen work) marks none e g h (starts_reached exits)
 
-pub started_closed : (nodes : List Node) (seen marks : List Bool) (work none : List ℕ) → marks ≡ replicate (length nodes) false → none ≡ []
-    → state_of seen work ≡ meet (state_of marks none) 0 → IsClosedButFor (ways_after nodes) (state_of seen work)
-started_closed nodes seen marks work none e g h =
-    is_start (IsClosedButFor (ways_after nodes)) (length nodes) (state_of seen work) marks none e g h (starts_closed nodes)
+pub started_closed : (exits : List Exit) (seen marks : List Bool) (work none : List ℕ) → marks ≡ replicate (length exits) false → none ≡ []
+    → state_of seen work ≡ meet (state_of marks none) 0 → IsClosedButFor (ways_after exits) (state_of seen work)
+started_closed exits seen marks work none e g h =
+    is_start (IsClosedButFor (ways_after exits)) (length exits) (state_of seen work) marks none e g h (starts_closed exits)
 
 pub started_first : (n : ℕ) (seen marks : List Bool) (work none : List ℕ) → marks ≡ replicate n false → none ≡ []
     → state_of seen work ≡ meet (state_of marks none) 0 → get_or seen 0 true ≡ true

@@ -1,8 +1,10 @@
 -- The graph of a body. It has a node for each block of the body, with the exit by which the block goes on, and the cuts
 -- of these blocks.
-use Rattle.std.specs.Prelude.{◌≡◌, ℕ, true, false, List, [], ◌∷◌, map, slice_get, Some}
+use Rattle.std.specs.Prelude.{◌≡◌, ℕ, ◌+◌, ◌==◌, List, [], ◌∷◌, map, slice_get, Some}
+use Rattle.std.specs.List.{list_any}
 use Rattle.stl_tree.specs.Blocks.{AreBlocksOf, Extent, Way, always, if_made, instructions_of, on, one_of, stops, unless_ended, way_of}
 use Rattle.stl_tree.specs.Segments.{AreCuts, Ways}
+use Rattle.stl_tree.specs.WellNested.{Flow, ways_by}
 use Rattle.stl_tree.specs.declared.program.Instr.{Instr}
 use Rattle.flow_graph.specs.declared.graph.Exit.{Exit}
 use Rattle.flow_graph.specs.declared.graph.Exit.TheVariants as exit
@@ -34,14 +36,30 @@ IsExitTo nodes (one_of targets label) (exit.Table js j) = BeginAt nodes js targe
 IsExitTo nodes stops exit.End = Unit {0}
 IsExitTo nodes way other = ⊥
 
+-- the way after a node, by the numbers of nodes
+abbrev pub way_by : Exit → Way
+way_by exit.Fall = on
+way_by (exit.Jump j) = always j
+way_by (exit.Branch j) = if_made j
+way_by exit.EndIf = unless_ended
+way_by (exit.Table js j) = one_of js j
+way_by exit.End = stops
+
 -- the ways after a node, as blocks have them
 abbrev pub ways_of : Exit → Ways
-ways_of exit.Fall = record { jumps = []; falls = true }
-ways_of (exit.Jump j) = record { jumps = j ∷ []; falls = false }
-ways_of (exit.Branch j) = record { jumps = j ∷ []; falls = true }
-ways_of exit.EndIf = record { jumps = []; falls = true }
-ways_of (exit.Table js j) = record { jumps = j ∷ js; falls = false }
-ways_of exit.End = record { jumps = []; falls = false }
+ways_of exit = ways_by (way_by exit)
+
+-- the ways after nodes with these exits
+abbrev pub ways_after : List Exit → List Ways
+ways_after exits = map ways_of exits
+
+-- the blocks of a body of so many instructions
+abbrev pub flow_of : ℕ → List Node → Flow
+flow_of size nodes =
+    record {
+      ways = map (λ (node : Node). way_by node.exit) nodes;
+      ends_alone = list_any (λ (node : Node). node.first + 1 == size) nodes;
+    }
 
 -- each of some nodes has the exit of its block
 abbrev pub HaveExits : List Instr → List Node → Type 0

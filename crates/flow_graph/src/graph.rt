@@ -3,8 +3,9 @@ ghost use Rattle.std.specs.Prelude.{◌≤◌, length, IfOk};
 ghost use Rattle.stl_tree.specs.Accepted.{AreTargets, IsEnded};
 ghost use Rattle.flow_graph.specs.Graphs.{IsGraphOf};
 
-use crate::cuts::cuts;
-use crate::nodes::nodes;
+use crate::nodes::{blocks, joined_nodes};
+use crate::points::cuts;
+use crate::search::reach;
 use s7_base::{List, NoMemory};
 use std::alloc::Global;
 use stl_tree::Instr;
@@ -54,7 +55,9 @@ pub fn graph_of(alloc: Global, body: &[Instr]) -> Result<Graph, NoMemory>
     requires few { length body.now ≤ 32769 }
     ensures { IfOk result (IsGraphOf body.now) }
 {
-    let nodes = nodes(alloc, body)?;
-    let cuts = cuts(alloc, nodes.as_slice())?;
+    let (bounds, exits) = blocks(alloc, body)?;
+    let reached = reach(alloc, exits.as_slice())?;
+    let cuts = cuts(alloc, exits.as_slice(), reached.as_slice())?;
+    let nodes = joined_nodes(alloc, bounds.as_slice(), exits)?;
     Ok(Graph { nodes, cuts })
 }

@@ -1,9 +1,10 @@
 //! A search for the nodes that a path from the first one reaches.
 ghost use Rattle.std.specs.Prelude.{◌≡◌, ◌<◌, ◌^◌, false, true, fold, get_or, length, replicate, slice_get, IfOk, OnOk};
-ghost use Rattle.flow_graph.specs.Graphs.{ways_of};
-ghost use Rattle.flow_graph.specs.inner.Reaching.{AreReached, IsClosedButFor, IsSound, state_of, go_on, meet, next_of, ways_after};
+ghost use Rattle.flow_graph.specs.Graphs.{ways_after, ways_of};
+ghost use Rattle.flow_graph.specs.Reached.{AreReached};
+ghost use Rattle.flow_graph.specs.inner.Reaching.{IsClosedButFor, IsSound, state_of, go_on, meet, next_of};
 
-use crate::graph::{Exit, Node};
+use crate::graph::Exit;
 use s7_base::NoMemory;
 use std::alloc::Global;
 
@@ -58,47 +59,47 @@ fn meet_next(
 fn go_on(
     seen: &mut [bool],
     work: &mut Vec<usize>,
-    nodes: &[Node],
+    exits: &[Exit],
     number: usize,
 ) -> Result<(), NoMemory>
     ensures { OnOk result (state_of seen.new work.new.items
-        ≡ go_on (slice_get nodes.now number) number (state_of seen.old work.old.items)) }
+        ≡ go_on (slice_get exits.now number) number (state_of seen.old work.old.items)) }
 {
-    match nodes.get(number) {
-        Some(node) => meet_next(seen, work, number, &node.exit),
+    match exits.get(number) {
+        Some(exit) => meet_next(seen, work, number, exit),
         None => Ok(()),
     }
 }
 
 /// Goes on from all nodes that wait, and from those that come to wait.
-fn search(seen: &mut [bool], work: &mut Vec<usize>, nodes: &[Node]) -> Result<(), NoMemory>
-    requires sound { IsSound (ways_after nodes.now) (state_of seen.old work.old.items) }
-    requires closed { IsClosedButFor (ways_after nodes.now) (state_of seen.old work.old.items) }
+fn search(seen: &mut [bool], work: &mut Vec<usize>, exits: &[Exit]) -> Result<(), NoMemory>
+    requires sound { IsSound (ways_after exits.now) (state_of seen.old work.old.items) }
+    requires closed { IsClosedButFor (ways_after exits.now) (state_of seen.old work.old.items) }
     requires first { get_or seen.old 0 true ≡ true }
-    ensures { OnOk result (AreReached (ways_after nodes.now) seen.new) }
+    ensures { OnOk result (AreReached (ways_after exits.now) seen.new) }
 {
     while let Some(number) = work.pop() {
-        go_on(seen, work, nodes, number)?;
+        go_on(seen, work, exits, number)?;
     }
     Ok(())
 }
 
 /// Goes on from the first node and from all nodes that come to wait.
-fn search_from_first(alloc: Global, seen: &mut [bool], nodes: &[Node]) -> Result<(), NoMemory>
-    requires { seen.old ≡ replicate (length nodes.now) false }
-    ensures { OnOk result (AreReached (ways_after nodes.now) seen.new) }
+fn search_from_first(alloc: Global, seen: &mut [bool], exits: &[Exit]) -> Result<(), NoMemory>
+    requires { seen.old ≡ replicate (length exits.now) false }
+    ensures { OnOk result (AreReached (ways_after exits.now) seen.new) }
 {
     let mut work = Vec::new(alloc);
     meet(seen, &mut work, 0)?;
-    search(seen, &mut work, nodes)
+    search(seen, &mut work, exits)
 }
 
-/// Which nodes a path from the first one reaches.
-pub fn reach(alloc: Global, nodes: &[Node]) -> Result<Vec<bool>, NoMemory>
-    ensures { IfOk result (λ reached. AreReached (ways_after nodes.now) reached.items) }
+/// Which of the nodes with these exits a path from the first one reaches.
+pub fn reach(alloc: Global, exits: &[Exit]) -> Result<Vec<bool>, NoMemory>
+    ensures { IfOk result (λ reached. AreReached (ways_after exits.now) reached.items) }
 {
     let mut seen = Vec::new(alloc);
-    seen.resize(nodes.len(), false)?;
-    search_from_first(alloc, seen.as_mut_slice(), nodes)?;
+    seen.resize(exits.len(), false)?;
+    search_from_first(alloc, seen.as_mut_slice(), exits)?;
     Ok(seen)
 }

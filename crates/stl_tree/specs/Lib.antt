@@ -17,4 +17,5 @@ pub mod RunLaws
 pub mod Segments
 pub mod Shifts
 pub mod StlRun
+pub mod WellNested
 pub mod WordLogic

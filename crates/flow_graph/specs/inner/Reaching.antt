@@ -1,8 +1,8 @@
 -- A search for the nodes that a path from the first one reaches.
-use Rattle.std.specs.Prelude.{◌≡◌, ◌⊎◌, ℕ, suc, ◌<◌, Bool, true, false, if◌then◌else◌, List, [], ◌∷◌, ◌++◌, length, map, fold, get_or, slice_get, slice_set, Option, Some, None}
+use Rattle.std.specs.Prelude.{◌≡◌, ◌⊎◌, ℕ, suc, ◌<◌, Bool, true, false, if◌then◌else◌, List, [], ◌∷◌, ◌++◌, length, fold, get_or, slice_get, slice_set, Option, Some, None}
 use Rattle.stl_tree.specs.Segments.{IsOneOf, IsReached, Ways}
 use Rattle.flow_graph.specs.Graphs.{ways_of}
-use Rattle.flow_graph.specs.declared.graph.Node.{Node}
+use Rattle.flow_graph.specs.declared.graph.Exit.{Exit}
 
 -- what a search has found: which nodes are seen, and those among them from which it has not gone on yet
 pub record SearchState : Type 0 where
@@ -20,14 +20,10 @@ meet f i = if get_or f.seen i true then f else record { seen = slice_set f.seen 
 abbrev pub next_of : ℕ → Ways → List ℕ
 next_of s ways = if ways.falls then suc s ∷ ways.jumps else ways.jumps
 
--- the ways after the nodes of a graph
-abbrev pub ways_after : List Node → List Ways
-ways_after nodes = map (λ (node : Node). ways_of node.exit) nodes
-
 -- what is found after the search goes on from a node
-abbrev pub go_on : Option Node → ℕ → SearchState → SearchState
+abbrev pub go_on : Option Exit → ℕ → SearchState → SearchState
 go_on None s f = f
-go_on (Some node) s f = fold meet f (next_of s (ways_of node.exit))
+go_on (Some exit) s f = fold meet f (next_of s (ways_of exit))
 
 -- how many nodes are not seen
 abbrev pub count_unseen : List Bool → ℕ
@@ -55,9 +51,3 @@ pub record IsSound (blocks : List Ways) (f : SearchState) : Type 0 where
 abbrev pub IsClosedButFor : List Ways → SearchState → Type 0
 IsClosedButFor blocks f = (i : ℕ) (ways : Ways) → slice_get blocks i ≡ Some ways → get_or f.seen i true ≡ true
     → IsOneOf i f.work ⊎ AllSeen f.seen (next_of i ways)
-
--- truth values say which nodes are reached
-pub record AreReached (blocks : List Ways) (seen : List Bool) : Type 0 where
-  pub size : length seen ≡ length blocks
-  pub sound : (i : ℕ) → i < length seen → get_or seen i true ≡ true → IsReached blocks i
-  pub complete : (i : ℕ) → IsReached blocks i → get_or seen i true ≡ true

@@ -5,12 +5,11 @@
 //! before it is after it.
 ghost use Rattle.std.specs.Prelude.{◌≡◌, ◌<◌, ◌≤◌, fold, length, replicate, IfOk};
 ghost use Rattle.stl_tree.specs.Segments.{AreCuts};
-ghost use Rattle.flow_graph.specs.Graphs.{ways_of};
-ghost use Rattle.flow_graph.specs.inner.Reaching.{AreReached, ways_after};
+ghost use Rattle.flow_graph.specs.Graphs.{ways_after, ways_of};
+ghost use Rattle.flow_graph.specs.Reached.{AreReached};
 ghost use Rattle.flow_graph.specs.inner.Spans.{cuts_from, note, spans_from};
 
-use crate::graph::{Exit, Node};
-use crate::search::reach;
+use crate::graph::Exit;
 use s7_base::{List, NoMemory};
 use std::alloc::Global;
 
@@ -49,16 +48,16 @@ fn note_exit(spans: &mut [usize], from: usize, exit: &Exit)
 }
 
 /// How far the jumps of nodes that are reached pass over points, by the lesser of their two nodes.
-fn spans(alloc: Global, nodes: &[Node], reached: &[bool]) -> Result<Vec<usize>, NoMemory>
-    requires { length reached.now ≡ length nodes.now }
+fn spans(alloc: Global, exits: &[Exit], reached: &[bool]) -> Result<Vec<usize>, NoMemory>
+    requires { length reached.now ≡ length exits.now }
     ensures { IfOk result
-        (λ spans. spans.items ≡ spans_from reached.now 0 nodes.now (replicate (length nodes.now) 0)) }
+        (λ spans. spans.items ≡ spans_from reached.now 0 exits.now (replicate (length exits.now) 0)) }
 {
     let mut spans = Vec::new(alloc);
-    spans.resize(nodes.len(), 0)?;
-    for (from, node) in nodes.iter().enumerate() {
+    spans.resize(exits.len(), 0)?;
+    for (from, exit) in exits.iter().enumerate() {
         if reached[from] {
-            note_exit(spans.as_mut_slice(), from, &node.exit);
+            note_exit(spans.as_mut_slice(), from, exit);
         }
     }
     Ok(spans)
@@ -80,13 +79,13 @@ fn cuts_by(alloc: Global, spans: &[usize]) -> Result<List<u32>, NoMemory>
     Ok(cuts)
 }
 
-/// The cuts of some nodes.
+/// The cuts of the nodes with these exits, where it is known which of them are reached.
 #[tactic(auto, using(crate::proofs::Passing::are_cuts, crate::proofs::Passing::size_of_spans_after, crate::proofs::Passing::size_of_reached))]
-pub fn cuts(alloc: Global, nodes: &[Node]) -> Result<List<u32>, NoMemory>
-    requires { length nodes.now ≤ 32769 }
-    ensures { IfOk result (AreCuts (ways_after nodes.now)) }
+pub fn cuts(alloc: Global, exits: &[Exit], reached: &[bool]) -> Result<List<u32>, NoMemory>
+    requires few { length exits.now ≤ 32769 }
+    requires reached { AreReached (ways_after exits.now) reached.now }
+    ensures { IfOk result (AreCuts (ways_after exits.now)) }
 {
-    let reached = reach(alloc, nodes)?;
-    let spans = spans(alloc, nodes, reached.as_slice())?;
+    let spans = spans(alloc, exits, reached)?;
     cuts_by(alloc, spans.as_slice())
 }
