@@ -1,4 +1,5 @@
 pub mod Divisors
+pub mod Flow
 pub mod Plain
 pub mod Runs
 pub mod Writes

@@ -1,0 +1,131 @@
+-- The loops that begin in a planned part are nested, and what jumps from the part stays in them or leaves one of them.
+use Rattle.std.proofs.Common.{◌≡◌, ◌⊎◌, inl, inr, ⊎_elim, ℕ, suc, ◌<◌, ◌≤◌, Bool, true, false, sym, subst, arith}
+use Rattle.std.proofs.lemmas.Bool.{cases_lt}
+use Rattle.stl_tree.specs.Segments.{IsReached}
+use Rattle.stl_tree.specs.WellNested.{IsInnermost, IsJump, IsLoop, Segment, blocks_of}
+use Rattle.nesting_laws.specs.Plans.{Around, IsFresh, IsPlan, Plan, arm, arms, done, inside, loop, one, skip}
+use Rattle.nesting_laws.proofs.Contexts.{AllLand, IsContext, all_land, arm_context, arm_rest_context, arms_rest_context, body_cases, body_context, first_context, loop_rest_context, one_context, second_context, skip_context}
+use Rattle.nesting_laws.proofs.Exits.{jump_leads}
+use Rattle.nesting_laws.proofs.Facts.{Facts}
+use Rattle.nesting_laws.proofs.Parts.{LoopLands}
+
+-- the first block at which a loop may begin
+abbrev pub first_head : Bool → ℕ → ℕ
+first_head true lo = suc lo
+first_head false lo = lo
+
+low_first : (paid : Bool) (lo : ℕ) → lo ≤ first_head paid lo
+low_first true lo = omega arith
+low_first false lo = omega arith
+
+fresh_head : (g : Segment) (paid : Bool) (lo h l : ℕ) → IsFresh g paid lo → IsLoop g h l → first_head paid lo ≤ h → lo < h
+fresh_head g true lo h l fresh is x = x
+fresh_head g false lo h l fresh is x = ⊎_elim (λ y. y)
+    (λ y. absurd (omega (arith, fresh l (subst (λ h. IsJump g l h) (let e : h ≡ lo = omega arith in e) is.back), is.ordered))) (cases_lt lo h)
+
+pub record IsNest (g : Segment) (from lo hi : ℕ) : Type 0 where
+  pub apart : (h l k m : ℕ) → IsLoop g h l → IsLoop g k m → from ≤ h → h < k → k < hi → (l < k) ⊎ (m ≤ l)
+  pub enters : (s t h l : ℕ) → IsJump g s t → IsLoop g h l → from ≤ h → h < hi → s < h → h < t → t ≤ l → ⊥
+  pub exits : (s t h l : ℕ) → IsJump g s t → IsInnermost g h l s → lo ≤ s → s < hi → from ≤ h → LoopLands g h l t
+
+nothing_nest : (g : Segment) (paid : Bool) (lo : ℕ) → IsNest g (first_head paid lo) lo lo
+nothing_nest g paid lo = let x = low_first paid lo in record {
+  apart = λ h l k m is other y z w. absurd (omega arith);
+  enters = λ s t h l jump is y z w v u. omega arith;
+  exits = λ s t h l jump is y z w. absurd (omega arith);
+}
+
+-- two parts, one behind the other
+joined_nest : (g : Segment) (c d hi to : ℕ) (a : Around) → c ≤ d → d ≤ hi → IsContext g c d to a → IsNest g c c d → IsNest g d d hi → IsNest g c c hi
+joined_nest g c d hi to a x y ctx first rest = record {
+  apart = λ h l k m is other z w v. ⊎_elim
+      (λ i. ⊎_elim (λ j. first.apart h l k m is other z w j)
+      (λ j. inl (⊎_elim (λ n. omega arith) (λ n. absurd (ctx.back l h is.back n z i)) (cases_lt l d))) (cases_lt k d))
+      (λ i. rest.apart h l k m is other i w v) (cases_lt h d);
+  enters = λ s t h l jump is z w v i j. ⊎_elim
+      (λ k. first.enters s t h l jump is z k v i j) (λ k. rest.enters s t h l jump is k w v i j) (cases_lt h d);
+  exits = λ s t h l jump is z w v. ⊎_elim (λ k. first.exits s t h l jump is z k v)
+      (λ k. ⊎_elim (λ n. absurd (ctx.back l h is.around.loop.back (omega (arith, is.around.high)) v n))
+      (λ n. rest.exits s t h l jump is k w n) (cases_lt h d)) (cases_lt s d);
+}
+
+-- one block more, at which no loop begins
+further_nest : (g : Segment) (paid : Bool) (lo hi : ℕ) → IsFresh g paid lo → IsNest g (suc lo) (suc lo) hi → IsNest g (first_head paid lo) lo hi
+further_nest g paid lo hi fresh rest = record {
+  apart = λ h l k m is other z w v. rest.apart h l k m is other (fresh_head g paid lo h l fresh is z) w v;
+  enters = λ s t h l jump is z w v i j. rest.enters s t h l jump is (fresh_head g paid lo h l fresh is z) w v i j;
+  exits = λ s t h l jump is z w v. let n = fresh_head g paid lo h l fresh is.around.loop v in
+      rest.exits s t h l jump is (omega (arith, is.around.low)) w n;
+}
+
+module _ {g : Segment} (facts : Facts g) where
+  unreached_fresh : (paid : Bool) (lo : ℕ) → (IsReached (blocks_of g.flow) lo → ⊥) → IsFresh g paid lo
+  unreached_fresh true lo none = tt
+  unreached_fresh false lo none = λ s jump. absurd (none (facts.leads_reached s lo (jump_leads g s lo jump)))
+
+  module _ {lo hi follow : ℕ} {a : Around} (l : ℕ) (ctx : IsContext g lo hi follow a) (is_loop : IsLoop g lo l) (low : l < hi)
+      (land : AllLand g lo (suc l) lo (inside lo l)) (ctx' : IsContext g lo (suc l) lo (inside lo l))
+      (body : IsNest g (suc lo) lo (suc l)) (rest : IsNest g (suc l) (suc l) hi) where
+    -- a loop that begins in the loop ends in it
+    ends_within : (h m : ℕ) → IsLoop g h m → lo ≤ h → h ≤ l → m ≤ l
+    ends_within h m is x y = ⊎_elim (λ n. omega arith) (λ n. absurd (ctx'.back m h is.back n x (omega arith))) (cases_lt m (suc l))
+
+    same_end : (h m : ℕ) → IsLoop g h m → h ≡ lo → l ≤ m
+    same_end h m is e = is.greatest l (subst (λ h. IsJump g l h) (sym e) is_loop.back)
+
+    loop_enters : (s t h m : ℕ) → IsJump g s t → IsLoop g h m → h ≤ lo → lo ≤ h → s < h → h < t → t ≤ m → ⊥
+    loop_enters s t h m jump is x y z w v =
+        let p = ends_within h m is y (omega (arith, is_loop.ordered)) in
+        ctx.entry s t jump (omega arith) (omega arith) (omega arith) (λ c. omega (arith, facts.before_end m h t is.back c)) lo (omega arith) (omega arith)
+        (facts.leads_reached l lo (jump_leads g l lo is_loop.back))
+
+    loop_exits : (s t h m : ℕ) → IsJump g s t → IsLoop g h m → h ≤ lo → lo ≤ h → lo ≤ s → s ≤ l → LoopLands g h m t
+    loop_exits s t h m jump is x y z w =
+        let p = ends_within h m is y (omega (arith, is_loop.ordered)) in let q = same_end h m is (omega arith) in
+        ⊎_elim (λ n. inl (omega arith, omega arith)) (λ n. inr (⊎_elim (λ e. inl (omega arith)) inr n))
+        (body_cases g lo l land s t jump z w is_loop.ordered)
+
+    loop_nest : IsNest g lo lo hi
+    loop_nest = record {
+      apart = λ h m k n is other z w v. ⊎_elim
+          (λ i. ⊎_elim
+          (λ j. ⊎_elim (λ o. body.apart h m k n is other o w (omega arith))
+          (λ o. inr (let p = same_end h m is (omega arith) in let q = ends_within k n other (omega arith) (omega arith) in omega arith)) (cases_lt lo h))
+          (λ j. inl (let p = ends_within h m is z (omega arith) in omega arith)) (cases_lt k (suc l)))
+          (λ i. rest.apart h m k n is other i w v) (cases_lt h (suc l));
+      enters = λ s t h m jump is z w v i j. ⊎_elim
+          (λ k. ⊎_elim (λ o. body.enters s t h m jump is o k v i j) (λ o. loop_enters s t h m jump is o z v i j) (cases_lt lo h))
+          (λ k. rest.enters s t h m jump is k w v i j) (cases_lt h (suc l));
+      exits = λ s t h m jump is z w v. ⊎_elim
+          (λ k. ⊎_elim (λ o. body.exits s t h m jump is z k o)
+          (λ o. loop_exits s t h m jump is.around.loop o v z (omega arith)) (cases_lt lo h))
+          (λ k. ⊎_elim (λ o. absurd (let p = ends_within h m is.around.loop v (omega arith) in omega (arith, is.around.high)))
+          (λ o. rest.exits s t h m jump is k w o) (cases_lt h (suc l))) (cases_lt s (suc l));
+    }
+
+  pub plan_nest : (plan : Plan) (paid : Bool) (lo hi follow : ℕ) (a : Around) → IsPlan g plan paid lo hi follow a → IsContext g lo hi follow a
+      → IsNest g (first_head paid lo) lo hi
+  plan_nest done paid lo hi follow a is ctx = subst (λ hi. IsNest g (first_head paid lo) lo hi) is (nothing_nest g paid lo)
+  plan_nest (skip rest) paid lo hi follow a (x, none, is) ctx =
+      further_nest g paid lo hi (unreached_fresh paid lo none) (plan_nest rest false (suc lo) hi follow a is (skip_context facts ctx x none))
+  plan_nest (one rest) paid lo hi follow a (x, at, is) ctx =
+      further_nest g paid lo hi at.fresh (plan_nest rest false (suc lo) hi follow a is (one_context facts ctx paid x at))
+  plan_nest (arm t inner rest) paid lo hi follow a (x, fresh, branch, none, is, more) ctx =
+      let land = all_land g inner false (suc lo) t t a is in let land' = all_land g rest false t hi follow a more in
+      let c = arm_context facts ctx t branch land land' in
+      further_nest g paid lo hi fresh (joined_nest g (suc lo) t hi t a branch.ahead branch.within c (plan_nest inner false (suc lo) t t a is c)
+      (plan_nest rest false t hi follow a more (arm_rest_context facts ctx t branch land land')))
+  plan_nest (arms t u first second rest) paid lo hi follow a (x, fresh, branch, other, is, is', more) ctx =
+      let land = all_land g first false (suc lo) t u a is in let land' = all_land g second false t u u a is' in
+      let land'' = all_land g rest false u hi follow a more in
+      let c = first_context facts ctx t branch u other land land' land'' in
+      let c' = second_context facts ctx t branch u other land land' land'' in
+      further_nest g paid lo hi fresh (joined_nest g (suc lo) t hi u a branch.ahead branch.within c (plan_nest first false (suc lo) t u a is c)
+      (joined_nest g t u hi u a (omega (arith, other.ahead)) other.within c' (plan_nest second false t u u a is' c')
+      (plan_nest rest false u hi follow a more (arms_rest_context facts ctx t branch u other land land' land''))))
+  plan_nest (loop l body rest) paid lo hi follow a (opened, is, more) ctx =
+      let land = all_land g body true lo (suc l) lo (inside lo l) is in let land' = all_land g rest false (suc l) hi follow a more in
+      let c = body_context facts ctx l opened.loop opened.within land land' in
+      subst (λ p. IsNest g (first_head p lo) lo hi) (sym opened.free)
+      (loop_nest l ctx opened.loop opened.within land c (plan_nest body true lo (suc l) lo (inside lo l) is c)
+      (plan_nest rest false (suc l) hi follow a more (loop_rest_context facts ctx l opened.loop opened.within land land')))
