@@ -18,7 +18,7 @@ agrees "the page has the definitions as their files say them" definitions --chec
 excepted_names="called|checked|closed|compared|converted|ended|jumped|left|listed|located|looped|negated|opened|put|read|saved|shifted|signed|stored|taken|typed|wrapped"
 excepted_comments=0
 excepted_proofs=6
-excepted_specs=3
+excepted_specs=0
 
 counts=$("$top/bench/names" 2>&1)
 

@@ -1,5 +1,6 @@
 -- The graph of a body. It has a node for each block of the body, with the exit by which the block goes on, and the cuts
 -- of these blocks.
+-- Held against: the manual's chapters 'Logic Control' and 'Program Control', and this project's own blocks.
 use Rattle.std.specs.Prelude.{◌≡◌, ℕ, ◌+◌, ◌==◌, List, [], ◌∷◌, map, slice_get, Some}
 use Rattle.std.specs.List.{list_any}
 use Rattle.stl_tree.specs.Blocks.{AreBlocksOf, Extent, Way, always, if_made, instructions_of, on, one_of, stops, unless_ended, way_of}

@@ -1,8 +1,8 @@
 -- A segment with a plan is well nested.
 use Rattle.std.proofs.Common.{◌≡◌, ◌⊎◌, inl, inr, ⊎_elim, ℕ, suc, ◌<◌, ◌≤◌, false, arith}
 use Rattle.std.proofs.lemmas.Bool.{cases_lt}
-use Rattle.stl_tree.specs.WellNested.{AreNested, IsInLoop, IsInnermost, IsJump, IsList, IsLoop, IsPlainJump, IsShallow, IsWellNested, Segment}
-use Rattle.nesting_laws.specs.PlanLaws.{PlannedIsWellNested}
+use Rattle.stl_tree.specs.WellNested.{AreNested, IsInLoop, IsInnermost, IsJump, IsList, IsLoop, IsPlainJump, IsSegment, IsShallow, IsWellNested, Segment}
+use Rattle.nesting_laws.specs.PlanLaws.{IsFlow, PlannedIsWellNested, PlannedLoopsAreNested}
 use Rattle.nesting_laws.specs.Plans.{IsPlanOf, Plan, no_loop}
 use Rattle.nesting_laws.proofs.Cases.{of_three}
 use Rattle.nesting_laws.proofs.Contexts.{IsContext, planned_no_list}
@@ -77,8 +77,15 @@ module _ {g : Segment} (facts : Facts g) (plan : Plan) (is : IsPlanOf g plan) wh
     shallow = few;
   }
 
-pub planned_is_well_nested : PlannedIsWellNested
-planned_is_well_nested g plan flow segment is few = planned_well_nested (facts_of g flow segment single) plan is few
+-- the facts of a segment with a plan
+facts_with : (g : Segment) (plan : Plan) → IsFlow g.flow → IsSegment g → IsPlanOf g plan → Facts g
+facts_with g plan flow segment is = facts_of g flow segment single
   where
     single : (b : ℕ) → IsList g b → ⊥
     single b list = planned_no_list g plan false g.first g.past g.past no_loop is b list.2.0.low list.2.0.high list
+
+pub planned_loops_are_nested : PlannedLoopsAreNested
+planned_loops_are_nested g plan flow segment is = loops (facts_with g plan flow segment is) plan is
+
+pub planned_is_well_nested : PlannedIsWellNested
+planned_is_well_nested g plan flow segment is few = planned_well_nested (facts_with g plan flow segment is) plan is few

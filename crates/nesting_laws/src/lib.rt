@@ -5,7 +5,12 @@
 //! segments; it computes nothing.
 #![tactic(auto)]
 
-ghost use Rattle.nesting_laws.specs.PlanLaws.{OnePlan, PlanIsLow, PlannedIsWellNested, WellNestedIsPlanned};
+ghost use Rattle.nesting_laws.specs.PlanLaws.{OnePlan, PlanIsLow, PlannedIsWellNested, PlannedLoopsAreNested, WellNestedIsPlanned};
+
+/// The loops of a segment with a plan are nested.
+pub fn planned_loops_are_nested()
+    ensures { PlannedLoopsAreNested }
+{}
 
 /// A segment with a plan is well nested.
 pub fn planned_is_well_nested()

@@ -7,8 +7,8 @@ use Rattle.stl_tree.specs.Segments.{AreAscending, IsCut, IsOneOf, IsReached, Way
 
 -- Blocks
 
--- the blocks of a body: how it goes on after each, by the numbers of blocks, and whether the last one holds the end word
--- alone
+-- the blocks of a body: how it goes on after each, by the numbers of blocks, and whether the last one holds the end
+-- word alone
 pub record Flow : Type 0 where
   pub ways : List Way
   pub ends_alone : Bool
@@ -58,13 +58,13 @@ pub record IsSegment (g : Segment) : Type 0 where
   pub inside : (q : ℕ) → g.first < q → q < g.past → IsCut (blocks_of g.flow) q → ⊥
   pub ends : (g.past ≡ length g.flow.ways) ⊎ IsCut (blocks_of g.flow) g.past
 
--- the segments of a body, by its cuts
+-- the segments of a body from a block on, by the cuts after it
 abbrev pub AreSegmentsFrom : Flow → ℕ → List ℕ → List Segment → Type 0
-AreSegmentsFrom flow first [] [] = ⊥
-AreSegmentsFrom flow first [] (g ∷ gs) = (g ≡ record { flow = flow; first = first; past = length flow.ways }) × (gs ≡ [])
-AreSegmentsFrom flow first (cut ∷ cuts) [] = ⊥
-AreSegmentsFrom flow first (cut ∷ cuts) (g ∷ gs) =
-    (g ≡ record { flow = flow; first = first; past = cut }) × AreSegmentsFrom flow cut cuts gs
+AreSegmentsFrom flow b [] [] = ⊥
+AreSegmentsFrom flow b [] (g ∷ gs) = (g ≡ record { flow = flow; first = b; past = length flow.ways }) × (gs ≡ [])
+AreSegmentsFrom flow b (cut ∷ cuts) [] = ⊥
+AreSegmentsFrom flow b (cut ∷ cuts) (g ∷ gs) =
+    (g ≡ record { flow = flow; first = b; past = cut }) × AreSegmentsFrom flow cut cuts gs
 
 -- Jumps
 
@@ -161,7 +161,7 @@ pub record IsWellNested (g : Segment) : Type 0 where
   pub loops : (h l k m : ℕ) → IsLoop g h l → IsLoop g k m → AreNested h l k m
   -- a jump into a loop leads to its head
   pub entries : (s t h l : ℕ) → IsJump g s t → IsInLoop g h l t → IsInLoop g h l s ⊎ (t ≡ h)
-  -- a jump from a loop stays in the innermost one, or leads to the block after it, or to the block of the end word alone
+  -- a jump from a loop stays in the innermost one, or leads to the block after it or to the block of the end word alone
   pub exits : (s t h l : ℕ) → IsJump g s t → IsInnermost g h l s
       → ((h ≤ t) × (t ≤ l)) ⊎ ((t ≡ suc l) ⊎ IsEndBlock g.flow t)
   -- plain jumps cross only as the two jumps around an ELSE do
