@@ -1,0 +1,20 @@
+pub mod Arrivals
+pub mod Back
+pub mod Entering
+pub mod Forth
+pub mod Found
+pub mod Left
+pub mod Matches
+pub mod Means
+pub mod Moved
+pub mod Near
+mod RegionCases
+pub mod Starts
+pub mod Statements
+pub mod Steps
+pub mod Straight
+pub mod Tests
+pub mod Typed
+pub mod Units
+pub mod Walks
+pub mod Whole

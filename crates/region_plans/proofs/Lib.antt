@@ -1,0 +1,7 @@
+pub mod Counting
+pub mod Drawn
+pub mod Fitting
+pub mod Inside
+pub mod Levels
+pub mod Shorts
+pub mod Texts

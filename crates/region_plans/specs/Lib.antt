@@ -1,0 +1,5 @@
+pub mod Charts
+pub mod PlanRegion
+pub mod RegionCounts
+pub mod RegionLaws
+pub mod TextCounts

@@ -1,0 +1,5 @@
+pub mod Allowed
+pub mod IsShaped
+pub mod NodeCounts
+pub mod Shape
+pub mod ShapeLaws

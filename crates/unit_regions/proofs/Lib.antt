@@ -1,0 +1,19 @@
+pub mod Charting
+pub mod Counting
+pub mod Cutting
+pub mod Dispatch
+pub mod Endings
+pub mod Flowing
+pub mod Following
+pub mod Joining
+pub mod Made
+pub mod Markless
+pub mod Onward
+pub mod Rows
+pub mod Shorts
+pub mod Tables
+pub mod Texts
+mod UnitCases
+pub mod Using
+pub mod Weighing
+pub mod WholeUnit

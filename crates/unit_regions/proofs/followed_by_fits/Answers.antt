@@ -1,0 +1,5 @@
+use Rattle.unit_regions.proofs.Following.{followed_by_fits}
+use Rattle.unit_regions.proofs.followed_by_fits.Goals as goal
+
+pub returns : goal.returns
+returns c = followed_by_fits
