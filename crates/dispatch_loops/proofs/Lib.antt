@@ -1,0 +1,2 @@
+mod SettingLaws
+mod TurnTexts

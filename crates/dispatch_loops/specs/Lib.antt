@@ -1,0 +1,3 @@
+pub mod Charted
+pub mod Dispatched
+pub mod inner

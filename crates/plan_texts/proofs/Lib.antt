@@ -1,0 +1,5 @@
+pub mod Adding
+pub mod Nexts
+pub mod Exiting
+pub mod Takes
+pub mod Texts

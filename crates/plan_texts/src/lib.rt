@@ -1,0 +1,9 @@
+//! A segment that has a plan, as IF, WHILE TRUE, EXIT, CONTINUE and RETURN.
+#![tactic(auto)]
+
+pub use parts::push_planned;
+
+mod exits;
+mod leads;
+mod nodes;
+mod parts;

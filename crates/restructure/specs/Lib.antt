@@ -1,0 +1,3 @@
+pub mod Structures
+pub mod TextShape
+pub mod inner

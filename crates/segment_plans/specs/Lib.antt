@@ -1,0 +1,4 @@
+pub mod Counts
+pub mod Known
+pub mod Planned
+pub mod inner

@@ -1,0 +1,144 @@
+//! Whether each block of a segment lies in few loops and jumps.
+ghost use Rattle.std.specs.Bool.{Decides};
+ghost use Rattle.std.specs.Prelude.{◌≡◌, IfOk, OnOk, get_or, length, option_to_list};
+ghost use Rattle.stl_tree.specs.WellNested.{IsSegment, IsShallow, Segment};
+ghost use Rattle.segment_plans.specs.Known.{AreKnown};
+ghost use Rattle.segment_plans.specs.Planned.{HasNestedLoops};
+ghost use Rattle.segment_plans.specs.inner.Spans.{innermost, is_plain, leave, left_by, note_end, plain_jump, with_loop};
+
+use crate::blocks::Blocks;
+use crate::planning::is_behind;
+use flow_graph::Exit;
+use s7_base::NoMemory;
+use std::alloc::Global;
+use std::collections::LinkedList;
+
+/// How many loops and plain jumps a block may lie in.
+const MOST: u32 = 64;
+
+/// Leaves the loops that end before a block. They are known by their last blocks, the innermost one first.
+fn leave(loops: &mut LinkedList<u32>, at: u32)
+    ensures { loops.new ≡ leave at loops.old }
+{
+    while let Some(last) = innermost(loops) {
+        if last >= at {
+            return;
+        }
+        let _left = loops.pop_front();
+    }
+}
+
+/// The last block of the innermost loop.
+fn innermost(loops: &LinkedList<u32>) -> Option<u32>
+    ensures { result ≡ innermost loops.now }
+{
+    loops.front().copied()
+}
+
+/// Begins a loop, if one begins.
+fn begin_loop(loops: &mut LinkedList<u32>, last: Option<u32>) -> Result<(), NoMemory>
+    ensures { OnOk result (loops.new ≡ with_loop last loops.old) }
+{
+    if let Some(last) = last {
+        loops.push_front(last)?;
+    }
+    Ok(())
+}
+
+/// A jump to a block leaves the innermost loop for the block behind it.
+fn left_by(innermost: Option<u32>, to: u32) -> bool
+    ensures { result ≡ left_by innermost to }
+{
+    match innermost {
+        Some(last) => is_behind(to, last),
+        None => false,
+    }
+}
+
+fn is_plain(blocks: &Blocks, innermost: Option<u32>, at: u32, to: u32) -> bool
+    ensures { result ≡ is_plain blocks.now innermost at to }
+{
+    at < to && blocks.is_reached(at) && !blocks.is_end(to) && !left_by(innermost, to)
+}
+
+/// Where the plain jump of a block leads, if it has one. The innermost loop around has this last block.
+fn plain_jump(blocks: &Blocks, innermost: Option<u32>, at: u32) -> Option<u32>
+    ensures { result ≡ plain_jump blocks.now innermost at }
+{
+    match blocks.exits.as_slice().get(at as usize) {
+        Some(Exit::Jump(to)) | Some(Exit::Branch(to)) => {
+            if is_plain(blocks, innermost, at, *to) {
+                Some(*to)
+            } else {
+                None
+            }
+        }
+        _ => None,
+    }
+}
+
+/// Notes where a loop or a jump ends, if one begins.
+fn note_end(ends: &mut [u32], first: u32, end: Option<u32>) -> Result<(), NoMemory>
+    ensures { OnOk result (ends.new ≡ note_end first ends.old end) }
+{
+    if let Some(end) = end {
+        let place = end.saturating_sub(first) as usize;
+        if place < ends.len() {
+            ends[place] = ends[place].checked_add(1).ok_or(NoMemory)?;
+        }
+    }
+    Ok(())
+}
+
+fn note_both(
+    ends: &mut [u32],
+    first: u32,
+    last: Option<u32>,
+    to: Option<u32>,
+) -> Result<(), NoMemory>
+    ensures { OnOk result (ends.new ≡ note_end first (note_end first ends.old last) to) }
+{
+    note_end(ends, first, last)?;
+    note_end(ends, first, to)
+}
+
+/// How many loops or jumps an end is.
+fn count_of(end: Option<u32>) -> u32
+    ensures { result ≡ length (option_to_list end) }
+{
+    match end {
+        Some(_) => 1,
+        None => 0,
+    }
+}
+
+/// Whether no block lies in more than 64 loops and plain jumps of a segment whose loops lie in one another.
+pub fn is_shallow(alloc: Global, blocks: &Blocks, first: u32, past: u32) -> Result<bool, NoMemory>
+    ensures { IfOk result (λ shallow. (g : Segment) → g.first ≡ first → g.past ≡ past → IsSegment g
+        → AreKnown g.flow blocks.now → HasNestedLoops g → Decides shallow (IsShallow g)) }
+{
+    let mut ends = Vec::new(alloc);
+    ends.resize(past.saturating_sub(first) as usize + 1, 0)?;
+    let mut loops = LinkedList::new(alloc);
+    let mut depth: u32 = 0;
+    for at in first..past {
+        leave(&mut loops, at);
+        let last = blocks.last_of(at);
+        begin_loop(&mut loops, last)?;
+        let to = plain_jump(blocks, innermost(&loops), at);
+        note_both(ends.as_mut_slice(), first, last, to)?;
+        depth = depth + count_of(last) + count_of(to);
+        if depth > MOST {
+            return Ok(false);
+        }
+        depth = depth.saturating_sub(ended(ends.as_slice(), at - first));
+    }
+    Ok(true)
+}
+
+/// How many loops and jumps end at a block.
+fn ended(ends: &[u32], place: u32) -> u32
+    ensures { result ≡ get_or ends.now place 0 }
+{
+    ends.get(place as usize).copied().unwrap_or(0)
+}
