@@ -23,6 +23,7 @@ use Rattle.st_tree.specs.declared.program.StProgram.{StProgram}
 use Rattle.stl_machine.specs.Machine.{memory_of, outcome_of}
 use Rattle.stl_translate.specs.Named.{Named}
 use Rattle.stl_translate.specs.Same.{Same}
+use Rattle.stl_translate.specs.Shape.{Shape}
 use Rattle.stl_tree.specs.StlRun.{Standing, running, over, end_of}
 use Rattle.stl_tree.specs.declared.program.Program.{Program}
 use Rattle.command_answers.specs.Answer.{Reply, Work, alone, Answers, AnswersRun, AnswersSource, AnswersWork, Translates, image_reply, refusal_line, run_reply, run_status, too_long_line, usage_line, source_too_long, refused, read, image_too_long, bad_image, bad_call, ran}
@@ -160,11 +161,11 @@ done_alone {X = X} work To x i made text e reply answers =
       written = status_written made Done text reply tt;
     })
 
--- the spelling of a proper tree that means the same as a program, and has its names, is a text that means what the program
--- means
+-- the spelling of a proper tree that means the same as a program, and has its names and shape, is a text that means what the
+-- program means
 pub translates : (program : Program) (tree : StProgram) (text : List ℕ) → Proper tree → Same program tree → Named program tree
-    → text ≡ spelling tree → Translates program text
-translates program tree text proper same named spelled =
+    → Shape program tree → text ≡ spelling tree → Translates program text
+translates program tree text proper same named shape spelled =
     record {
       tree = tree;
       proper = proper;
@@ -172,6 +173,7 @@ translates program tree text proper same named spelled =
       reads_back = subst (λ (written : List ℕ). IsTextOf written tree) (sym spelled) (proper_reads tree proper);
       same = same;
       named = named;
+      shape = shape;
     }
 
 -- Sources

@@ -26,6 +26,7 @@ use Rattle.st_tree.specs.StRun.{FitsSt, st_run}
 use Rattle.st_tree.specs.declared.program.StProgram.{StProgram}
 use Rattle.stl_translate.specs.Named.{Named}
 use Rattle.stl_translate.specs.Same.{Same}
+use Rattle.stl_translate.specs.Shape.{Shape}
 use Rattle.command_words.specs.declared.command.Command.{Command}
 use Rattle.command_words.specs.declared.command.Command.TheVariants.{Translate, Check, RunStl, RunSt}
 use Rattle.command_answers.specs.declared.limits.TheConstants.{INPUT_LIMIT, IMAGE_LIMIT}
@@ -114,7 +115,7 @@ AnswersSt To source reply = AnswersSource IsTextOf IsRefusedText To source reply
 -- Programs and trees
 
 -- the text means what the program means: it is the canonical spelling of a proper tree, it reads as this tree, and
--- the tree means the same as the program and has its names
+-- the tree means the same as the program, has its names, and each unit has the shape that the body of its block allows
 pub record Translates (program : Program) (text : List ℕ) : Type 0 where
   pub tree : StProgram
   pub proper : Proper tree
@@ -122,6 +123,7 @@ pub record Translates (program : Program) (text : List ℕ) : Type 0 where
   pub reads_back : IsTextOf text tree
   pub same : Same program tree
   pub named : Named program tree
+  pub shape : Shape program tree
 
 -- the answer of `translate` to a program: a text that means what the program means
 abbrev pub AnswersTranslate : Program → Reply → Type 0

@@ -1,7 +1,8 @@
 //! What a command answers: a status and a text.
 //!
 //! `reply_to` chooses what each command does. `source_reply` and `text_reply` read and judge a source of
-//! their language, `program_reply` does a job with a program, and runs read their image then.
+//! their language, `program_reply` does a job with a program, and runs read their image then. A program and its
+//! tree are not given back part by part, since the process ends behind the reply.
 ghost use Rattle.std.specs.Prelude.{◌≡◌, ◌≢◌, ◌≤◌, Some, Ok, None, IfOk, IfErr, MatchOption, length};
 ghost use Rattle.memory_areas.specs.Areas.{IsMemoryOf};
 ghost use Rattle.st_tree.specs.Proper.{Proper};
@@ -27,6 +28,7 @@ use st_printer::print;
 use st_runner::{Runner, RunnerRefusal};
 use st_tree::StProgram;
 use std::alloc::Global;
+use std::mem::forget;
 use stl_checks::verdict;
 use stl_machine::{Machine, MachineRefusal};
 use stl_translate::translate;
@@ -287,7 +289,9 @@ fn program_reply<M: Source>(
     match job {
         Job::Translate => {
             let tree = translate(alloc, program)?;
-            Ok(reply_of_text(Status::Done, print(alloc, &tree)?))
+            let text = print(alloc, &tree)?;
+            forget(tree);
+            Ok(reply_of_text(Status::Done, text))
         }
         Job::Check => Ok(reply_of_line(Status::Done, ACCEPTED_LINE)),
         Job::Run(steps, call) => run_reply(alloc, program, call, *steps, image),
@@ -314,7 +318,11 @@ fn source_reply<P: Source, M: Source>(
         Err(stop) => return Err(stop),
     };
     match verdict(alloc, source.as_slice()) {
-        Ok(program) => program_reply(alloc, job, &program, image),
+        Ok(program) => {
+            let reply = program_reply(alloc, job, &program, image);
+            forget(program);
+            reply
+        }
         Err(Rejection::Refused(line, reason)) => Ok(reply_of_text(
             Status::Refused,
             refusal_line(alloc, line, reason)?,

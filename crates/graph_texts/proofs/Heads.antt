@@ -1,31 +1,35 @@
 -- Each unit keeps its head in its text.
-use Rattle.std.proofs.Common.{Bool, true, false, List, [], ◌∷◌, inl, inr, map, refl}
+use Rattle.std.proofs.Common.{Bool, true, false, List, [], ◌∷◌, inl, inr, refl, sym, subst}
 use Rattle.std.specs.Prelude.{All}
 use Rattle.std.proofs.lemmas.List.Elements.{All-head, All-push, All-tail}
-use Rattle.graph_rules.specs.Plain.{IsPlainUnit, IsTemporary, Plain}
+use Rattle.graph_rules.specs.Plain.{IsPlainUnit, IsTemporary}
 use Rattle.st_tree.specs.declared.graph.GraphPou.{GraphPou}
-use Rattle.st_tree.specs.declared.graph.GraphProgram.{GraphProgram}
 use Rattle.st_tree.specs.declared.program.Local.{Local}
+use Rattle.st_tree.specs.declared.program.Pou.{Pou}
 use Rattle.graph_texts.specs.Heads.{IsNamedLocal, KeepHeads, KeepsHead}
-use Rattle.graph_texts.specs.inner.Dispatch.{is_one_node, next_local, text_of_graph, unit_as, unit_of_text}
+use Rattle.region_laws.specs.NextLocal.{locals_of_text, next_local}
+use Rattle.region_laws.specs.RegionLaw.{IsUnitOf}
+use Rattle.region_types.specs.ProperLaw.{AreProperTexts}
 
 named : (locals : List Local) → All IsTemporary locals → All IsNamedLocal locals
 named locals h = λ k d lt. let own = h k d lt in inl (record { number = own.number; is = own.name })
 
-kept : (one : Bool) (u : GraphPou) → All IsTemporary u.head.locals → KeepsHead u (unit_as one u)
-kept true u h = record { kind = refl; name = refl; formals = refl; locals = named u.head.locals h }
-kept false u h =
+all_named : (without : Bool) (locals : List Local) → All IsTemporary locals → All IsNamedLocal (locals_of_text without locals)
+all_named true locals h = named locals h
+all_named false locals h = All-push IsNamedLocal locals next_local (named locals h) (inr refl)
+
+kept : (unit : GraphPou) (text : Pou) → IsUnitOf unit text → All IsTemporary unit.head.locals → KeepsHead unit text
+kept unit text is h =
     record {
-      kind = refl;
-      name = refl;
-      formals = refl;
-      locals = All-push IsNamedLocal u.head.locals next_local (named u.head.locals h) (inr refl);
+      kind = is.kind;
+      name = is.name;
+      formals = is.formals;
+      locals = subst (All IsNamedLocal) (sym is.locals) (all_named is.without_next unit.head.locals h);
     }
 
-all_kept : (units : List GraphPou) → All IsPlainUnit units → KeepHeads units (map unit_of_text units)
-all_kept [] h = tt
-all_kept (u ∷ units) h =
-    (kept (is_one_node u.graph.nodes) u (All-head IsPlainUnit u units h).names, all_kept units (All-tail IsPlainUnit u units h))
-
-pub keep_heads : (graph : GraphProgram) → Plain graph → KeepHeads graph.pous (text_of_graph graph).pous
-keep_heads graph plain = all_kept graph.pous plain.units
+pub keep_heads : (units : List GraphPou) (texts : List Pou) → All IsPlainUnit units → AreProperTexts units texts → KeepHeads units texts
+keep_heads [] [] h t = tt
+keep_heads [] (text ∷ texts) h t = absurd t
+keep_heads (unit ∷ units) [] h t = absurd t
+keep_heads (unit ∷ units) (text ∷ texts) h t =
+    (kept unit text t.0.is (All-head IsPlainUnit unit units h).names, keep_heads units texts (All-tail IsPlainUnit unit units h) t.1)

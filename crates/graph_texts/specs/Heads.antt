@@ -1,5 +1,5 @@
 -- What a unit of a graph program keeps in its text: its kind, its name and its formals; its locals are temporaries, and
--- where the unit is a loop `NEXT` is one of them.
+-- where its statements choose by `NEXT` that is one of them.
 -- Held against: this project's own names.
 use Rattle.std.specs.Prelude.{◌≡◌, ℕ, List, [], ◌∷◌, ◌++◌, ◌⊎◌, All, codes, decimal}
 use Rattle.st_tree.specs.declared.graph.GraphPou.{GraphPou}

@@ -1,3 +1,4 @@
 pub mod Heads
-pub mod SameRuns
+pub mod NextOf
+pub mod Shapes
 pub mod inner

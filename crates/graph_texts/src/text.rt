@@ -1,15 +1,17 @@
 //! The text of a graph program, a unit at a time.
-ghost use Rattle.std.specs.Prelude.{◌≡◌, ◌∷◌, [], true, false, IfOk};
-ghost use Rattle.graph_rules.specs.Plain.{Plain};
+ghost use Rattle.std.specs.Prelude.{◌≡◌, All, IfOk};
+ghost use Rattle.graph_rules.specs.Plain.{IsPlainUnit, Plain};
 ghost use Rattle.st_tree.specs.Proper.{Proper};
 ghost use Rattle.graph_texts.specs.Heads.{KeepHeads};
-ghost use Rattle.graph_texts.specs.SameRuns.{SameAsGraph};
-ghost use Rattle.graph_texts.specs.inner.Dispatch.{dispatch_loop, is_one_node, next_local, text_of_graph, unit_as, unit_of_text};
-ghost use Rattle.graph_texts.specs.inner.Straight.{last_steps};
+ghost use Rattle.graph_texts.specs.Shapes.{HasShapeOf, HaveShapes};
+ghost use Rattle.graph_texts.specs.inner.OwnLocals.{LeavesNext};
+ghost use Rattle.region_laws.specs.NextLocal.{locals_of_text, next_local};
+ghost use Rattle.region_laws.specs.SameRuns.{SameAsGraph};
+ghost use Rattle.region_types.specs.ProperLaw.{HasProperTexts, IsProperText};
 
-use crate::dispatch::dispatch_loop;
+use restructure::restructure;
 use s7_base::{List, NoMemory};
-use st_tree::{GraphPou, GraphProgram, Local, Pou, StExit, StNode, StProgram, StType, Stmt};
+use st_tree::{GraphPou, GraphProgram, Local, Pou, StProgram, StType};
 use std::alloc::Global;
 
 /// The tree of a text that means the same as a plain graph program, and that a text can have. Its units are called as
@@ -19,12 +21,16 @@ pub fn text_of_graph(alloc: Global, graph: GraphProgram) -> Result<StProgram, No
     ensures proper { IfOk result Proper }
     ensures same { IfOk result (λ tree. SameAsGraph graph tree) }
     ensures heads { IfOk result (λ tree. KeepHeads graph.pous tree.pous) }
+    ensures shape { IfOk result (λ tree. HaveShapes graph.pous tree.pous) }
 {
     tree_of(alloc, graph)
 }
 
 fn tree_of(alloc: Global, graph: GraphProgram) -> Result<StProgram, NoMemory>
-    ensures { IfOk result (λ tree. tree ≡ text_of_graph graph) }
+    requires plain { All IsPlainUnit graph.pous }
+    requires next { All LeavesNext graph.pous }
+    ensures texts { IfOk result (λ tree. HasProperTexts graph tree) }
+    ensures shape { IfOk result (λ tree. HaveShapes graph.pous tree.pous) }
 {
     let mut pous = List::new(alloc);
     for unit in graph.pous.into_vec() {
@@ -38,63 +44,32 @@ fn tree_of(alloc: Global, graph: GraphProgram) -> Result<StProgram, NoMemory>
 }
 
 fn unit_of_text(alloc: Global, unit: GraphPou) -> Result<Pou, NoMemory>
-    ensures { IfOk result (λ text. text ≡ unit_of_text unit) }
-{
-    if is_one_node(unit.graph.nodes.as_slice()) {
-        Ok(straight_unit(alloc, unit))
-    } else {
-        looping_unit(alloc, unit)
-    }
-}
-
-/// Whether there is one node, which ends its unit.
-fn is_one_node(nodes: &[StNode]) -> bool
-    ensures { result ≡ is_one_node nodes.now }
-{
-    match nodes {
-        [node] => matches!(node.exit, StExit::End),
-        _ => false,
-    }
-}
-
-fn straight_unit(alloc: Global, unit: GraphPou) -> Pou
-    ensures { result ≡ unit_as true unit }
-{
-    let mut head = unit.head;
-    head.body = last_steps(alloc, unit.graph.nodes);
-    head
-}
-
-/// The steps of the last node.
-#[tactic(auto, using(crate::proofs::Arms::last_of_more))]
-fn last_steps(alloc: Global, nodes: List<StNode>) -> List<Stmt>
-    ensures { result ≡ last_steps nodes }
-{
-    let mut nodes = nodes;
-    match nodes.pop() {
-        Some(node) => node.steps,
-        None => List::new(alloc),
-    }
-}
-
-/// The unit as one loop. `NEXT` is its last local.
-fn looping_unit(alloc: Global, unit: GraphPou) -> Result<Pou, NoMemory>
-    ensures { IfOk result (λ text. text ≡ unit_as false unit) }
+    requires plain { IsPlainUnit unit }
+    requires next { LeavesNext unit }
+    ensures text { IfOk result (λ text. IsProperText unit text) }
+    ensures shape { IfOk result (λ text. HasShapeOf unit text) }
 {
     let mut head = unit.head;
     let next = u32::try_from(head.locals.len()).or(Err(NoMemory))?;
-    head.locals.push(next_local(alloc)?)?;
-    head.body = looping_body(alloc, next, unit.graph.nodes)?;
+    let made = restructure(alloc, unit.graph, next)?;
+    head.locals = locals_of_text(alloc, made.selectors == 0, head.locals)?;
+    head.body = made.body;
     Ok(head)
 }
 
-fn looping_body(alloc: Global, next: u32, nodes: List<StNode>) -> Result<List<Stmt>, NoMemory>
-    ensures { IfOk result (λ body. body ≡ dispatch_loop next nodes ∷ []) }
+/// The locals of a unit. Where it needs `NEXT`, that is the last one.
+fn locals_of_text(
+    alloc: Global,
+    without_next: bool,
+    locals: List<Local>,
+) -> Result<List<Local>, NoMemory>
+    ensures { IfOk result (λ all. all ≡ locals_of_text without_next locals) }
 {
-    let whole = dispatch_loop(alloc, next, nodes)?;
-    let mut body = List::new(alloc);
-    body.push(whole)?;
-    Ok(body)
+    let mut locals = locals;
+    if !without_next {
+        locals.push(next_local(alloc)?)?;
+    }
+    Ok(locals)
 }
 
 fn next_local(alloc: Global) -> Result<Local, NoMemory>

@@ -1,3 +1,7 @@
+mod BodyCounts
+mod BodyShapes
 mod Names
+mod Shapes
+mod StepTests
 mod Text
 mod TranslateCases

@@ -1,6 +1,6 @@
 -- A program, its graph program and the text of that: what holds of both steps holds of the whole.
 use Rattle.std.proofs.Common.{◌+◌, ◌∙◌}
-use Rattle.graph_texts.specs.SameRuns.{SameAsGraph}
+use Rattle.region_laws.specs.SameRuns.{SameAsGraph}
 use Rattle.instruction_lowering.specs.Lowered.{Lowered}
 use Rattle.st_tree.specs.declared.graph.GraphProgram.{GraphProgram}
 use Rattle.st_tree.specs.declared.program.StProgram.{StProgram}

@@ -1,4 +1,4 @@
--- The text of some small programs, by computation.
+-- The text of some small programs without jumps, by computation: the steps of the one node of each unit.
 use Rattle.std.proofs.Common.{ap}
 use Rattle.std.specs.Prelude.{◌≡◌, ℕ, List, [], ◌∷◌, ◌++◌, length, map, codes}
 use Rattle.std.specs.Fmt.{digits}
@@ -23,7 +23,7 @@ use Rattle.st_tree.proofs.Equations.{canon_equations, fold_stmt, text_assign}
 use Rattle.flow_graph.specs.declared.graph.Exit.TheVariants as exit
 use Rattle.flow_graph.specs.declared.graph.Graph.{Graph}
 use Rattle.instruction_lowering.specs.inner.Lowering.{graph_program_with, unit_of}
-use Rattle.graph_texts.specs.inner.Dispatch.{text_of_graph}
+use Rattle.graph_rules.specs.Plain.{listed_text}
 
 abbrev instr_of : Op → Instr
 instr_of o = record { line = record { 0 = 3 }; op = o }
@@ -38,7 +38,7 @@ one_block b = record { nodes = record { first = 0; past = length b.body; exit = 
 
 abbrev text_of : List Block → List ℕ
 text_of blocks =
-    spelling (text_of_graph (graph_program_with (record { dbs = []; instances = []; blocks = blocks; symbols = [] })
+    spelling (listed_text (graph_program_with (record { dbs = []; instances = []; blocks = blocks; symbols = [] })
     (map (λ (b : Block). unit_of blocks b (one_block b)) blocks)))
 
 abbrev input : ℕ → Operand

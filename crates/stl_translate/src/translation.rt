@@ -4,6 +4,7 @@ ghost use Rattle.st_tree.specs.Proper.{Proper};
 ghost use Rattle.stl_tree.specs.Accepted.{IsAccepted};
 ghost use Rattle.stl_translate.specs.Named.{Named};
 ghost use Rattle.stl_translate.specs.Same.{Same};
+ghost use Rattle.stl_translate.specs.Shape.{Shape};
 
 use graph_texts::text_of_graph;
 use instruction_lowering::lower;
@@ -19,6 +20,7 @@ pub fn translate(alloc: Global, program: &Program) -> Result<StProgram, NoMemory
     ensures proper { IfOk result Proper }
     ensures same { IfOk result (λ tree. Same program.now tree) }
     ensures named { IfOk result (λ tree. Named program.now tree) }
+    ensures shape { IfOk result (λ tree. Shape program.now tree) }
 {
     let graph = lower(alloc, program)?;
     text_of_graph(alloc, graph)

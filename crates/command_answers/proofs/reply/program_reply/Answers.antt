@@ -5,14 +5,14 @@ use Rattle.command_answers.specs.Answer.{AnswersCheck, AnswersRunStl, AnswersTra
 use Rattle.command_answers.specs.inner.Replies.{work_of}
 use Rattle.command_answers.proofs.reply.program_reply.Goals as goal
 
-pub returns-in_ok-print-in-Translate-clause-answer : goal.returns-in_ok-print-in-Translate-clause-answer
-returns-in_ok-print-in-Translate-clause-answer g c =
+pub returns-in_ok-text-in-Translate-clause-answer : goal.returns-in_ok-text-in-Translate-clause-answer
+returns-in_ok-text-in-Translate-clause-answer g c =
     done_alone (work_of c.args.job.now) AnswersTranslate c.args.program.now _ c.reply_of_text.result
-    c.in_ok-print-in-Translate.field-0.items (ap work_of c.in-Translate.is) c.reply_of_text.ensures (
+    c.in_ok-text-in-Translate.text.items (ap work_of c.in-Translate.is) c.reply_of_text.ensures (
       refl,
-      translates c.args.program.now c.in_ok-tree-in-Translate.tree c.in_ok-print-in-Translate.field-0.items
+      translates c.args.program.now c.in_ok-tree-in-Translate.tree c.in_ok-text-in-Translate.text.items
           c.in_ok-tree-in-Translate.ensures.proper c.in_ok-tree-in-Translate.ensures.same c.in_ok-tree-in-Translate.ensures.named
-          c.in_ok-print-in-Translate.ensures,
+          c.in_ok-tree-in-Translate.ensures.shape c.in_ok-text-in-Translate.ensures,
     )
 
 pub returns-in-Check-clause-answer : goal.returns-in-Check-clause-answer

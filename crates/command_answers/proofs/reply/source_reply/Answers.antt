@@ -17,15 +17,15 @@ pub returns-in-Ok-clause-answer : goal.returns-in-Ok-clause-answer
 returns-in-Ok-clause-answer g c =
     let found = rw c.in-Ok-Some.field-0-is at c.in-Ok-Some.ensures.found in
     source_read IsAcceptedAs IsRefusedSource (AnswersWork (work_of c.args.job.now)) _
-    _ c.in-Ok-Some.source.items c.in-Ok.program c.program_reply.result found.0 found.1
-    (ap verdict (sym c.as_slice.ensures.value) ∙ c.in-Ok.ensures.verdict) c.program_reply.ensures.answer
+    _ c.in-Ok-Some.source.items c.in-Ok.program c.program_reply-reply.result found.0 found.1
+    (ap verdict (sym c.as_slice.ensures.value) ∙ c.in-Ok.ensures.verdict) c.program_reply-reply.ensures.answer
 
 pub returns-in-Ok-clause-reads : goal.returns-in-Ok-clause-reads
 returns-in-Ok-clause-reads g c =
     let found = rw c.in-Ok-Some.field-0-is at c.in-Ok-Some.ensures.found in
     work_reads IsAcceptedAs (work_of c.args.job.now) _ _ c.in-Ok-Some.source.items c.in-Ok.program _ found.0 found.1
     (c.read_input.ensures.within (not_none c.in-Ok-Some.field-0 c.in-Ok-Some.source c.in-Ok-Some.field-0-is c.read_input.result c.in-Ok-Some.is))
-    (ap verdict (sym c.as_slice.ensures.value) ∙ c.in-Ok.ensures.verdict) c.program_reply.ensures.reads
+    (ap verdict (sym c.as_slice.ensures.value) ∙ c.in-Ok.ensures.verdict) c.program_reply-reply.ensures.reads
 
 pub returns-in-Err-Refused-clause-answer : goal.returns-in-Err-Refused-clause-answer
 returns-in-Err-Refused-clause-answer g c =
