@@ -1,3 +1,4 @@
+pub mod Lengths
 pub mod Structures
 pub mod TextShape
 pub mod inner

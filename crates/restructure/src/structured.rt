@@ -1,9 +1,11 @@
 //! A unit, segment by segment.
 ghost use Rattle.std.specs.Prelude.{◌≡◌, ◌+◌, ◌<◌, ◌≤◌, [], IfOk, List, OnOk, drop, length};
 ghost use Rattle.graph_rules.specs.Plain.{AreSettings};
+ghost use Rattle.restructure.specs.Lengths.{IsShort};
 ghost use Rattle.restructure.specs.Structures.{AreUnitNodes, IsStructured};
 ghost use Rattle.restructure.specs.TextShape.{HasSelectors, HasShape};
 ghost use Rattle.restructure.specs.inner.Writing.{AreSegments, IsKnownUnit, IsNext, IsUnitText};
+ghost use Rattle.shape_laws.specs.EachOnce.{HasEachOnce};
 ghost use Rattle.st_tree.specs.declared.graph.StNode.{StNode};
 ghost use Rattle.stl_tree.specs.WellNested.{IsSegment};
 ghost use Rattle.text_shapes.specs.NodeCounts.{KeepsOff};
@@ -133,6 +135,8 @@ pub fn restructure(alloc: Global, graph: StGraph, selector: u32) -> Result<Struc
     ensures right { IfOk result (λ made. IsStructured graph.nodes selector made) }
     ensures shape { IfOk result (λ made. KeepsOff selector graph.nodes → HasShape graph.nodes selector made) }
     ensures counted { IfOk result (λ made. KeepsOff selector graph.nodes → HasSelectors selector made) }
+    ensures short { IfOk result (λ made. IsShort graph.nodes made) }
+    ensures once { IfOk result (λ made. HasEachOnce graph.nodes made.body) }
 {
     let blocks = blocks_of(alloc, graph.nodes.as_slice())?;
     let cuts = cuts(alloc, blocks.exits.as_slice(), blocks.reached.as_slice())?;

@@ -2,9 +2,12 @@ pub mod Counts
 pub mod Heads
 pub mod Judging
 pub mod Loops
+pub mod Once
 pub mod Segments
 pub mod Selecting
 mod ShapeCases
 pub mod Shapes
+pub mod Shortness
 pub mod Texts
 pub mod Totals
+pub mod Work

@@ -35,6 +35,18 @@ some_nodes : (nodes : List StNode) → nodes ≢ [] → 0 < length nodes
 some_nodes [] some = absurd (some refl)
 some_nodes (n ∷ rest) some = omega arith
 
+pub steps_of_plain : (nodes : List StNode) → ArePlain nodes → (i : ℕ) (n : StNode) → slice_get nodes i ≡ Some n → AreSteps n.steps
+steps_of_plain nodes plain i n e = (plain i n e).steps
+
+pub end_facts : (nodes : List StNode) → ArePlain nodes → AreSettings (ending_of nodes) × (length (ending_of nodes) ≤ 4)
+end_facts nodes plain =
+    ⊎_elim
+    (λ (e : ending_of nodes ≡ []). subst (λ (steps : List Stmt). AreSettings steps × (length steps ≤ 4)) (sym e) (tt, omega arith))
+    (λ (k, n, there, only, e).
+    let is = (plain k n there).only_end only in
+    subst (λ (steps : List Stmt). AreSettings steps × (length steps ≤ 4)) (sym e) (is.settings, is.few))
+    (ending_is nodes)
+
 module _ (nodes : List StNode) (next : ℕ) (reached : ℕ → Bool) (lasts : ℕ → Option ℕ) (cut : ℕ) (cuts : List ℕ) (sections : List Section)
     (some : nodes ≢ []) (plain : ArePlain nodes) (off : KeepsOff next nodes) (found : IsFound nodes reached lasts (cut ∷ cuts))
     (row : ArePlanned nodes reached lasts (cut ∷ cuts) sections) where
@@ -44,19 +56,8 @@ module _ (nodes : List StNode) (next : ℕ) (reached : ℕ → Bool) (lasts : �
   abbrev pub Text : List Stmt
   Text = text_of next (unit_region C sections)
 
-  steps : (i : ℕ) (n : StNode) → slice_get nodes i ≡ Some n → AreSteps n.steps
-  steps i n e = (plain i n e).steps
-
   fits : Fits C.unit false (unit_region C sections) (at 0) out no_loop
   fits = unit_fits C (cut ∷ cuts) sections found.whole (chart_is_right nodes reached lasts (cut ∷ cuts) sections plain found row).each
-
-  end_facts : AreSettings (ending_of nodes) × (length (ending_of nodes) ≤ 4)
-  end_facts = ⊎_elim
-      (λ (e : ending_of nodes ≡ []). subst (λ (steps : List Stmt). AreSettings steps × (length steps ≤ 4)) (sym e) (tt, omega arith))
-      (λ (k, n, there, only, e).
-      let is = (plain k n there).only_end only in
-      subst (λ (steps : List Stmt). AreSettings steps × (length steps ≤ 4)) (sym e) (is.settings, is.few))
-      (ending_is nodes)
 
   known : (s : Section) → IsAmong s sections → IsKnown C (cut ∷ cuts) found.whole s
   known s among =
@@ -81,21 +82,22 @@ module _ (nodes : List StNode) (next : ℕ) (reached : ℕ → Bool) (lasts : �
   judged = are_judged C (cut ∷ cuts) found.whole sections known
 
   whiles : count_in loops Text ≤ loops_allowed (judgements_of C sections)
-  whiles = unit_whiles C next steps (cut ∷ cuts) found.whole sections (λ s in_row. let own = known s in_row in (own.0, own.2))
+  whiles = unit_whiles C next (steps_of_plain nodes plain) (cut ∷ cuts) found.whole sections (λ s in_row. let own = known s in_row in (own.0, own.2))
 
   few_tests : count_in tests Text ≤ conditionals_of nodes
   few_tests =
-      unit_tests C (cut ∷ cuts) sections next steps found.whole
-      (chart_is_right nodes reached lasts (cut ∷ cuts) sections plain found row).each end_facts.0 end_facts.1
+      let ends = end_facts nodes plain in
+      unit_tests C (cut ∷ cuts) sections next (steps_of_plain nodes plain) found.whole
+      (chart_is_right nodes reached lasts (cut ∷ cuts) sections plain found row).each ends.0 ends.1
 
   pub over_selector : count_in (selector_cases (Some next)) Text ≡ loops_of sections
   over_selector =
-      text_selectors next C.unit steps off (unit_region C sections) (at 0) out no_loop fits
+      text_selectors next C.unit (steps_of_plain nodes plain) off (unit_region C sections) (at 0) out no_loop fits
       ∙ loops_are_few C (cut ∷ cuts) sections (chart_is_right nodes reached lasts (cut ∷ cuts) sections plain found row).each
 
   all_cases : count_in any_case Text ≤ lists_of nodes + loops_of sections
   all_cases =
-      let e = text_cases next C.unit steps off (unit_region C sections) (at 0) out no_loop fits in
+      let e = text_cases next C.unit (steps_of_plain nodes plain) off (unit_region C sections) (at 0) out no_loop fits in
       let l = unit_cases C (cut ∷ cuts) sections found.whole (chart_is_right nodes reached lasts (cut ∷ cuts) sections plain found row).each in
       omega arith
 
@@ -110,10 +112,10 @@ module _ (nodes : List StNode) (next : ℕ) (reached : ℕ → Bool) (lasts : �
         some = among;
         judged = judged;
         declared = λ n same. omega arith;
-        selector = text_keeps next C.unit steps off (unit_region C sections) (at 0) out no_loop fits;
+        selector = text_keeps next C.unit (steps_of_plain nodes plain) off (unit_region C sections) (at 0) out no_loop fits;
         selectors = (omega arith);
         arms =
-            (let g = text_arms next C.unit steps off (unit_region C sections) (at 0) out no_loop fits in
+            (let g = text_arms next C.unit (steps_of_plain nodes plain) off (unit_region C sections) (at 0) out no_loop fits in
             let l = arms_are_few C (cut ∷ cuts) sections (chart_is_right nodes reached lasts (cut ∷ cuts) sections plain found row).each in
             let h = arms_are C sections in omega arith);
         cases = (omega arith);

@@ -25,11 +25,11 @@ use Rattle.shape_laws.proofs.Selecting.{of_cases}
 
 -- Sums over nodes
 
-before_shift : (h : ℕ → ℕ) (k : ℕ) → before h (suc k) ≡ h 0 + before (λ b. h (suc b)) k
+pub before_shift : (h : ℕ → ℕ) (k : ℕ) → before h (suc k) ≡ h 0 + before (λ b. h (suc b)) k
 before_shift h zero = let e : before h 1 ≡ 0 + h 0 = refl in omega arith
 before_shift h (suc k) = let i = before_shift h k in omega arith
 
-before_all : (f : Option StNode → ℕ) (g : StNode → ℕ) → ((n : StNode) → f (Some n) ≡ g n) → (nodes : List StNode)
+pub before_all : (f : Option StNode → ℕ) (g : StNode → ℕ) → ((n : StNode) → f (Some n) ≡ g n) → (nodes : List StNode)
     → before (λ b. f (slice_get nodes b)) (length nodes) ≡ sum_by g nodes
 before_all f g same [] = refl
 before_all f g same (n ∷ rest) =

@@ -1,1 +1,3 @@
+pub mod EachOnce
+pub mod Lengths
 pub mod MadeShape

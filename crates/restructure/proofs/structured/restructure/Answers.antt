@@ -7,9 +7,13 @@ use Rattle.flow_graph.specs.Reached.{AreReached}
 use Rattle.flow_graph.specs.declared.graph.Exit.{Exit}
 use Rattle.graph_rules.specs.Flow.{flow_of}
 use Rattle.segment_plans.specs.Known.{AreKnown}
+use Rattle.shape_laws.specs.EachOnce.{HasEachOnce}
+use Rattle.shape_laws.proofs.Once.{made_has_each_once}
 use Rattle.shape_laws.proofs.Shapes.{made_has_shape}
+use Rattle.shape_laws.proofs.Shortness.{made_is_short}
 use Rattle.text_shapes.specs.NodeCounts.{KeepsOff}
 use Rattle.unit_regions.proofs.WholeUnit.{made_is_region}
+use Rattle.restructure.specs.Lengths.{IsShort}
 use Rattle.restructure.specs.Structures.{IsStructured}
 use Rattle.restructure.specs.TextShape.{HasSelectors, HasShape}
 use Rattle.restructure.specs.inner.Writing.{AreSegments, IsUnitText}
@@ -62,3 +66,19 @@ returns-clause-counted c =
     (λ (made : Structured). KeepsOff c.args.selector c.args.graph.nodes → HasSelectors c.args.selector made)
     (λ made is off. (made_has_shape _ _ _ _ c.requires.some c.requires.plain off
     (is_made _ _ c.requires (are_known at.In_ok-blocks) _ (are_cuts at.In_ok-cuts) _ _ made (are_after at.After-rest_after) is)).1) c.structure_of.ensures
+
+pub returns-clause-short : goal.returns-clause-short
+returns-clause-short c =
+    let at = goal.at.returns-clause-short c in
+    IfOk-weaker c.structure_of.result (IsUnitText c.args.graph.nodes c.in_ok-blocks.blocks c.args.selector c.rest_after.result.now)
+    (λ (made : Structured). IsShort c.args.graph.nodes made)
+    (λ made is. made_is_short _ _ _ _ c.requires.plain
+    (is_made _ _ c.requires (are_known at.In_ok-blocks) _ (are_cuts at.In_ok-cuts) _ _ made (are_after at.After-rest_after) is)) c.structure_of.ensures
+
+pub returns-clause-once : goal.returns-clause-once
+returns-clause-once c =
+    let at = goal.at.returns-clause-once c in
+    IfOk-weaker c.structure_of.result (IsUnitText c.args.graph.nodes c.in_ok-blocks.blocks c.args.selector c.rest_after.result.now)
+    (λ (made : Structured). HasEachOnce c.args.graph.nodes made.body)
+    (λ made is. made_has_each_once _ _ _ _ c.requires.plain
+    (is_made _ _ c.requires (are_known at.In_ok-blocks) _ (are_cuts at.In_ok-cuts) _ _ made (are_after at.After-rest_after) is)) c.structure_of.ensures
