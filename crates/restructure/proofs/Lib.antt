@@ -1,3 +1,4 @@
 mod Found
+mod Nests
 mod Segments
 mod Units

@@ -1,4 +1,5 @@
 pub mod Lengths
+pub mod Levels
 pub mod Structures
 pub mod TextShape
 pub mod inner

@@ -2,6 +2,7 @@
 ghost use Rattle.std.specs.Prelude.{◌≡◌, ◌+◌, ◌<◌, ◌≤◌, [], IfOk, List, OnOk, drop, length};
 ghost use Rattle.graph_rules.specs.Plain.{AreSettings};
 ghost use Rattle.restructure.specs.Lengths.{IsShort};
+ghost use Rattle.restructure.specs.Levels.{IsLow};
 ghost use Rattle.restructure.specs.Structures.{AreUnitNodes, IsStructured};
 ghost use Rattle.restructure.specs.TextShape.{HasSelectors, HasShape};
 ghost use Rattle.restructure.specs.inner.Writing.{AreSegments, IsKnownUnit, IsNext, IsUnitText};
@@ -136,6 +137,7 @@ pub fn restructure(alloc: Global, graph: StGraph, selector: u32) -> Result<Struc
     ensures shape { IfOk result (λ made. KeepsOff selector graph.nodes → HasShape graph.nodes selector made) }
     ensures counted { IfOk result (λ made. KeepsOff selector graph.nodes → HasSelectors selector made) }
     ensures short { IfOk result (λ made. IsShort graph.nodes made) }
+    ensures low { IfOk result (λ made. IsLow graph.nodes made) }
     ensures once { IfOk result (λ made. HasEachOnce graph.nodes made.body) }
 {
     let blocks = blocks_of(alloc, graph.nodes.as_slice())?;

@@ -8,6 +8,7 @@ pub mod Selecting
 mod ShapeCases
 pub mod Shapes
 pub mod Shortness
+mod Standing
 pub mod Texts
 pub mod Totals
 pub mod Work

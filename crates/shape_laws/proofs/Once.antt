@@ -1,4 +1,4 @@
--- The text of a unit has what its blocks do at most once, and nothing of a block that no path reaches.
+-- The text of a unit has what its blocks do exactly once, and nothing of a block that no path reaches.
 use Rattle.std.proofs.Common.{◌≡◌, ⊎_elim, ℕ, zero, suc, ◌+◌, ◌-◌, ◌<◌, ◌≤◌, ◌==◌, nat_lt, Bool, true, false, ◌&&◌, if◌then◌else◌, List, [], ◌∷◌, ◌++◌, append_assoc, length, slice_get, Option, Some, None, refl, sym, ap, ◌∙◌, subst, arith}
 use Rattle.std.proofs.lemmas.Bool.{cond_both}
 use Rattle.st_tree.specs.GraphRun.{entry_or}
@@ -21,16 +21,14 @@ use Rattle.unit_regions.specs.UnitCharts.{AreInRow, AreSections, IsCutUp, IsWrit
 use Rattle.unit_regions.specs.UnitRegion.{Section, arm_region, followed_by, lead_to, node_region, place_of, reached_from, region_by, section_region, unit_region}
 use Rattle.unit_regions.proofs.Counting.{none_of}
 use Rattle.unit_regions.proofs.Cutting.{blocks_are, next_of_more, segments}
+use Rattle.unit_regions.proofs.Joining.{unit_fits}
 use Rattle.unit_regions.proofs.Made.{chart_is_right}
 use Rattle.unit_regions.proofs.Markless.{marks_are_left_out}
 use Rattle.shape_laws.specs.EachOnce.{MadeHasEachOnce, reached_sum}
 use Rattle.shape_laws.proofs.Shapes.{end_facts}
+use Rattle.shape_laws.proofs.Standing.{each_stands, steps_at}
 use Rattle.shape_laws.proofs.Totals.{before_shift}
 use Rattle.shape_laws.proofs.Work.{of_work, settings_none, text_counts}
-
-abbrev steps_count : (Layer → ℕ) → Option StNode → ℕ
-steps_count count None = 0
-steps_count count (Some n) = count_in count n.steps
 
 module _ (count : Layer → ℕ) where
   abbrev W : Weights
@@ -67,7 +65,7 @@ module _ (count : Layer → ℕ) where
   arm_free first past follow i steps exit.End =
       cond_both (is_out follow) leaves ended (λ r. count_in count steps + weight W r ≤ count_in count steps) (λ e. omega arith) (λ e. omega arith)
 
-  node_free : (first past : ℕ) (follow : Place) (i : ℕ) (o : Option StNode) → weight W (node_region first past follow i o) ≤ steps_count count o
+  node_free : (first past : ℕ) (follow : Place) (i : ℕ) (o : Option StNode) → weight W (node_region first past follow i o) ≤ steps_at W o
   node_free first past follow i None = omega arith
   node_free first past follow i (Some n) = arm_free first past follow i n.steps n.exit
 
@@ -86,13 +84,13 @@ module _ (count : Layer → ℕ) where
   module _ (c : Chart) (free : count_in count c.end_steps ≡ 0) where
     -- what a block does, if it is reached
     abbrev own : ℕ → ℕ
-    own b = if c.unit.reached b then steps_count count (slice_get c.unit.nodes b) else 0
+    own b = if c.unit.reached b then steps_at W (slice_get c.unit.nodes b) else 0
 
     abbrev Own : ℕ → ℕ
     Own = before own
 
-    own_is : (b : ℕ) → c.unit.reached b ≡ true → own b ≡ steps_count count (slice_get c.unit.nodes b)
-    own_is b e = ap (λ (t : Bool). if t then steps_count count (slice_get c.unit.nodes b) else 0) e
+    own_is : (b : ℕ) → c.unit.reached b ≡ true → own b ≡ steps_at W (slice_get c.unit.nodes b)
+    own_is b e = ap (λ (t : Bool). if t then steps_at W (slice_get c.unit.nodes b) else 0) e
 
     -- Blocks
 
@@ -130,12 +128,12 @@ module _ (count : Layer → ℕ) where
     exit_within lo hi follow a rest steps exit.End = let x = out_free lo hi follow in omega arith
 
     one_within : (lo hi : ℕ) (follow : Place) (a : Around) (rest : Region) (o : Option StNode)
-        → weight W (one_region c lo hi follow a rest o) ≤ steps_count count o + weight W rest
+        → weight W (one_region c lo hi follow a rest o) ≤ steps_at W o + weight W rest
     one_within lo hi follow a rest None = omega arith
     one_within lo hi follow a rest (Some n) = exit_within lo hi follow a rest n.steps n.exit
 
     fork_within : (there behind : Region) (join : Place) (rest : Region) (o : Option StNode)
-        → weight W (fork_region there behind join rest o) ≤ steps_count count o + weight W there + weight W behind + weight W rest
+        → weight W (fork_region there behind join rest o) ≤ steps_at W o + weight W there + weight W behind + weight W rest
     fork_within there behind join rest None = omega arith
     fork_within there behind join rest (Some n) = by n.exit
       where
@@ -152,7 +150,7 @@ module _ (count : Layer → ℕ) where
     -- Parts
 
     module _ (g : Segment) (right : (b : ℕ) → IsReached (blocks_of g.flow) b → c.unit.reached b ≡ true) where
-      own_in : (b : ℕ) → IsIn g b → own b ≡ steps_count count (slice_get c.unit.nodes b)
+      own_in : (b : ℕ) → IsIn g b → own b ≡ steps_at W (slice_get c.unit.nodes b)
       own_in b is = own_is b (right b is.reached)
 
       part_once : (plan : Plan) (paid : Bool) (lo hi follow : ℕ) (a : Around) (place : Place) → IsPlan g plan paid lo hi follow a
@@ -235,11 +233,11 @@ module _ (count : Layer → ℕ) where
   -- Sums
 
   sum_is : (reached : ℕ → Bool) (nodes : List StNode)
-      → before (λ b. if reached b then steps_count count (slice_get nodes b) else 0) (length nodes)
+      → before (λ b. if reached b then steps_at W (slice_get nodes b) else 0) (length nodes)
       ≡ reached_sum reached (λ (n : StNode). count_in count n.steps) nodes
   sum_is reached [] = refl
   sum_is reached (n ∷ rest) =
-      before_shift (λ b. if reached b then steps_count count (slice_get (n ∷ rest) b) else 0) (length rest)
+      before_shift (λ b. if reached b then steps_at W (slice_get (n ∷ rest) b) else 0) (length rest)
       ∙ ap (λ (k : ℕ). (if reached 0 then count_in count n.steps else 0) + k) (sum_is (λ b. reached (suc b)) rest)
 
 pub made_has_each_once : MadeHasEachOnce
@@ -252,9 +250,11 @@ made_has_each_once nodes next body loops plain made =
       reaches = made.found.whole.reaches;
       once = λ count ok.
           let free : count_in count (ending_of nodes) ≡ 0 = settings_none count ok (ending_of nodes) (end_facts nodes plain).0 in
-          let l = unit_once count c free made.cuts made.sections made.found.whole
-          (chart_is_right nodes made.reached made.lasts made.cuts made.sections plain made.found made.planned).each in
+          let each = (chart_is_right nodes made.reached made.lasts made.cuts made.sections plain made.found made.planned).each in
+          let l = unit_once count c free made.cuts made.sections made.found.whole each in
+          let m = each_stands (of_work count) c.unit (unit_region c made.sections) made.reached
+          (unit_fits c made.cuts made.sections made.found.whole each) (λ b. (made.found.whole.reaches b).0) in
           let t = text_counts count ok next (unit_region c made.sections) in
           let s = sum_is count made.reached nodes in
-          subst (λ (text : List Stmt). count_in count text ≤ reached_sum made.reached (λ (n : StNode). count_in count n.steps) nodes) e (omega arith);
+          subst (λ (text : List Stmt). count_in count text ≡ reached_sum made.reached (λ (n : StNode). count_in count n.steps) nodes) e (omega arith);
     }

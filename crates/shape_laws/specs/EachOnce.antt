@@ -1,6 +1,6 @@
--- The text of a unit has what its blocks do at most once, and nothing of a block that no path reaches.
+-- The text of a unit has what its blocks do exactly once, and nothing of a block that no path reaches.
 -- Held against: this project's own readable texts.
-use Rattle.std.specs.Prelude.{◌≡◌, ◌↔◌, ℕ, suc, ◌+◌, ◌≤◌, ℤ, Bool, true, if◌then◌else◌, List, [], ◌∷◌}
+use Rattle.std.specs.Prelude.{◌≡◌, ◌↔◌, ℕ, suc, ◌+◌, ℤ, Bool, true, if◌then◌else◌, List, [], ◌∷◌}
 use Rattle.st_tree.specs.declared.expr.Expr.{Expr}
 use Rattle.st_tree.specs.declared.expr.Expr.TheVariants as expr
 use Rattle.st_tree.specs.declared.expr.StType.{StType}
@@ -33,12 +33,12 @@ reached_sum reached count [] = 0
 reached_sum reached count (n ∷ rest) =
     (if reached 0 then count n else 0) + reached_sum (λ b. reached (suc b)) count rest
 
--- whatever is counted so, a text has no more of it than the nodes that a path from the first one reaches, each once
+-- whatever is counted so, a text has as much of it as the nodes that a path from the first one reaches, each once
 pub record HasEachOnce (nodes : List StNode) (body : List Stmt) : Type 0 where
   pub reached : ℕ → Bool
   pub reaches : (b : ℕ) → (reached b ≡ true) ↔ IsReached (blocks_of (flow_of nodes)) b
   pub once : (count : S.Stmt-F Stmt Arm CaseArm → ℕ) → CountsWork count
-      → count_in count body ≤ reached_sum reached (λ (n : StNode). count_in count n.steps) nodes
+      → count_in count body ≡ reached_sum reached (λ (n : StNode). count_in count n.steps) nodes
 
 -- so does the text that is made of plain nodes
 abbrev pub MadeHasEachOnce : Type 0

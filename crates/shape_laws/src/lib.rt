@@ -17,7 +17,7 @@ pub fn made_is_short()
     ensures { MadeIsShort }
 {}
 
-/// It has what its blocks do at most once, and nothing of a block that no path reaches.
+/// It has what its blocks do exactly once, and nothing of a block that no path reaches.
 pub fn made_has_each_once()
     ensures { MadeHasEachOnce }
 {}

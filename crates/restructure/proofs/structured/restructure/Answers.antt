@@ -14,11 +14,13 @@ use Rattle.shape_laws.proofs.Shortness.{made_is_short}
 use Rattle.text_shapes.specs.NodeCounts.{KeepsOff}
 use Rattle.unit_regions.proofs.WholeUnit.{made_is_region}
 use Rattle.restructure.specs.Lengths.{IsShort}
+use Rattle.restructure.specs.Levels.{IsLow}
 use Rattle.restructure.specs.Structures.{IsStructured}
 use Rattle.restructure.specs.TextShape.{HasSelectors, HasShape}
 use Rattle.restructure.specs.inner.Writing.{AreSegments, IsUnitText}
 use Rattle.restructure.specs.declared.structured.Structured.{Structured}
 use Rattle.restructure.proofs.Found.{are_segments, is_made, reached_known}
+use Rattle.restructure.proofs.Nests.{is_low}
 use Rattle.restructure.proofs.structured.restructure.Goals as goal
 use Rattle.restructure.proofs.structured.restructure.Goals.{After-rest_after, In_ok-blocks, In_ok-cuts}
 
@@ -82,3 +84,11 @@ returns-clause-once c =
     (λ (made : Structured). HasEachOnce c.args.graph.nodes made.body)
     (λ made is. made_has_each_once _ _ _ _ c.requires.plain
     (is_made _ _ c.requires (are_known at.In_ok-blocks) _ (are_cuts at.In_ok-cuts) _ _ made (are_after at.After-rest_after) is)) c.structure_of.ensures
+
+pub returns-clause-low : goal.returns-clause-low
+returns-clause-low c =
+    let at = goal.at.returns-clause-low c in
+    IfOk-weaker c.structure_of.result (IsUnitText c.args.graph.nodes c.in_ok-blocks.blocks c.args.selector c.rest_after.result.now)
+    (λ (made : Structured). IsLow c.args.graph.nodes made)
+    (λ made is. is_low _ _ made (made_is_region _ _ _ _ c.requires.some c.requires.few c.requires.plain
+    (is_made _ _ c.requires (are_known at.In_ok-blocks) _ (are_cuts at.In_ok-cuts) _ _ made (are_after at.After-rest_after) is))) c.structure_of.ensures
