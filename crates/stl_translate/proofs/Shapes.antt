@@ -1,5 +1,5 @@
 -- The units of a text have the shapes that the blocks of the program allow.
-use Rattle.std.proofs.Common.{ℕ, ◌≤◌, List, [], ◌∷◌, Option, length, subst, arith}
+use Rattle.std.proofs.Common.{List, [], ◌∷◌, length, subst}
 use Rattle.flow_graph.specs.Graphs.{flow_of}
 use Rattle.graph_texts.specs.NextOf.{next_of}
 use Rattle.graph_texts.specs.Shapes.{HasShapeOf, HaveShapes}
@@ -9,34 +9,14 @@ use Rattle.st_tree.specs.declared.graph.GraphPou.{GraphPou}
 use Rattle.st_tree.specs.declared.graph.GraphProgram.{GraphProgram}
 use Rattle.st_tree.specs.declared.program.Pou.{Pou}
 use Rattle.st_tree.specs.declared.program.StProgram.{StProgram}
-use Rattle.st_tree.specs.declared.program.Stmt.{Stmt}
 use Rattle.stl_tree.specs.WellNested.{Flow}
 use Rattle.stl_tree.specs.declared.program.Block.{Block}
 use Rattle.stl_tree.specs.declared.program.Program.{Program}
 use Rattle.text_shapes.specs.IsShaped.{IsShaped}
 use Rattle.text_shapes.specs.NodeCounts.{conditionals_of, lists_of}
+use Rattle.text_shapes.proofs.ShapeCases.{more_jumps_allow_more}
 use Rattle.stl_translate.proofs.BodyShapes.{conditionals_few, flow_same, lists_few}
 use Rattle.stl_translate.specs.Shape.{AreShapedBy, IsShapedBy, Shape, conditionals_in, lists_in}
-
--- more conditional jumps and jump lists allow more
-more_allowed : (flow : Flow) (c l more_c more_l : ℕ) (next : Option ℕ) (body : List Stmt) → c ≤ more_c → l ≤ more_l
-    → IsShaped flow c l next body → IsShaped flow more_c more_l next body
-more_allowed flow c l more_c more_l next body few short h =
-    record {
-      segments = h.segments;
-      written = h.written;
-      judgements = h.judgements;
-      all = h.all;
-      some = h.some;
-      judged = h.judged;
-      declared = h.declared;
-      selector = h.selector;
-      selectors = h.selectors;
-      arms = h.arms;
-      cases = omega (arith, h.cases, short);
-      loops = h.loops;
-      tests = omega (arith, h.tests, few);
-    }
 
 shaped_by : (block : Block) (unit : GraphPou) (text : Pou) → IsUnitOf block unit → HasShapeOf unit text → IsShapedBy block text
 shaped_by block unit text h s =
@@ -44,8 +24,8 @@ shaped_by block unit text h s =
       graph = h.graph;
       is_graph = h.is_graph;
       shape =
-          more_allowed (flow_of (length block.body) h.graph.nodes) (conditionals_of unit.graph.nodes) (lists_of unit.graph.nodes)
-          (conditionals_in block.body) (lists_in block.body) (next_of text.locals) text.body
+          more_jumps_allow_more (flow_of (length block.body) h.graph.nodes) (conditionals_of unit.graph.nodes)
+          (lists_of unit.graph.nodes) (conditionals_in block.body) (lists_in block.body) (next_of text.locals) text.body
           (conditionals_few block.body h.graph h.is_graph unit.graph.nodes h.nodes)
           (lists_few block.body h.graph h.is_graph unit.graph.nodes h.nodes)
           (subst
