@@ -37,6 +37,13 @@ pub struct Question {
     pub words: Vec<String>,
 }
 
+/// A word, and whether it is to stand in the text that is answered.
+#[derive(Drop)]
+pub struct AskedWord {
+    pub word: String,
+    pub stands: bool,
+}
+
 /// A case: what the program is given, and what it is to answer.
 #[derive(Drop)]
 pub struct Case {
@@ -48,6 +55,9 @@ pub struct Case {
 
     /// The name of the status that is to be answered.
     pub status: String,
+
+    /// The word that alone is asked of the text; else the whole text is.
+    pub asked: Option<AskedWord>,
     pub answer: Vec<u8>,
 }
 
@@ -59,6 +69,7 @@ impl Case {
             image: Vec::new(alloc),
             faults: NO_FAULTS,
             status: String::new(alloc),
+            asked: None,
             answer: Vec::new(alloc),
         }
     }
@@ -154,6 +165,8 @@ impl Cases {
             "words" => self.put_question(false, rest.unwrap_or("")),
             "both" => self.put_question(true, rest.unwrap_or("")),
             "fault" => self.put_fault(rest.unwrap_or("")),
+            "with" => self.put_word(true, rest.unwrap_or("")),
+            "without" => self.put_word(false, rest.unwrap_or("")),
             "text" => self.put_name(rest.unwrap_or("")),
             "answer" => self.put_status(rest.unwrap_or("")),
             "source" => self.begin(Part::Source, rest),
@@ -185,6 +198,12 @@ impl Cases {
             None if line == "file" => faults.has_file = false,
             _ => return Err(Stop::NoForm),
         }
+        Ok(())
+    }
+
+    fn put_word(&mut self, stands: bool, word: &str) -> Result<(), Stop> {
+        let word = String::from_str(self.alloc, word)?;
+        self.case.asked = Some(AskedWord { word, stands });
         Ok(())
     }
 

@@ -5,7 +5,7 @@
 //! few.
 #![tactic(auto)]
 
-pub use cases::{Case, Cases, Faults, Question, has_key};
+pub use cases::{AskedWord, Case, Cases, Faults, Question, has_key};
 pub use stop::Stop;
 
 mod cases;

@@ -59,14 +59,39 @@ fn status_named(name: &str) -> Option<Status> {
     }
 }
 
+/// Whether a word stands in a text, between bytes that can't be part of one.
+fn has_word(text: &[u8], word: &[u8]) -> bool {
+    text.split(|byte| !byte.is_ascii_alphanumeric() && *byte != b'_')
+        .any(|piece| piece == word)
+}
+
+/// Whether the text is the one that the case wants, or has the word that alone is asked of it.
+fn is_text_wanted(case: &Case, text: &[u8]) -> bool {
+    match &case.asked {
+        Some(asked) => has_word(text, asked.word.as_bytes()) == asked.stands,
+        None => text == case.answer.as_slice(),
+    }
+}
+
+/// Shows what text a case wants, and with which status.
+fn show_wanted(rt: &impl Print, case: &Case) -> Result<(), Stop> {
+    let Some(asked) = &case.asked else {
+        println!(rt; "  wanted: {} {}", case.status, case.answer.escape_ascii())?;
+        return Ok(());
+    };
+    let key = if asked.stands { "with" } else { "without" };
+    println!(rt; "  wanted: {} {key} {}", case.status, asked.word)?;
+    Ok(())
+}
+
 /// Whether the answer is the one that the case wants; where it is another, both are shown.
 fn is_wanted(rt: &impl Print, file: &str, case: &Case, found: &Answer) -> Result<bool, Stop> {
     let is_status = status_named(case.status.as_str()) == Some(found.0);
-    if is_status && found.1.taken() == case.answer.as_slice() {
+    if is_status && is_text_wanted(case, found.1.taken()) {
         return Ok(true);
     }
     println!(rt; "FAILED {file}:{}", case.line)?;
-    println!(rt; "  wanted: {} {}", case.status, case.answer.escape_ascii())?;
+    show_wanted(rt, case)?;
     println!(rt;
         "  came:   {:?} {}",
         found.0,
