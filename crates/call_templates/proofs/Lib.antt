@@ -16,3 +16,4 @@ mod Leaving
 mod OperandsRead
 pub mod Serving
 mod Surroundings
+mod Zipped

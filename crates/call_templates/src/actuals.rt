@@ -40,18 +40,11 @@ pub fn push_constants(
     ensures { OnOk result (steps.new ≡ steps.old ++ constants_set next formals.now actuals.now) }
 {
     let mut next = next;
-    let mut formals = formals;
-    let mut actuals = actuals;
-    while let (Some((formal, more)), Some((actual, others))) = (
-        formals.split_first(),
-        actuals.split_first(),
-    ) {
+    for (formal, actual) in formals.iter().zip(actuals) {
         if let Actual::Constant(value) = *actual {
             steps.push(set_local(next, number(formal.width, value)))?;
             next += 1;
         }
-        formals = more;
-        actuals = others;
     }
     Ok(())
 }
@@ -68,12 +61,7 @@ pub fn variables(
 {
     let mut vars = List::new(alloc);
     let mut next = next;
-    let mut formals = formals;
-    let mut actuals = actuals;
-    while let (Some((formal, more)), Some((actual, others))) = (
-        formals.split_first(),
-        actuals.split_first(),
-    ) {
+    for (formal, actual) in formals.iter().zip(actuals) {
         match *actual {
             Actual::Missing => {}
             Actual::Constant(_) => {
@@ -82,8 +70,6 @@ pub fn variables(
             }
             Actual::At(operand) => vars.push(variable(operand, formal.width))?,
         }
-        formals = more;
-        actuals = others;
     }
     Ok(vars)
 }
@@ -99,18 +85,11 @@ pub fn push_operands(
     ensures { OnOk result (steps.new ≡ steps.old ++ operands_read next formals.now actuals.now) }
 {
     let mut next = next;
-    let mut formals = formals;
-    let mut actuals = actuals;
-    while let (Some((formal, more)), Some((actual, others))) = (
-        formals.split_first(),
-        actuals.split_first(),
-    ) {
+    for (formal, actual) in formals.iter().zip(actuals) {
         if let Actual::At(operand) = *actual {
             steps.push(set_local(next, Expr::Read(variable(operand, formal.width))))?;
             next += 1;
         }
-        formals = more;
-        actuals = others;
     }
     Ok(())
 }
@@ -183,15 +162,8 @@ pub fn push_copies_in(
 ) -> Result<(), NoMemory>
     ensures { OnOk result (steps.new ≡ steps.old ++ copies (copy_in instance) formals.now actuals.now) }
 {
-    let mut formals = formals;
-    let mut actuals = actuals;
-    while let (Some((formal, more)), Some((actual, others))) = (
-        formals.split_first(),
-        actuals.split_first(),
-    ) {
+    for (formal, actual) in formals.iter().zip(actuals) {
         push_copy_in(steps, instance, formal, *actual)?;
-        formals = more;
-        actuals = others;
     }
     Ok(())
 }
@@ -205,15 +177,8 @@ pub fn push_copies_back(
 ) -> Result<(), NoMemory>
     ensures { OnOk result (steps.new ≡ steps.old ++ copies (copy_back instance) formals.now actuals.now) }
 {
-    let mut formals = formals;
-    let mut actuals = actuals;
-    while let (Some((formal, more)), Some((actual, others))) = (
-        formals.split_first(),
-        actuals.split_first(),
-    ) {
+    for (formal, actual) in formals.iter().zip(actuals) {
         push_copy_back(steps, instance, formal, *actual)?;
-        formals = more;
-        actuals = others;
     }
     Ok(())
 }
@@ -226,17 +191,10 @@ pub fn push_types_of_constants(
 ) -> Result<(), NoMemory>
     ensures { OnOk result (types.new ≡ types.old ++ types_of_constants formals.now actuals.now) }
 {
-    let mut formals = formals;
-    let mut actuals = actuals;
-    while let (Some((formal, more)), Some((actual, others))) = (
-        formals.split_first(),
-        actuals.split_first(),
-    ) {
+    for (formal, actual) in formals.iter().zip(actuals) {
         if let Actual::Constant(_) = *actual {
             types.push(type_of_width(formal.width))?;
         }
-        formals = more;
-        actuals = others;
     }
     Ok(())
 }
@@ -249,17 +207,10 @@ pub fn push_types_of_operands(
 ) -> Result<(), NoMemory>
     ensures { OnOk result (types.new ≡ types.old ++ types_of_operands formals.now actuals.now) }
 {
-    let mut formals = formals;
-    let mut actuals = actuals;
-    while let (Some((formal, more)), Some((actual, others))) = (
-        formals.split_first(),
-        actuals.split_first(),
-    ) {
+    for (formal, actual) in formals.iter().zip(actuals) {
         if let Actual::At(_) = *actual {
             types.push(type_of_width(formal.width))?;
         }
-        formals = more;
-        actuals = others;
     }
     Ok(())
 }

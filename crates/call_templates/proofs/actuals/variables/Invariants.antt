@@ -1,11 +1,12 @@
 use Rattle.std.proofs.Common.{◌≡◌, ◌+◌, ◌^◌, ◌<◌, ◌++◌, length}
+use Rattle.std.specs.Iterator.Adapters.{zip_first, zip_second}
+use Rattle.std.specs.Slice.Iter.{iter_rest}
 use Rattle.call_templates.specs.Calls.{types_of_constants, variables_given}
 use Rattle.call_templates.proofs.actuals.variables.Given as goal
 
-abbrev pub decreases-loop-formal : goal.decreases-loop-formal
-decreases-loop-formal l = length l.formals
-
 abbrev pub invariant-loop-formal : goal.invariant-loop-formal
 invariant-loop-formal l =
-    (l.vars ++ variables_given l.next l.formals l.actuals ≡ variables_given l.fn.next l.fn.formals l.fn.actuals)
-    × (l.next + length (types_of_constants l.formals l.actuals) < 2 ^ 32)
+    let formals = iter_rest (zip_first l.formal-iterator) in
+    let actuals = iter_rest (zip_second l.formal-iterator) in
+    (l.vars ++ variables_given l.next formals actuals ≡ variables_given l.fn.next l.fn.formals l.fn.actuals)
+    × (l.next + length (types_of_constants formals actuals) < 2 ^ 32)
