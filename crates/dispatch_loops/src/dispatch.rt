@@ -58,9 +58,11 @@ fn either(alloc: Global, test: Expr, first: Stmt, second: Stmt) -> Result<Stmt, 
 fn arm_for(alloc: Global, number: u32, body: List<Stmt>) -> Result<CaseArm, NoMemory>
     ensures { IfOk result (λ arm. arm ≡ arm_with_label number body) }
 {
-    let mut labels = List::new(alloc);
-    labels.push(i64::from(number))?;
-    Ok(CaseArm { labels, body })
+    let labels = vec![in alloc; i64::from(number)]?;
+    Ok(CaseArm {
+        labels: List::from_vec(labels),
+        body,
+    })
 }
 
 /// An arm for each entry of a table.

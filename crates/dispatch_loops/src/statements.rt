@@ -12,9 +12,8 @@ use std::alloc::Global;
 pub fn one_statement(alloc: Global, statement: Stmt) -> Result<List<Stmt>, NoMemory>
     ensures { IfOk result (λ body. body ≡ statement ∷ []) }
 {
-    let mut body = List::new(alloc);
-    body.push(statement)?;
-    Ok(body)
+    let body = vec![in alloc; statement]?;
+    Ok(List::from_vec(body))
 }
 
 /// Puts statements behind others.
@@ -36,9 +35,8 @@ pub fn choice(
 ) -> Result<Stmt, NoMemory>
     ensures { IfOk result (λ statement. statement ≡ choice test body other) }
 {
-    let mut arms = List::new(alloc);
-    arms.push(Arm { test, body })?;
-    Ok(Stmt::If(arms, other))
+    let arms = vec![in alloc; Arm { test, body }]?;
+    Ok(Stmt::If(List::from_vec(arms), other))
 }
 
 /// WHILE TRUE.
