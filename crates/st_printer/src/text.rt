@@ -54,12 +54,12 @@ pub fn put_hexadecimal(out: &mut Vec<u8>, count: u32, number: u64) -> Result<(),
 }
 
 /// Appends four blanks for each level.
+#[tactic(auto, using(crate::proofs::Pieces::blanks_behind))]
 pub fn put_blanks(out: &mut Vec<u8>, level: usize) -> Result<(), NoMemory>
     ensures { OnOk result (out.new.items ≡ out.old.items ++ blanks level) }
 {
-    if level == 0 {
-        return Ok(());
-    }
-    put_text(out, "    ")?;
-    put_blanks(out, level - 1)
+    let count = level.checked_mul(4).ok_or(NoMemory)?;
+    let size = out.len().checked_add(count).ok_or(NoMemory)?;
+    out.resize(size, b' ')?;
+    Ok(())
 }
