@@ -167,7 +167,10 @@ fn number_after(alloc: Global, formals: &[Local], number: u32) -> Result<u32, No
 fn temporary_name(alloc: Global, number: u32) -> Result<List<u8>, NoMemory>
     ensures { IfOk result (λ name. name ≡ temporary_name number) }
 {
-    let mut name = Vec::from_slice(alloc, b"T")?;
-    name.extend_from_slice(Buffer::new().format(number).as_bytes())?;
+    let mut buffer = Buffer::new();
+    let digits = buffer.format(number).as_bytes();
+    let mut name = Vec::with_capacity(alloc, digits.len() + 1)?;
+    name.push(b'T')?;
+    name.extend_from_slice(digits)?;
     Ok(List::from_vec(name))
 }

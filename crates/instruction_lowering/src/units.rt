@@ -2,7 +2,7 @@
 //!
 //! A unit has a node for each block of its body, by the graph of the body. The locals of a unit are numbered through its
 //! nodes, in one pass.
-ghost use Rattle.std.specs.Prelude.{◌≡◌, ◌+◌, ◌==◌, ◌++◌, All, IfOk, OnOk};
+ghost use Rattle.std.specs.Prelude.{◌≡◌, ◌+◌, ◌==◌, ◌++◌, [], All, IfOk, OnOk};
 ghost use Rattle.graph_rules.specs.Plain.{Plain};
 ghost use Rattle.stl_tree.specs.Accepted.{IsAccepted, IsAcceptedBlock};
 ghost use Rattle.instruction_lowering.specs.Lowered.{Lowered};
@@ -19,6 +19,7 @@ use flow_graph::{Exit, Node, graph_of};
 use s7_base::{List, NoMemory, front_of, rest_after};
 use st_tree::{GraphPou, GraphProgram, Pou, StExit, StGraph, StNode, Stmt};
 use std::alloc::Global;
+use std::mem::replace;
 use stl_tree::{Block, BlockName, Instr, Program};
 use template_parts::local;
 
@@ -110,13 +111,13 @@ fn nodes(
     ensures { IfOk result (λ nodes. nodes ≡ nodes_of blocks.now body.now extents) }
 {
     let size = body.len();
-    let mut nodes = List::new(alloc);
+    let mut nodes = List::from_vec(Vec::with_capacity(alloc, extents.len())?);
+    let mut steps = List::new(alloc);
     let mut used: u32 = 0;
     let mut rest = body;
     for extent in extents.into_vec() {
         let count = extent.past.saturating_sub(extent.first) as usize;
         let mut spot = LoweringContext::from(alloc, used);
-        let mut steps = List::new(alloc);
         push_steps(
             alloc,
             &mut steps,
@@ -126,10 +127,23 @@ fn nodes(
             front_of(rest, count),
         )?;
         used = spot.used;
+        let steps = all_moved(alloc, &mut steps)?;
         nodes.push(node(steps, used, extent, size))?;
         rest = rest_after(rest, count);
     }
     Ok(nodes)
+}
+
+/// All steps, moved to a list of their own, which has room for one more: the statement of an exit.
+fn all_moved(alloc: Global, steps: &mut List<Stmt>) -> Result<List<Stmt>, NoMemory>
+    ensures moved { IfOk result (λ moved. moved ≡ steps.old) }
+    ensures left { OnOk result (steps.new ≡ []) }
+{
+    let mut all = replace(steps, List::new(alloc)).into_vec();
+    let mut moved = Vec::with_capacity(alloc, all.len() + 1)?;
+    moved.append(&mut all)?;
+    *steps = List::from_vec(all);
+    Ok(List::from_vec(moved))
 }
 
 /// The node with these steps, behind which there are so many locals, of a block of a body of this length.

@@ -13,4 +13,5 @@ loop-extent-preserved c = (
   next_left c.args.blocks.now c.args.body.now c.loop-extent.yielded c.in-Some.extent
       c.loop-extent.rest.now c.rest_after-rest.result.now c.loop-extent.invariant.2
       (first_of (search rules, grind (arith, common_steps))),
+  first_of (search rules, grind (arith, common_steps)),
 )
