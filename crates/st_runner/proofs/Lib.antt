@@ -1,3 +1,4 @@
+pub mod Begun
 pub mod Chains
 pub mod Common
 pub mod Costs

@@ -11,6 +11,7 @@ use Rattle.st_runner.specs.declared.frame.Frame.TheVariants as frame
 use Rattle.st_runner.specs.declared.plan.Part.{Part}
 use Rattle.st_runner.specs.declared.plan.Part.TheVariants as part
 use Rattle.st_tree.specs.declared.expr.Expr.{Expr}
+use Rattle.st_tree.specs.declared.expr.Var.{Var}
 use Rattle.st_tree.specs.declared.program.Arm.{fold_out-Arm}
 use Rattle.st_tree.specs.declared.program.CaseArm.{fold_out-CaseArm}
 use Rattle.st_tree.specs.declared.program.Stmt.TheOpen as S
@@ -31,6 +32,9 @@ case_is arm = fold_out-CaseArm (List Part) (List Part) LabelledParts parts_step 
 
 pub if_is : (arms : List Arm) (other : List Stmt) → parts_of (stmt.If arms other) ≡ if_parts arms other
 if_is arms other = parts_stmt (S.If arms other) (stmt.rolls-If arms other)
+
+pub assign_is : (v : Var) (e : Expr) → parts_of (stmt.Assign v e) ≡ []
+assign_is v e = parts_stmt (S.Assign v e) (stmt.rolls-Assign v e)
 
 pub while_is : (test : Expr) (body : List Stmt) → parts_of (stmt.While test body) ≡ with_head (body_parts body)
 while_is test body = parts_stmt (S.While test body) (stmt.rolls-While test body)

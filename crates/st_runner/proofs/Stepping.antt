@@ -1,5 +1,5 @@
 -- What needs no unit, frame by frame.
-use Rattle.st_tree.proofs.Common.{◌≡◌, ℕ, ◌+◌, ◌≤◌, max, Bor, List, [], ◌∷◌, ◌++◌, length, refl, sym, ap, ◌∙◌, arith, left, Calls, Out, Normal, body_meaning, meaning, then_do, State}
+use Rattle.st_tree.proofs.Common.{◌≡◌, ℕ, ◌+◌, ◌<◌, ◌≤◌, max, Bor, List, [], ◌∷◌, ◌++◌, length, refl, sym, ap, ◌∙◌, arith, left, Calls, Out, Normal, body_meaning, meaning, then_do, State}
 use Rattle.st_runner.proofs.Common.{body_weight, frame_tall, frame_weight, sizes, tall, unit_costs, units, weight, work_weight, depth_costs, stack_costs, Costs, body_most, most, Done, IsReady, most_formals, most_locals, misfit_costs, ending, IsRunning, IsSound, state_of, At, Frame, Expr, StProgram, Stmt}
 use Rattle.st_runner.specs.inner.Ready.{IfWork, Stepped}
 use Rattle.st_runner.specs.inner.Waiting.{or_none, with_rest}
@@ -132,6 +132,11 @@ first_room n m tree capacity ws fs gs b r x s ready e split g =
     let k : Costs = stack_costs tree in
     let rest : Behind tree fs gs r.now = behind m tree fs gs r g in
     omega (arith, top_tall k fs ws (frame.Rest b n) e, ap (body_most k) split, rest.sizes k, stack_length tree gs, ready.frames)
+
+-- there is room for the rest of a list that was on top
+pub rest_room : (n : ℕ) (tree : StProgram) (capacity : ℕ) (ws fs : List Frame) (b : Bor (List Stmt)) (s : RunnerState)
+    → IsReady tree capacity ws at.Work s → ws ≡ fs ++ frame.Rest b n ∷ [] → length fs < capacity
+rest_room n tree capacity ws fs b s ready e = omega (arith, top_sizes (stack_costs tree) fs ws (frame.Rest b n) e, stack_length tree fs, ready.frames)
 
 pub may_leave : (tree : StProgram) (capacity : ℕ) (ws fs : List Frame) (s : RunnerState)
     → IsReady tree capacity ws at.Work s → ws ≡ fs ++ frame.Unit ∷ [] → MayLeave s

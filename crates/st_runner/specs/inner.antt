@@ -1,3 +1,4 @@
+pub mod Begun
 pub mod Choice
 pub mod Costs
 pub mod Leaving

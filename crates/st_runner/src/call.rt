@@ -8,7 +8,7 @@ ghost use Rattle.st_tree.specs.State.{reference_of};
 
 use crate::state::State;
 use s7_base::Fault;
-use st_tree::{Local, Located, Pou, Reference, Value, Var, width_at};
+use st_tree::{Local, Located, Pou, Reference, Value, Var, type_of_width, width_at};
 
 /// Makes locals those of a unit at its start.
 pub fn zero_locals(locals: &mut Vec<Value>, declared: &[Local])
@@ -24,6 +24,7 @@ pub fn zero_locals(locals: &mut Vec<Value>, declared: &[Local])
 
 impl State {
     /// A reference, or the fault of an access to the place that it names.
+    #[inline(always)]
     fn check_access(&self, reference: Reference) -> Result<Reference, Fault>
         requires { IsReachable reference }
         ensures { result ≡ check_access reference (state_of self.now) }
@@ -47,6 +48,7 @@ impl State {
     }
 
     /// The reference of an actual, or the fault of an access to it.
+    #[inline(always)]
     fn located_actual(&self, globals: &[Located], var: &Var) -> Result<Reference, Fault>
         requires running { IsRunning self.now }
         requires globals { AreGlobals globals.now }
@@ -56,9 +58,12 @@ impl State {
         match var {
             Var::Formal(_) => self.reference_of(globals, var),
             Var::Register(_) => self.located(globals, var),
-            Var::Local(_) => self.located(globals, var),
+            Var::Local(i) => Ok(Reference::Local(self.depth(), *i)),
             Var::Global(_) => self.located(globals, var),
-            Var::Direct(_, _, _, _) => self.located(globals, var),
+            Var::Direct(name, byte, bit, width) => {
+                let place = self.place_of(*name, *byte, *bit);
+                self.check_access(Reference::Place(place, type_of_width(*width)))
+            }
             Var::InBlock(_, _, _, _) => self.located(globals, var),
         }
     }

@@ -1,11 +1,12 @@
 //! Expressions, assignments and choices.
 ghost use Rattle.std.specs.Prelude.{◌≡◌, ◌∷◌, ◌++◌, Ok, Err, IfSome, MatchResult, ℕ};
 ghost use Rattle.memory_areas.specs.Access.{and_then};
+ghost use Rattle.st_runner.specs.inner.Begun.{HasBegun};
 ghost use Rattle.st_runner.specs.inner.Choice.{case_body, if_body};
 ghost use Rattle.st_runner.specs.inner.Plan.{Stands, arms_parts, body_parts, case_part, inside_case};
-ghost use Rattle.st_runner.specs.inner.View.{Changes, IsRunning, IsSound, SameShape, state_of};
+ghost use Rattle.st_runner.specs.inner.View.{Changes, IsRunning, IsSound, MayRun, SameShape, state_of};
 ghost use Rattle.st_runner.specs.inner.Runnable.{AreGlobals};
-ghost use Rattle.st_tree.specs.Meaning.{area_assignment, assignment};
+ghost use Rattle.st_tree.specs.Meaning.{Calls, Faults, area_assignment, assignment, body_meaning};
 ghost use Rattle.st_tree.specs.Value.{value};
 ghost use Rattle.st_tree.specs.Values.{is_set};
 
@@ -44,7 +45,10 @@ impl State {
             Expr::Literal(ty, n) => Ok(Value { ty: *ty, n: *n }),
             Expr::Read(var) => self.read(globals, var),
             Expr::Unary(op, operand) => {
-                let v = self.value(globals, operand.get())?;
+                let v = match self.value_at_once(globals, operand.get()) {
+                    Some(v) => v?,
+                    None => self.value(globals, operand.get())?,
+                };
                 unary(*op, v)
             }
             Expr::Binary(op, left, right) => {
@@ -59,7 +63,10 @@ impl State {
                 binary(*op, v, w)
             }
             Expr::Convert(_, to, operand) => {
-                let v = self.value(globals, operand.get())?;
+                let v = match self.value_at_once(globals, operand.get()) {
+                    Some(v) => v?,
+                    None => self.value(globals, operand.get())?,
+                };
                 Ok(converted_value(*to, v))
             }
             Expr::Select(gate, first, second) => {
@@ -99,6 +106,12 @@ impl State {
                     return None;
                 };
                 binary(*op, v, w)
+            }
+            Expr::Convert(_, to, operand) => {
+                let Some(Ok(v)) = self.value_at_once(globals, operand.get()) else {
+                    return None;
+                };
+                Ok(converted_value(*to, v))
             }
             _ => return None,
         };
@@ -172,6 +185,32 @@ impl State {
             Some(v) => self.write(globals, var, v),
             None => self.assign_found(globals, var, e),
         }
+    }
+
+    /// Does the assignments that some statements begin with, and gives the statements behind them.
+    pub fn assign_first<'t>(
+        &mut self,
+        globals: &[Located],
+        body: &'t [Stmt],
+    ) -> Result<&'t [Stmt], Fault>
+        requires sound { MayRun self.old }
+        requires globals { AreGlobals globals.now }
+        ensures begun { MatchResult result
+            (λ rest. HasBegun globals.now body.now rest.now (state_of self.old) (state_of self.new))
+            (λ fault. (c : Calls) (u : ℕ) → body_meaning globals.now c body.now u (state_of self.old)
+            ≡ Faults fault (state_of self.new)) }
+        ensures sound { (l f : ℕ) → IsSound l f self.old → IsSound l f self.new }
+        ensures same { SameShape self.old self.new }
+    {
+        let mut rest = body;
+        while let Some((stmt, behind)) = rest.split_first() {
+            let Stmt::Assign(var, e) = stmt else {
+                return Ok(rest);
+            };
+            self.assign(globals, var, e)?;
+            rest = behind;
+        }
+        Ok(rest)
     }
 
     /// Writes the value of an expression through a pointer. A fault changes nothing.

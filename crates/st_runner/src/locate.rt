@@ -40,7 +40,7 @@ impl State {
 
     /// The place that a direct variable names. It is inlined, so that the place is not copied.
     #[inline(always)]
-    fn place_of(&self, name: AreaName, byte: u32, bit: u8) -> Place
+    pub fn place_of(&self, name: AreaName, byte: u32, bit: u8) -> Place
         requires { IsRunning self.now }
         ensures place { result ≡ place_of name byte bit (state_of self.now) }
         ensures activation { IsActivation result.area }
@@ -53,6 +53,7 @@ impl State {
     }
 
     /// The reference of a formal of the running unit.
+    #[inline(always)]
     fn formal(&self, i: u32) -> Result<Reference, Fault>
         requires { IsRunning self.now }
         ensures { result
@@ -108,13 +109,46 @@ impl State {
 
     /// The value at the reference of a variable. It stays a call, since few variables are formals or globals.
     #[inline(never)]
+    #[tactic(auto, using(crate::proofs::Frames::formal_reach))]
     fn read_referred(&self, globals: &[Located], var: &Var) -> Result<Value, Fault>
         requires running { IsRunning self.now }
         requires globals { AreGlobals globals.now }
         ensures { result ≡ read globals.now var.now (state_of self.now) }
     {
-        let reference = self.reference_of(globals, var)?;
-        self.read_at(reference)
+        match var {
+            Var::Formal(i) => {
+                let reference = self.formal(*i)?;
+                self.read_at(reference)
+            }
+            _ => {
+                let reference = self.reference_of(globals, var)?;
+                self.read_at(reference)
+            }
+        }
+    }
+
+    /// Gives what is at the reference of a variable a value. A fault changes nothing. It stays a call, since few
+    /// variables are formals or globals.
+    #[inline(never)]
+    #[tactic(auto, using(crate::proofs::Frames::formal_reach))]
+    fn write_referred(&mut self, globals: &[Located], var: &Var, v: Value) -> Result<(), Fault>
+        requires running { IsRunning self.old }
+        requires globals { AreGlobals globals.now }
+        ensures change { Changes (write globals.now var.now v (state_of self.old)) result
+            (state_of self.old) (state_of self.new) }
+        ensures sound { (l f : ℕ) → IsSound l f self.old → IsSound l f self.new }
+        ensures same { SameShape self.old self.new }
+    {
+        match var {
+            Var::Formal(i) => {
+                let reference = self.formal(*i)?;
+                self.write_at(reference, v)
+            }
+            _ => {
+                let reference = self.reference_of(globals, var)?;
+                self.write_at(reference, v)
+            }
+        }
     }
 
     /// The value of a variable.
@@ -183,10 +217,7 @@ impl State {
                     v,
                 )
             }
-            Var::Formal(_) | Var::Global(_) => {
-                let reference = self.reference_of(globals, var)?;
-                self.write_at(reference, v)
-            }
+            Var::Formal(_) | Var::Global(_) => self.write_referred(globals, var, v),
         }
     }
 

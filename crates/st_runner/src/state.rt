@@ -123,6 +123,7 @@ impl State {
     }
 
     /// The value at a reference.
+    #[inline(always)]
     pub fn read_at(&self, reference: Reference) -> Result<Value, Fault>
         requires { IsReachable reference }
         ensures { result ≡ read_at reference (state_of self.now) }
@@ -145,6 +146,7 @@ impl State {
     }
 
     /// Writes a value at a reference. A fault changes nothing.
+    #[inline(always)]
     pub fn write_at(&mut self, reference: Reference, v: Value) -> Result<(), Fault>
         requires { IsReachable reference }
         ensures change { Changes (write_at reference v (state_of self.old)) result

@@ -1,13 +1,14 @@
 //! Steps: what needs no unit, and what takes one.
-ghost use Rattle.std.specs.Prelude.{◌≡◌, ◌+◌, ◌<◌, ◌≤◌, ◌∷◌, max, length, vec_capacity, ℕ, Some, None};
+ghost use Rattle.std.specs.Prelude.{◌≡◌, ◌+◌, ◌<◌, ◌≤◌, ◌∷◌, ◌++◌, [], max, length, vec_capacity, ℕ, Some, None};
 ghost use Rattle.st_runner.specs.inner.Measures.{next_tall, reach, sizes, tall, units, weight, work_weight, stack_costs};
 ghost use Rattle.st_runner.specs.inner.Costs.{Costs, body_most, most};
-ghost use Rattle.st_runner.specs.inner.Plan.{ArePlanned, AreStarts, IsPlanned, Stands, case_part, if_parts, inside_case, parts_of};
+ghost use Rattle.st_runner.specs.inner.Plan.{ArePlanned, AreStarts, IsPlanned, Stands, body_parts, case_part, if_parts, inside_case, parts_of};
 ghost use Rattle.st_runner.specs.inner.Ready.{Done, IsReady, IsSettled, Spent, Stepped, next_of};
 ghost use Rattle.st_runner.specs.inner.Runnable.{IsRunnable, AreGlobals};
 ghost use Rattle.st_runner.specs.inner.Waiting.{end_at, ending, with_rest};
 ghost use Rattle.st_runner.specs.inner.View.{IsRunning, IsSound, SameShape, state_of};
 ghost use Rattle.st_runner.specs.declared.frame.At.TheVariants.{Call, Test, Work};
+ghost use Rattle.st_runner.specs.declared.frame.Frame.TheVariants.{Rest};
 ghost use Rattle.st_tree.specs.Meaning.{Calls, meaning};
 ghost use Rattle.st_tree.specs.declared.program.Stmt.TheVariants.{Case, If};
 
@@ -180,7 +181,32 @@ fn push_rest<'t>(rest: &'t [Stmt], at: usize, work: &mut Vec<Frame<'t>>)
     }
 }
 
-/// Does the next statement that waits, or ends the frame on top.
+/// Does the first of some statements. Those behind it wait.
+#[inline(always)]
+fn first_statement<'t>(
+    tree: &'t StProgram,
+    plan: &[Part<'t>],
+    body: &'t [Stmt],
+    at: usize,
+    work: &mut Vec<Frame<'t>>,
+    state: &mut State,
+) -> At<'t>
+    requires globals { AreGlobals tree.now.globals }
+    requires ready { IsReady tree.now (vec_capacity work.old) (work.old.items ++ Rest body at ∷ []) Work state.old }
+    requires frames { ArePlanned plan.now work.old.items }
+    requires planned { Stands plan.now at (body_parts body.now) }
+    ensures stepped { Stepped tree.now (work.old.items ++ Rest body.entry at ∷ []) work.new.items result state.old state.new }
+    ensures planned { IsPlanned plan.now work.new.items result }
+    ensures capacity { vec_capacity work.new ≡ vec_capacity work.old }
+{
+    let Some((stmt, rest)) = body.split_first() else {
+        return At::Work;
+    };
+    push_rest(rest, behind(plan, at, stmt), work);
+    statement(tree, plan, at, stmt, work, state)
+}
+
+/// Does the next statements that wait: the assignments before any other, and that one. Or ends the frame on top.
 #[inline(always)]
 fn step<'t>(
     tree: &'t StProgram,
@@ -197,13 +223,10 @@ fn step<'t>(
 {
     match work.pop() {
         None => At::Over(None),
-        Some(Frame::Rest(body, at)) => {
-            let Some((stmt, rest)) = body.split_first() else {
-                return At::Work;
-            };
-            push_rest(rest, behind(plan, at, stmt), work);
-            statement(tree, plan, at, stmt, work, state)
-        }
+        Some(Frame::Rest(body, at)) => match state.assign_first(tree.globals.as_slice(), body) {
+            Ok(rest) => first_statement(tree, plan, rest, at, work, state),
+            Err(fault) => At::Over(Some(fault)),
+        },
         Some(Frame::Again(test, body, at)) => At::Test(test, body, at),
         Some(Frame::Unit) => {
             state.leave();

@@ -115,3 +115,7 @@ MayLeave s = (locals : ℕ) × (formals : ℕ) × IsSound locals formals s × (1
 abbrev pub IsDeeper : Result (Unit {0}) Fault → RunnerState → RunnerState → Type 0
 IsDeeper (Ok done) before after = length after.activations.items ≡ length before.activations.items + 1
 IsDeeper (Err f) before after = length after.activations.items ≡ length before.activations.items
+
+-- the state is sound, with room for some locals and formals
+abbrev pub MayRun : RunnerState → Type 0
+MayRun s = (locals : ℕ) × (formals : ℕ) × IsSound locals formals s
