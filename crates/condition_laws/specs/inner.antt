@@ -1,0 +1,2 @@
+pub mod Negation
+pub mod Rewriting
