@@ -8,6 +8,8 @@ for word in help --help -h; do
 done
 front translate --help
 equal "--help after a command prints the help" "$status: $(wc -l < "$room/out")" "0: $(wc -l < "$top/front/help.txt")"
+front demo --help
+equal "--help after demo prints the help" "$status: $(wc -l < "$room/out")" "0: $(wc -l < "$top/front/help.txt")"
 front run-st -h
 equal "-h after a command prints the help" "$status: $(wc -l < "$room/out")" "0: $(wc -l < "$top/front/help.txt")"
 front --version
@@ -25,7 +27,7 @@ front explain
 equal "explain alone lists the names" "$status: $(grep -c DivideByZero "$room/out")" "0: 1"
 
 # Each switch and each form stands in the help and in the page.
-for word in "-o FILE" "-o FOLDER" --join --keep --blocks --report "./stl2st try COMMAND" "check [FILE ..]" "translate FILE .."; do
+for word in "-o FILE" "-o FOLDER" --join --keep --blocks --report "demo N" "./stl2st try COMMAND" "check [FILE ..]" "translate FILE .."; do
     equal "$word stands in the help and in its page" "$(grep -qF -- "$word" "$top/front/help.txt" && grep -cqF -- "$word" "$top/docs/reference/commands.md"; echo "$?")" 0
 done
 
@@ -48,7 +50,11 @@ done <<'END'
 
 foo
 Translate a
-demo 3
+demo
+demo 50001
+demo 000003
+demo x
+demo 3 a.awl
 run-stl 1 OB1
 run-st
 translate a b
@@ -62,6 +68,8 @@ build x
 END
 front check ""
 gives "usage for an empty name" 2 "$usage"
+front demo 50001
+says "a number of networks that is too large is named" "up to 50000: '50001'"
 front foo
 says "a command that there is not is named" "there is no command 'foo'"
 

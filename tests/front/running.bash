@@ -43,6 +43,14 @@ for signal in "${signals[@]}"; do
     equal "SIG$signal ends the front and the program" "$ended" "$((128 + $(kill -l "$signal")))"
 done
 
+# The demo reads no input, whatever there is.
+front demo 00003 <<< "ANSWER 1 text"
+gives "the demo gets its number as it is written" 0 "the summary of 00003"
+silent "and nothing is said of it"
+PATH=$path "$repo/stl2st" demo 3 > /dev/full 2> "$room/err"
+equal "a full standard output is handed on from the demo" "$?" 8
+says "and is named" "standard output could not be written whole"
+
 # A source by its name.
 source_of() {
     printf 'ECHO\n%s' "the text" > "$2"

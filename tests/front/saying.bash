@@ -59,6 +59,8 @@ if has_terminal; then
     PATH=$path timeout 20 script -qec "'$repo/stl2st' check" /dev/null \
         < <(for _ in {1..30}; do sleep 0.3; printf '\4'; done) > "$room/err" 2>&1
     says "on a terminal it says that it waits" "waiting for the text on standard input"
+    PATH=$path timeout 20 script -qec "'$repo/stl2st' demo 3" /dev/null < /dev/null > "$room/err" 2>&1
+    says "on a terminal it says that the demo is at work" "at work: making 3 networks"
 fi
 
 # Many sources.

@@ -14,6 +14,8 @@ mod memory_areas_cases;
 #[cfg(test)]
 mod s7_base_cases;
 #[cfg(test)]
+mod s7_demo_cases;
+#[cfg(test)]
 mod s7_io_cases;
 #[cfg(test)]
 mod wants;

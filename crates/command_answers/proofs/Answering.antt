@@ -5,6 +5,7 @@ use Rattle.s7_base.specs.declared.outcome.Outcome.{Outcome}
 use Rattle.s7_base.specs.declared.outcome.Outcome.TheVariants as outcome
 use Rattle.s7_base.specs.declared.reason.Line.{Line}
 use Rattle.s7_base.specs.declared.reason.Reason.{Reason}
+use Rattle.s7_demo.specs.Demo.{demo_source}
 use Rattle.s7_io.specs.Source.{GaveAll, GaveExactly}
 use Rattle.image_text.specs.Image.{image_of}
 use Rattle.image_text.specs.Reading.{Reads as ReadsAs}
@@ -26,16 +27,17 @@ use Rattle.stl_translate.specs.Same.{Same}
 use Rattle.stl_translate.specs.Shape.{Shape}
 use Rattle.stl_tree.specs.StlRun.{Standing, running, over, end_of}
 use Rattle.stl_tree.specs.declared.program.Program.{Program}
-use Rattle.command_answers.specs.Answer.{Reply, Work, alone, Answers, AnswersRun, AnswersSource, AnswersWork, Translates, image_reply, refusal_line, run_reply, run_status, too_long_line, usage_line, source_too_long, refused, read, image_too_long, bad_image, bad_call, ran}
+use Rattle.command_answers.specs.Answer.{Reply, Row, row, Work, alone, Answers, AnswersDemo, AnswersRow, AnswersRun, AnswersSource, AnswersStl, AnswersWork, Translates, image_reply, refusal_line, run_reply, run_status, too_long_line, usage_line, source_too_long, refused, read, image_too_long, bad_image, bad_call, ran}
 use Rattle.command_answers.specs.Devices.{AreOf, Input}
 use Rattle.command_answers.specs.Inputs.{IsReadPast, IsReadWhole}
 use Rattle.command_words.specs.declared.command.Command.{Command}
 use Rattle.command_answers.specs.declared.limits.TheConstants.{INPUT_LIMIT, IMAGE_LIMIT}
 use Rattle.command_answers.specs.declared.reply.Reply.{Reply as Made}
 use Rattle.command_answers.specs.declared.reply.Stop.{Stop}
+use Rattle.command_answers.specs.declared.reply.Task.TheVariants as task
 use Rattle.command_answers.specs.declared.status.Status.{Status}
 use Rattle.command_answers.specs.declared.status.Status.TheVariants.{Done, Refused, Usage, TooLong}
-use Rattle.command_answers.specs.inner.Replies.{Answered, AnsweredCall, AnsweredTo, IsWritten, reply_of}
+use Rattle.command_answers.specs.inner.Replies.{Answered, AnsweredCall, AnsweredTo, IsWritten, reply_of, row_of, row_of_task, task_of}
 
 -- Bytes of an input
 
@@ -245,3 +247,22 @@ usage_reply program image made e =
 pub usage_asked : (m : Option Command) (program image : Input) (made : Made) → m ≡ None
     → reply_of made ≡ (Usage, usage_line) → Answered (Answers m) program image made
 usage_asked m program image made none e = subst (λ (k : Option Command). Answered (Answers k) program image made) (sym none) (usage_reply program image made e)
+
+-- the reply to a demo
+pub demo_answered : (m : Option Command) (command : Command) (networks : ℕ) (program image : Input) (made : Made)
+    → m ≡ Some command → task.Demo networks ≡ task_of command
+    → AnswersStl (AnswersDemo networks) (demo_source networks) (reply_of made) → IsWritten made.status
+    → Answered (Answers m) program image made
+demo_answered m command networks program image made e same answers w =
+    let any : HasBytes program.left = some_bytes program.left in
+    let text : HasBytes image.left = some_bytes image.left in
+    let row_is : row_of (task.Demo networks) ≡ row command = ap row_of same ∙ row_of_task command in
+    record {
+      source = any.bytes;
+      of_source = any.of_input;
+      bytes = text.bytes;
+      of_image = text.of_input;
+      answers = subst (λ (k : Option Command). Answers k any.bytes text.bytes (reply_of made)) (sym e)
+          (subst (λ (r : Row). AnswersRow r any.bytes text.bytes (reply_of made)) row_is answers);
+      written = w;
+    }

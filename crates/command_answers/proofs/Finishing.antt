@@ -6,7 +6,7 @@ use Rattle.s7_io.specs.Sink.{Took}
 use Rattle.stl_tree.specs.declared.program.Program.{Program}
 use Rattle.command_answers.proofs.Answering.{HasBytes, some_bytes}
 use Rattle.st_parser.specs.Texts.{IsTextOf, IsRefusedText}
-use Rattle.command_answers.specs.Answer.{Reply, Row, row, stl, st, Work, alone, on_image, Answers, AnswersRow, AnswersSource, AnswersStl, AnswersTranslate, AnswersWork, IsAcceptedAs, IsOnImage, IsRead, IsRefusedSource, Translates, Wants, WantsRow, source_too_long, refused, read}
+use Rattle.command_answers.specs.Answer.{Reply, Row, row, stl, st, own, Work, alone, on_image, Answers, AnswersRow, AnswersSource, AnswersStl, AnswersTranslate, AnswersWork, IsAcceptedAs, IsOnImage, IsRead, IsRefusedSource, ReadsSource, Translates, Wants, WantsRow, WantsSource, source_too_long, refused, read}
 use Rattle.command_answers.specs.Devices.{AreOf, Devices, Input, Output, ReadFailed}
 use Rattle.command_answers.specs.Promises.{Completes, FailedToRead, HasCause, IsAnswered, IsTranslated, Sends, Translated, Writes}
 use Rattle.command_words.specs.declared.command.Command.{Command}
@@ -91,17 +91,30 @@ retold_work : {X : Type 0} (Is : List ℕ → X → Type 0) (Breaks : List ℕ �
 retold_work Is Breaks (alone To) source a image reply same answers = answers
 retold_work Is Breaks (on_image To) source a image reply same answers = retold_source Is Breaks To source a image reply (λ is. same (tt, is)) answers
 
-retold_row : (r : Row) (source a image : List ℕ) (reply : Reply) → (WantsRow r source → a ≡ image)
-    → AnswersRow r source a reply → AnswersRow r source image reply
-retold_row (stl work) source a image reply same answers = retold_work IsAcceptedAs IsRefusedSource work source a image reply same answers
-retold_row (st work) source a image reply same answers = retold_work IsTextOf IsRefusedText work source a image reply same answers
+-- and one to a source that is read only where a command has none of its own
+retold_row : (r : Row) (s source a image : List ℕ) (reply : Reply) → (ReadsSource r → s ≡ source) → (WantsRow r source → a ≡ image)
+    → AnswersRow r s a reply → AnswersRow r source image reply
+retold_row (stl work) s source a image reply has same answers =
+    retold_work IsAcceptedAs IsRefusedSource work source a image reply same
+    (subst (λ (text : List ℕ). AnswersSource IsAcceptedAs IsRefusedSource (AnswersWork work a) text reply) (has tt) answers)
+retold_row (st work) s source a image reply has same answers =
+    retold_work IsTextOf IsRefusedText work source a image reply same
+    (subst (λ (text : List ℕ). AnswersSource IsTextOf IsRefusedText (AnswersWork work a) text reply) (has tt) answers)
+retold_row (own text To) s source a image reply has same answers = answers
 
-retold : (command : Option Command) (left : Option (List ℕ)) (source a image : List ℕ) (reply : Reply)
-    → AreOf left a → (Wants command source → left ≡ Some image)
-    → Answers command source a reply → Answers command source image reply
-retold None left source a image reply are is answers = answers
-retold (Some command) left source a image reply are is answers =
-    retold_row (row command) source a image reply (λ wanted. told left a image are (is wanted)) answers
+module _ (program image : Input) (s source a bytes : List ℕ) (of_source : AreOf program.left s) (of_image : AreOf image.left a) where
+  retold : (command : Option Command) (reply : Reply) → (WantsSource command → program.left ≡ Some source)
+      → (Wants command source → image.left ≡ Some bytes) → Answers command s a reply → Answers command source bytes reply
+  retold None reply has is answers = answers
+  retold (Some command) reply has is answers =
+      retold_row (row command) s source a bytes reply (λ wanted. told program.left s source of_source (has wanted))
+      (λ wanted. told image.left a bytes of_image (is wanted)) answers
+
+  of_told : (command : Option Command) (result : Status) → (WantsSource command → program.left ≡ Some source)
+      → (Wants command source → image.left ≡ Some bytes)
+      → IsAnswered command s a result ⊎ (result ≡ NoMemory) → IsAnswered command source bytes result ⊎ (result ≡ NoMemory)
+  of_told command result has is (inl (reply, answers, e)) = inl (reply, retold command reply has is answers, e)
+  of_told command result has is (inr none) = inr none
 
 -- the answer that was sent
 sent : (command : Option Command) (source image : List ℕ) (out : Output) (result : Status) → Sends command source image out result
@@ -118,28 +131,31 @@ sent command source image out WriteFault s r f = absurd (f refl)
 sent command source image out TooLong s r f = inl (s.0, s.1, sym s.2)
 sent command source image out NoMemory s r f = inr refl
 
-of_told : (command : Option Command) (left : Option (List ℕ)) (source a image : List ℕ) (result : Status)
-    → AreOf left a → (Wants command source → left ≡ Some image)
-    → IsAnswered command source a result ⊎ (result ≡ NoMemory) → IsAnswered command source image result ⊎ (result ≡ NoMemory)
-of_told command left source a image result are is (inl (reply, answers, e)) = inl (reply, retold command left source a image reply are is answers, e)
-of_told command left source a image result are is (inr none) = inr none
+-- where the image is wanted the source is
+source_wanted : (command : Option Command) (source : List ℕ) → Wants command source → WantsSource command
+source_wanted None source wanted = wanted
+source_wanted (Some command) source wanted = by_row (row command) wanted
+  where
+    by_row : (r : Row) → WantsRow r source → ReadsSource r
+    by_row (stl work) wants = tt
+    by_row (st work) wants = tt
+    by_row (own text To) wants = wants
 
 -- no read failed that the command is told of
 not_failed : (command : Option Command) (program image : Input) (source : List ℕ)
-    → program.left ≡ Some source → ¬ ReadFailed program → (Wants command source → ¬ ReadFailed image)
-    → FailedToRead command program image → ⊥
-not_failed None program image source e p i failed = failed
-not_failed (Some command) program image source e p i (inl rose) = p rose
-not_failed (Some command) program image source e p i (inr (bytes, are, wants, rose)) =
-    i (subst (λ (s : List ℕ). Wants (Some command) s) (told program.left bytes source are e) wants) rose
+    → (WantsSource command → program.left ≡ Some source) → (WantsSource command → ¬ ReadFailed program)
+    → (Wants command source → ¬ ReadFailed image) → FailedToRead command program image → ⊥
+not_failed command program image source e p i (inl (wanted, rose)) = p wanted rose
+not_failed command program image source e p i (inr (bytes, are, wants, rose)) =
+    let same : bytes ≡ source = told program.left bytes source are (e (source_wanted command bytes wants)) in
+    i (subst (λ (s : List ℕ). Wants command s) same wants) rose
 
 -- completeness follows from what is written and from the causes of faults
 pub complete : (command : Option Command) (result : Status) (devices : Devices)
     → Writes command result devices → HasCause command result devices → Completes command result devices
 complete command result devices w cause source image e is p i k =
-    let same : w.source ≡ source = told devices.program.left w.source source w.of_source e in
-    of_told command devices.image.left source w.image image result w.of_image is
-    (sent command source w.image devices.out result (subst (λ (bytes : List ℕ). Sends command bytes w.image devices.out result) same w.sends)
+    of_told devices.program devices.image w.source source w.image image w.of_source w.of_image command result e is
+    (sent command w.source w.image devices.out result w.sends
     (λ fault. not_failed command devices.program devices.image source e p i (cause.read_fault fault))
     (λ fault. k (cause.write_fault fault)))
 

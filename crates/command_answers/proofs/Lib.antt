@@ -1,3 +1,4 @@
 pub mod Answering
+pub mod DemoRuns
 pub mod Finishing
 pub mod InputsRead

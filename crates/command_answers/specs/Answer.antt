@@ -1,12 +1,13 @@
 -- What the program answers. It is an exit status and the text that is written, by the command, the source and the
 -- image.
 -- Held against: this project's own commands.
-use Rattle.std.specs.Prelude.{◌≡◌, ℕ, ◌<◌, ◌≤◌, List, [], ◌++◌, length, Option, Some, None, Ok, Err, codes, decimal}
+use Rattle.std.specs.Prelude.{◌≡◌, ℕ, ◌<◌, ◌≤◌, ◌⊎◌, List, [], ◌++◌, length, Option, Some, None, Ok, Err, codes, decimal}
+use Rattle.std.specs.List.{sum_by}
 use Rattle.image_text.specs.Image.{image_of}
 use Rattle.image_text.specs.Report.{report}
 use Rattle.image_text.specs.declared.refusal.ImageRefusal.{ImageRefusal}
 use Rattle.image_text.specs.declared.refusal.ImageRefusal.TheVariants as image
-use Rattle.memory_areas.specs.Areas.{Areas, Contents}
+use Rattle.memory_areas.specs.Areas.{Areas, Contents, fresh}
 use Rattle.memory_areas.specs.End.{End, Ended, Going as Unended}
 use Rattle.memory_areas.specs.declared.data_block.DataBlock.{DataBlock}
 use Rattle.s7_base.specs.Reason.{reason_text}
@@ -17,7 +18,10 @@ use Rattle.s7_base.specs.declared.reason.Reason.{Reason}
 use Rattle.s7_base.specs.declared.reason.Rejection.TheVariants as rejection
 use Rattle.stl_tree.specs.StlRun.{Fits, stl_run}
 use Rattle.stl_rules.specs.Verdict.{verdict}
+use Rattle.memory_areas.specs.declared.call.BlockName.TheVariants.{Ob}
 use Rattle.memory_areas.specs.declared.call.Call.{Call}
+use Rattle.s7_demo.specs.Demo.{demo_source}
+use Rattle.stl_tree.specs.declared.program.Block.{Block}
 use Rattle.stl_tree.specs.declared.program.Program.{Program}
 use Rattle.st_parser.specs.Texts.{IsTextOf, IsRefusedText}
 use Rattle.st_tree.specs.Proper.{Proper}
@@ -28,7 +32,7 @@ use Rattle.stl_translate.specs.Named.{Named}
 use Rattle.stl_translate.specs.Same.{Same}
 use Rattle.stl_translate.specs.Shape.{Shape}
 use Rattle.command_words.specs.declared.command.Command.{Command}
-use Rattle.command_words.specs.declared.command.Command.TheVariants.{Translate, Check, RunStl, RunSt}
+use Rattle.command_words.specs.declared.command.Command.TheVariants.{Translate, Check, RunStl, RunSt, Demo}
 use Rattle.command_answers.specs.declared.limits.TheConstants.{INPUT_LIMIT, IMAGE_LIMIT}
 use Rattle.command_answers.specs.declared.status.Status.{Status}
 use Rattle.command_answers.specs.declared.status.Status.TheVariants.{Done, Refused, Usage, BadImage, BadCall, Faulted, Going, TooLong, NoMemory}
@@ -155,6 +159,36 @@ abbrev pub AnswersRunSt : ℕ → Call → List ℕ → StProgram → Reply → 
 AnswersRunSt units call image tree reply =
     AnswersRun tree.dbs (FitsSt tree call) (λ memory. st_run tree call memory units) image reply
 
+-- The demo
+
+-- how many instructions a program has, the end words of its blocks among them
+abbrev pub instructions_in : Program → ℕ
+instructions_in program = sum_by (λ (b : Block). length b.body) program.blocks
+
+-- the summary of a demo of so many networks
+abbrev pub summary : ℕ → Program → List ℕ
+summary networks program =
+    codes "networks " ++ decimal networks ++ codes "\ninstructions " ++ decimal (instructions_in program)
+    ++ codes "\nruns equal\n"
+
+-- the call that a demo runs
+abbrev pub demo_call : Call
+demo_call = record { block = Ob 1; instance = 0; actuals = [] }
+
+-- the answer of a demo by the end of its run: the summary where that ends without a fault, else the answer of a run
+abbrev pub demo_reply : ℕ → Program → Areas → End → Reply
+demo_reply networks program start (Ended areas None) = (Done, summary networks program)
+demo_reply networks program start (Ended areas (Some f)) = run_reply start (Ended areas (Some f))
+demo_reply networks program start Unended = run_reply start Unended
+
+-- the answer of a demo of so many networks to its program: OB 1 is run from the memory at the start, for at most
+-- 1,000,000 steps. The run of a translation ends as this one, which `Same` promises
+abbrev pub AnswersDemo : ℕ → Program → Reply → Type 0
+AnswersDemo networks program reply =
+    let start : Areas = (fresh program.dbs).areas in
+    (Fits program demo_call × (reply ≡ demo_reply networks program start (stl_run program demo_call start 1000000)))
+    ⊎ (¬ Fits program demo_call × (reply ≡ (BadCall, bad_call_line)))
+
 -- Commands
 
 -- how a command works on a program or a tree: on it alone, or on it and the bytes of an image
@@ -162,10 +196,12 @@ pub data Work (X : Type 0) : Type 1 where
   alone : (X → Reply → Type 0) → Work X
   on_image : (List ℕ → X → Reply → Type 0) → Work X
 
--- a line of the table of commands: the language of the source, and the work on what it is read as
+-- a line of the table of commands: the language of the source that is read, and the work on what it is read as; or an
+-- STL source of the command's own, and what is answered to its program
 pub data Row : Type 1 where
   stl : Work Program → Row
   st : Work StProgram → Row
+  own : List ℕ → (Program → Reply → Type 0) → Row
 
 -- THE TABLE OF COMMANDS: what each reads, and what it answers to that
 abbrev pub row : Command → Row
@@ -173,6 +209,7 @@ row Translate = stl (alone AnswersTranslate)
 row Check = stl (alone AnswersCheck)
 row (RunStl steps call) = stl (on_image (AnswersRunStl steps call))
 row (RunSt units call) = st (on_image (AnswersRunSt units call))
+row (Demo networks) = own (demo_source networks) (AnswersDemo networks)
 
 -- the answer of a command's work to the bytes of an image and to what was read
 abbrev pub AnswersWork : {X : Type 0} → Work X → List ℕ → X → Reply → Type 0
@@ -183,11 +220,23 @@ AnswersWork (on_image To) image x reply = To image x reply
 abbrev pub AnswersRow : Row → List ℕ → List ℕ → Reply → Type 0
 AnswersRow (stl work) source image reply = AnswersStl (AnswersWork work image) source reply
 AnswersRow (st work) source image reply = AnswersSt (AnswersWork work image) source reply
+AnswersRow (own text To) source image reply = AnswersStl To text reply
 
 -- the status and the text are an answer to a command, the bytes of the source and those of the image
 abbrev pub Answers : Option Command → List ℕ → List ℕ → Reply → Type 0
 Answers None source image reply = reply ≡ (Usage, usage_line)
 Answers (Some command) source image reply = AnswersRow (row command) source image reply
+
+-- a source is read by a line of the table of commands
+abbrev pub ReadsSource : Row → Type 0
+ReadsSource (stl work) = Unit {0}
+ReadsSource (st work) = Unit {0}
+ReadsSource (own text To) = ⊥
+
+-- a source is read: there is a command, and it has no source of its own
+abbrev pub WantsSource : Option Command → Type 0
+WantsSource None = ⊥
+WantsSource (Some command) = ReadsSource (row command)
 
 -- a source of a language is within the limit and can be read
 pub record IsRead {X : Type 0} (Is : List ℕ → X → Type 0) (source : List ℕ) : Type 0 where
@@ -205,6 +254,7 @@ IsOnImage (on_image To) = Unit {0}
 abbrev pub WantsRow : Row → List ℕ → Type 0
 WantsRow (stl work) source = IsOnImage work × IsRead IsAcceptedAs source
 WantsRow (st work) source = IsOnImage work × IsRead IsTextOf source
+WantsRow (own text To) source = ⊥
 
 -- the image is read: the command needs one, and its source is within the limit and accepted or read
 abbrev pub Wants : Option Command → List ℕ → Type 0

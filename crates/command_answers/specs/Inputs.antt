@@ -3,7 +3,7 @@
 -- Held against: this project's own commands.
 use Rattle.std.specs.Prelude.{◌≡◌, ◌≢◌, ℕ, ◌+◌, ◌⊎◌, List, Option, Some, None}
 use Rattle.s7_io.specs.Source.{GaveAll, GaveExactly, GaveAtMost}
-use Rattle.command_answers.specs.Answer.{Wants}
+use Rattle.command_answers.specs.Answer.{Row, row, stl, st, own, WantsRow}
 use Rattle.command_answers.specs.Devices.{Devices, Input, ReadFailed}
 use Rattle.command_words.specs.declared.command.Command.{Command}
 use Rattle.command_answers.specs.declared.limits.TheConstants.{INPUT_LIMIT, IMAGE_LIMIT}
@@ -66,10 +66,20 @@ pub data ReadsFor (Wanted : List ℕ → Type 0) (program image : Input) (status
   both : (source text : List ℕ) → SaysRead status → IsReadWhole program source
       → Wanted source → IsReadWhole image text → ReadsFor Wanted program image status
 
+-- neither input was read, so no read failed
+abbrev pub ReadsNeither : Input → Input → Status → Type 0
+ReadsNeither program image status = IsUntouched program × IsUntouched image × (status ≢ ReadFault)
+
+-- how far the inputs were read by a line of the table of commands
+abbrev pub ReadsByRow : Row → Input → Input → Status → Type 0
+ReadsByRow (stl work) program image status = ReadsFor (WantsRow (stl work)) program image status
+ReadsByRow (st work) program image status = ReadsFor (WantsRow (st work)) program image status
+ReadsByRow (own text To) program image status = ReadsNeither program image status
+
 -- how far the inputs were read; without a command neither is
 abbrev pub ReadsInputs : Option Command → Input → Input → Status → Type 0
-ReadsInputs None program image status = IsUntouched program × IsUntouched image × (status ≢ ReadFault)
-ReadsInputs (Some command) program image status = ReadsFor (Wants (Some command)) program image status
+ReadsInputs None program image status = ReadsNeither program image status
+ReadsInputs (Some command) program image status = ReadsByRow (row command) program image status
 
 -- how far the inputs of a call were read
 abbrev pub Reads : Option Command → Status → Devices → Type 0

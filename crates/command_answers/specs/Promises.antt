@@ -4,7 +4,7 @@
 use Rattle.std.specs.Prelude.{◌≡◌, ℕ, ◌⊎◌, List, Option, None, Some}
 use Rattle.s7_io.specs.Sink.{Took, TookFewer}
 use Rattle.stl_tree.specs.declared.program.Program.{Program}
-use Rattle.command_answers.specs.Answer.{Reply, Answers, IsAcceptedAs, Translates, Wants}
+use Rattle.command_answers.specs.Answer.{Reply, Answers, IsAcceptedAs, Translates, Wants, WantsSource}
 use Rattle.command_answers.specs.Devices.{AreOf, Devices, Input, Output, ReadFailed, WriteFailed}
 use Rattle.command_words.specs.declared.command.Command.{Command}
 use Rattle.command_words.specs.declared.command.Command.TheVariants.{Translate}
@@ -53,24 +53,23 @@ abbrev pub IsAnswered : Option Command → List ℕ → List ℕ → Status → 
 IsAnswered command source image status =
     (reply : Reply) × Answers command source image reply × (status ≡ reply.0)
 
--- a call whose devices tell their bytes gives an answer, where no read and no write fails and memory is found; an
--- image that is not read may be anything
+-- a call whose devices tell their bytes gives an answer, where no read and no write fails and memory is found; a
+-- source or an image that is not read may be anything
 abbrev pub Completes : Option Command → Status → Devices → Type 0
 Completes command status devices =
-    (source image : List ℕ) → devices.program.left ≡ Some source
+    (source image : List ℕ) → (WantsSource command → devices.program.left ≡ Some source)
     → (Wants command source → devices.image.left ≡ Some image)
-    → ¬ ReadFailed devices.program → (Wants command source → ¬ ReadFailed devices.image)
+    → (WantsSource command → ¬ ReadFailed devices.program) → (Wants command source → ¬ ReadFailed devices.image)
     → ¬ WriteFailed devices.out
     → IsAnswered command source image status ⊎ (status ≡ NoMemory)
 
 -- Causes
 
--- a read failed: of the source of a command, or of an image that the command reads
+-- a read failed: of a source or of an image that the command reads
 abbrev pub FailedToRead : Option Command → Input → Input → Type 0
-FailedToRead None program image = ⊥
-FailedToRead (Some command) program image =
-    ReadFailed program
-    ⊎ ((source : List ℕ) × AreOf program.left source × Wants (Some command) source × ReadFailed image)
+FailedToRead command program image =
+    (WantsSource command × ReadFailed program)
+    ⊎ ((source : List ℕ) × AreOf program.left source × Wants command source × ReadFailed image)
 
 -- the status says that reading failed only where a read failed, and that writing failed only where a write
 -- failed

@@ -1,8 +1,8 @@
 //! What a command answers: a status and a text.
 //!
 //! `reply_to` chooses what each command does. `source_reply` and `text_reply` read and judge a source of
-//! their language, `program_reply` does a job with a program, and runs read their image then. A program and its
-//! tree are not given back part by part, since the process ends behind the reply.
+//! their language, `program_reply` does a job with a program, and runs read their image then; `demo` reads
+//! neither. A program and its tree are not given back part by part, since the process ends behind the reply.
 ghost use Rattle.std.specs.Prelude.{◌≡◌, ◌≢◌, ◌≤◌, Some, Ok, None, IfOk, IfErr, MatchOption, length};
 ghost use Rattle.memory_areas.specs.Areas.{IsMemoryOf};
 ghost use Rattle.st_tree.specs.Proper.{Proper};
@@ -15,6 +15,7 @@ ghost use Rattle.command_answers.specs.Devices.{input};
 ghost use Rattle.command_answers.specs.Inputs.{IsReadPast, IsReadWhole, IsReadWithin, ReadsFor, ReadsInputs, SaysRead, Stopped};
 ghost use Rattle.command_answers.specs.inner.Replies.{Answered, AnsweredCall, AnsweredTo, AnswersJob, AnswersTextJob, IsWritten, ReadsImage, ReadsWork, bytes_of_text, ending, reply_of, stop_status, task_of, text_work_of, work_of};
 
+use crate::demo::demo_reply;
 use crate::limits::{IMAGE_LIMIT, INPUT_LIMIT};
 use crate::status::Status;
 use crate::text::{push_text, put_number};
@@ -114,7 +115,7 @@ pub enum TextJob {
     Run(u64, Call),
 }
 
-/// What a command asks for, by the language of its source.
+/// What a command asks for, by the language of the source that it reads.
 #[derive(Debug, Drop)]
 pub enum Task {
     /// A job with the program of an STL source.
@@ -122,6 +123,9 @@ pub enum Task {
 
     /// A job with the tree of a Structured Text.
     St(TextJob),
+
+    /// A demo of this many networks, which reads no source.
+    Demo(u32),
 }
 
 fn task_of(command: Command) -> Task
@@ -132,6 +136,7 @@ fn task_of(command: Command) -> Task
         Command::Check => Task::Stl(Job::Check),
         Command::RunStl(steps, call) => Task::Stl(Job::Run(steps, call)),
         Command::RunSt(units, call) => Task::St(TextJob::Run(units, call)),
+        Command::Demo(networks) => Task::Demo(networks),
     }
 }
 
@@ -144,7 +149,7 @@ fn reply_of_line(status: Status, line: &'static str) -> Reply
     }
 }
 
-fn reply_of_text(status: Status, text: Vec<u8>) -> Reply
+pub fn reply_of_text(status: Status, text: Vec<u8>) -> Reply
     ensures { reply_of result ≡ (status, text.items) }
 {
     Reply {
@@ -154,7 +159,7 @@ fn reply_of_text(status: Status, text: Vec<u8>) -> Reply
 }
 
 /// The line that names a broken rule.
-fn refusal_line(alloc: Global, line: Line, reason: Reason) -> Result<Vec<u8>, NoMemory>
+pub fn refusal_line(alloc: Global, line: Line, reason: Reason) -> Result<Vec<u8>, NoMemory>
     ensures { IfOk result (λ text. text.items ≡ refusal_line line reason) }
 {
     let name = format!(in alloc; "{reason}")?;
@@ -226,7 +231,7 @@ fn read_input<S: Source>(
 }
 
 /// Runs a call from a memory.
-fn call_reply(
+pub fn call_reply(
     alloc: Global,
     program: &Program,
     call: &Call,
@@ -332,7 +337,7 @@ fn source_reply<P: Source, M: Source>(
 }
 
 /// Runs a call of a Structured Text from a memory.
-fn text_call_reply(
+pub fn text_call_reply(
     alloc: Global,
     tree: &StProgram,
     call: &Call,
@@ -445,6 +450,7 @@ pub fn reply_to<P: Source, M: Source>(
         Ok(command) => match task_of(command) {
             Task::Stl(job) => source_reply(alloc, &job, program, image),
             Task::St(job) => text_reply(alloc, &job, program, image),
+            Task::Demo(networks) => Ok(demo_reply(alloc, networks)?),
         },
         Err(WordsRefusal::Usage) => Ok(reply_of_line(Status::Usage, USAGE_LINE)),
         Err(WordsRefusal::NoMemory) => Err(Stop::NoMemory),

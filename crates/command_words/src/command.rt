@@ -1,6 +1,6 @@
 //! The arguments of the program.
-ghost use Rattle.std.specs.Prelude.{◌≡◌, ◌-◌, map, option_map, string_bytes, IfOk};
-ghost use Rattle.command_words.specs.Command.{command_meant, run_meant, run_with, word_meant, steps_meant, image_meant, Means};
+ghost use Rattle.std.specs.Prelude.{◌≡◌, ◌≤◌, ◌-◌, map, option_map, string_bytes, IfOk, IfSome};
+ghost use Rattle.command_words.specs.Command.{command_meant, demo_meant, networks_meant, run_meant, run_with, word_meant, steps_meant, image_meant, HasFewNetworks, Means};
 
 use crate::call::{call_meant, number_in};
 use memory_areas::Call;
@@ -22,6 +22,9 @@ pub enum Command {
 
     /// Runs a Structured Text for this many units at most, from a call on.
     RunSt(u64, Call),
+
+    /// Makes an STL source of this many networks, and runs it and its translation. They are 50,000 at most.
+    Demo(u32),
 }
 
 /// Why the arguments give no command.
@@ -87,8 +90,30 @@ fn run_meant(alloc: Global, words: &[String]) -> Result<Option<(u64, Call)>, NoM
     }
 }
 
+fn networks_meant(word: &[u8]) -> Option<u32>
+    ensures value { result ≡ networks_meant word.now }
+    ensures within { IfSome result (λ networks. networks ≤ 50000) }
+{
+    match number_in(5, 50_000, word) {
+        Some(networks) => Some(networks as u32),
+        None => None,
+    }
+}
+
+/// How many networks by the arguments after `demo`.
+fn demo_meant(words: &[String]) -> Option<u32>
+    ensures value { result ≡ demo_meant (map (λ word. string_bytes word) words.now) }
+    ensures within { IfSome result (λ networks. networks ≤ 50000) }
+{
+    match words {
+        [networks] => networks_meant(networks.as_bytes()),
+        _ => None,
+    }
+}
+
 fn word_meant(word: &str) -> Option<Command>
-    ensures { result ≡ word_meant word.now }
+    ensures value { result ≡ word_meant word.now }
+    ensures within { IfSome result HasFewNetworks }
 {
     match word {
         "translate" => Some(Command::Translate),
@@ -98,10 +123,15 @@ fn word_meant(word: &str) -> Option<Command>
 }
 
 fn command_meant(alloc: Global, words: &[String]) -> Result<Option<Command>, NoMemory>
-    ensures { IfOk result (λ command. command ≡ command_meant (map (λ word. string_bytes word) words.now)) }
+    ensures value { IfOk result (λ command. command ≡ command_meant (map (λ word. string_bytes word) words.now)) }
+    ensures within { IfOk result (λ command. IfSome command HasFewNetworks) }
 {
     match words {
         [word] => Ok(word_meant(word.as_str())),
+        [word, more @ ..] if word.as_str() == "demo" => match demo_meant(more) {
+            Some(networks) => Ok(Some(Command::Demo(networks))),
+            None => Ok(None),
+        },
         [word, more @ ..] if word.as_str() == "run-stl" => match run_meant(alloc, more)? {
             Some((steps, call)) => Ok(Some(Command::RunStl(steps, call))),
             None => Ok(None),
@@ -116,7 +146,8 @@ fn command_meant(alloc: Global, words: &[String]) -> Result<Option<Command>, NoM
 
 /// The command that the arguments mean. The first is compared exactly, case counts.
 pub fn read_words(alloc: Global, words: &[String]) -> Result<Command, WordsRefusal>
-    ensures { Means (command_meant (map (λ word. string_bytes word) words.now)) result }
+    ensures meant { Means (command_meant (map (λ word. string_bytes word) words.now)) result }
+    ensures within { IfOk result HasFewNetworks }
 {
     command_meant(alloc, words)?.ok_or(WordsRefusal::Usage)
 }

@@ -2,11 +2,15 @@
 use Rattle.std.proofs.Common.{refl}
 use Rattle.std.specs.Prelude.{◌≡◌, ℕ, ◌⊎◌, List, Option, Result, Ok, Err}
 use Rattle.s7_io.specs.Sink.{Took, TookFewer}
-use Rattle.memory_areas.specs.Areas.{Areas}
-use Rattle.memory_areas.specs.End.{End}
+use Rattle.memory_areas.specs.Areas.{Areas, fresh}
+use Rattle.s7_demo.specs.Demo.{demo_source}
+use Rattle.memory_areas.specs.End.{End, Ended}
+use Rattle.memory_areas.specs.declared.call.Call.{Call}
+use Rattle.s7_base.specs.declared.outcome.Fault.{Fault}
 use Rattle.st_tree.specs.declared.program.StProgram.{StProgram}
+use Rattle.stl_tree.specs.StlRun.{Fits, stl_run}
 use Rattle.stl_tree.specs.declared.program.Program.{Program}
-use Rattle.command_answers.specs.Answer.{Reply, Row, row, stl, st, Work, alone, on_image, AnswersTranslate, AnswersCheck, AnswersRunSt, AnswersRunStl, AnswersWork, bad_call_line, run_reply}
+use Rattle.command_answers.specs.Answer.{Reply, Row, row, stl, st, own, Work, alone, on_image, AnswersTranslate, AnswersCheck, AnswersDemo, AnswersRunSt, AnswersRunStl, AnswersWork, bad_call_line, run_reply}
 use Rattle.command_answers.specs.Devices.{AreOf, Input}
 use Rattle.command_answers.specs.Inputs.{IsReadPast, IsReadWhole, IsReadWithin, IsUntouched, SaysRead, SaysTooLong, Stopped}
 use Rattle.command_words.specs.declared.command.Command.{Command}
@@ -78,6 +82,14 @@ AnsweredCall Fits run memory made =
     (Fits × (reply_of made ≡ run_reply memory (run memory)))
     ⊎ (¬ Fits × (reply_of made ≡ (BadCall, bad_call_line)))
 
+-- the reply is that of a run of a call of the program: where this ends within the bound of a demo, the reply is as it
+-- ends
+abbrev pub AnswersAsTranslated : Program → Call → Reply → Type 0
+AnswersAsTranslated program call reply =
+    let start : Areas = (fresh program.dbs).areas in
+    (after : Areas) (fault : Option Fault) → Fits program call → stl_run program call start 1000000 ≡ Ended after fault
+    → reply ≡ run_reply start (Ended after fault)
+
 -- Jobs
 
 -- the work of a job with a program
@@ -94,6 +106,7 @@ text_work_of (text_job.Run units call) = on_image (AnswersRunSt units call)
 abbrev pub row_of : Task → Row
 row_of (task.Stl j) = stl (work_of j)
 row_of (task.St j) = st (text_work_of j)
+row_of (task.Demo networks) = own (demo_source networks) (AnswersDemo networks)
 
 -- the task of a command
 abbrev pub task_of : Command → Task
@@ -101,6 +114,7 @@ task_of command.Translate = task.Stl job.Translate
 task_of command.Check = task.Stl job.Check
 task_of (command.RunStl steps call) = task.Stl (job.Run steps call)
 task_of (command.RunSt units call) = task.St (text_job.Run units call)
+task_of (command.Demo networks) = task.Demo networks
 
 -- a task does what the line of its command says
 pub row_of_task : (asked : Command) → row_of (task_of asked) ≡ row asked
@@ -108,6 +122,7 @@ row_of_task command.Translate = refl
 row_of_task command.Check = refl
 row_of_task (command.RunStl steps call) = refl
 row_of_task (command.RunSt units call) = refl
+row_of_task (command.Demo networks) = refl
 
 -- the answer of a job to a program and the bytes of an image
 abbrev pub AnswersJob : Job → Program → List ℕ → Reply → Type 0

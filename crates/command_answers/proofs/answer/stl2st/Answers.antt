@@ -1,6 +1,7 @@
 use Rattle.std.proofs.Common.{refl}
 use Rattle.command_answers.proofs.Finishing.{complete, no_memory, nothing_read, translated, write_cause, written}
 use Rattle.command_answers.proofs.InputsRead.{inputs_read, read_cause}
+use Rattle.command_answers.specs.declared.status.Status.TheVariants.{ReadFault}
 use Rattle.command_answers.proofs.answer.stl2st.Goals as goal
 
 pub returns-in-Ok-clause-reads : goal.returns-in-Ok-clause-reads
@@ -28,3 +29,10 @@ returns-in-Err-ReadFault-clause-writes g c = nothing_read _ _ refl
 
 pub returns-in-Err-NoMemory-clause-writes : goal.returns-in-Err-NoMemory-clause-writes
 returns-in-Err-NoMemory-clause-writes g c = no_memory _ _ refl
+
+pub returns-in-Err-ReadFault-clause-cause : goal.returns-in-Err-ReadFault-clause-cause
+returns-in-Err-ReadFault-clause-cause g c =
+    record {
+      read_fault = read_cause _ _ _ ReadFault (rw c.in-Err-ReadFault.field-0-is at c.in-Err-ReadFault.ensures.reads);
+      write_fault = λ e. absurd cc;
+    }
