@@ -2,7 +2,6 @@ pub mod Calls
 mod Counts
 mod Depths
 pub mod Elsif
-pub mod Entering
 pub mod Heights
 mod Keeping
 pub mod Means

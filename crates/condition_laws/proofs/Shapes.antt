@@ -10,7 +10,7 @@ use Rattle.st_tree.specs.Fitting.{Paired}
 use Rattle.st_tree.specs.declared.program.Pou.{Pou}
 use Rattle.st_tree.specs.declared.program.StProgram.{StProgram}
 use Rattle.st_tree.specs.declared.program.Stmt.{Stmt}
-use Rattle.stl_tree.specs.WellNested.{Flow}
+use Rattle.stl_tree.specs.Flows.{Flow}
 use Rattle.text_shapes.specs.IsShaped.{IsShaped}
 
 body_no_larger : (body : List Stmt) → IsNoLarger body (bodies 131 body)

@@ -10,7 +10,7 @@ use Rattle.memory_areas.specs.Areas.{Areas, IsMemoryOf}
 use Rattle.memory_areas.specs.declared.call.Call.{Call}
 use Rattle.memory_areas.specs.declared.sizes.TheConstants.{ACTIVATIONS}
 use Rattle.condition_laws.proofs.Calls.{calls_stay}
-use Rattle.condition_laws.proofs.Entering.{AreOf, actuals_are, entered_fits}
+use Rattle.st_tree.proofs.FittingCalls.{AreOf, actuals_are, entered_fits}
 use Rattle.condition_laws.proofs.Means.{Alike, body_same}
 use Rattle.condition_laws.proofs.Nests.{stays_low}
 use Rattle.condition_laws.proofs.Rewrites.{bodies}

@@ -8,7 +8,7 @@ use Rattle.condition_laws.specs.inner.Rewriting.{rewrite_program}
 use Rattle.st_tree.specs.Proper.{Proper}
 use Rattle.st_tree.specs.declared.program.StProgram.{StProgram}
 use Rattle.st_tree.specs.declared.program.Stmt.{Stmt}
-use Rattle.stl_tree.specs.WellNested.{Flow}
+use Rattle.stl_tree.specs.Flows.{Flow}
 use Rattle.text_shapes.specs.IsShaped.{IsShaped}
 
 -- it is proper

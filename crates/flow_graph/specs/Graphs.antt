@@ -5,7 +5,7 @@ use Rattle.std.specs.Prelude.{◌≡◌, ℕ, ◌+◌, ◌==◌, List, [], ◌�
 use Rattle.std.specs.List.{list_any}
 use Rattle.stl_tree.specs.Blocks.{AreBlocksOf, Extent, Way, always, if_made, instructions_of, on, one_of, stops, unless_ended, way_of}
 use Rattle.stl_tree.specs.Segments.{AreCuts, Ways}
-use Rattle.stl_tree.specs.WellNested.{Flow, ways_by}
+use Rattle.stl_tree.specs.Flows.{Flow, ways_by}
 use Rattle.stl_tree.specs.declared.program.Instr.{Instr}
 use Rattle.flow_graph.specs.declared.graph.Exit.{Exit}
 use Rattle.flow_graph.specs.declared.graph.Exit.TheVariants as exit

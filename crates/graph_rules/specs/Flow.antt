@@ -7,7 +7,7 @@ use Rattle.st_tree.specs.declared.graph.StExit.{StExit}
 use Rattle.st_tree.specs.declared.graph.StExit.TheVariants as exit
 use Rattle.st_tree.specs.declared.graph.StNode.{StNode}
 use Rattle.stl_tree.specs.Blocks.{Way, always, if_made, on, one_of, stops, unless_ended}
-use Rattle.stl_tree.specs.WellNested.{Flow}
+use Rattle.stl_tree.specs.Flows.{Flow}
 
 -- the way after a node with an exit
 abbrev pub way_by : StExit → Way

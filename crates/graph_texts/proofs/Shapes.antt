@@ -22,7 +22,7 @@ use Rattle.st_tree.specs.declared.graph.GraphProgram.{GraphProgram}
 use Rattle.st_tree.specs.declared.program.Local.{Local}
 use Rattle.st_tree.specs.declared.program.Located.{Located}
 use Rattle.st_tree.specs.declared.program.Pou.{Pou}
-use Rattle.stl_tree.specs.WellNested.{Flow}
+use Rattle.stl_tree.specs.Flows.{Flow}
 use Rattle.text_shapes.specs.IsShaped.{IsShaped}
 use Rattle.text_shapes.specs.NodeCounts.{conditionals_of, lists_of}
 

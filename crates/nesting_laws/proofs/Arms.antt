@@ -2,7 +2,8 @@
 use Rattle.std.proofs.Common.{◌≡◌, ◌⊎◌, inl, inr, ⊎_elim, ℕ, zero, suc, ◌<◌, ◌≤◌, refl, sym, subst, ◌∙◌, arith}
 use Rattle.std.proofs.lemmas.Bool.{cases_eq, cases_lt}
 use Rattle.stl_tree.specs.Blocks.{Way, always, if_made}
-use Rattle.stl_tree.specs.WellNested.{GoesOn, IsElse, IsEndBlock, IsExitJump, IsIn, IsInnermost, IsJump, IsLoop, IsPlainJump, IsUnconditional, IsWellNested, Segment}
+use Rattle.stl_tree.specs.Flows.{GoesOn, IsEndBlock, IsExitJump, IsIn, IsInnermost, IsJump, IsLoop, IsPlainJump, IsUnconditional, Segment}
+use Rattle.nesting_rules.specs.NestedJumps.{IsElse, IsWellNested}
 use Rattle.nesting_laws.specs.Plans.{Around, IsBranch, IsOther, IsWayOut, LeadsTo, inside, no_loop}
 use Rattle.nesting_laws.proofs.Exits.{always_jumps, always_leads, always_or_not, jump_cases, jump_in, jump_leads, leads_cases, made_jumps, not_both, same_way}
 use Rattle.nesting_laws.proofs.Facts.{Facts, known_in, same_last}

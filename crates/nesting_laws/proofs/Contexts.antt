@@ -3,7 +3,7 @@ use Rattle.std.proofs.Common.{◌≡◌, ◌⊎◌, inl, inr, ⊎_elim, ℕ, suc
 use Rattle.std.proofs.lemmas.Bool.{cases_lt}
 use Rattle.stl_tree.specs.Blocks.{if_made, one_of}
 use Rattle.stl_tree.specs.Segments.{IsReached}
-use Rattle.stl_tree.specs.WellNested.{GoesOn, IsEndBlock, IsJump, IsList, IsLoop, Segment, blocks_of}
+use Rattle.stl_tree.specs.Flows.{GoesOn, IsEndBlock, IsJump, IsList, IsLoop, Segment, blocks_of}
 use Rattle.nesting_laws.specs.Plans.{Around, Goes, IsBare, IsBranch, IsOne, IsOther, IsPlan, IsWayOut, LeadsTo, Plan, arm, arms, done, inside, loop, no_loop, one, skip}
 use Rattle.nesting_laws.proofs.Cases.{of_five, of_four, of_three}
 use Rattle.nesting_laws.proofs.Exits.{jump_in, jump_leads, made_jumps, made_leads, same_way, single_jump, source_in}

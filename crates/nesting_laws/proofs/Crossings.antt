@@ -2,7 +2,8 @@
 use Rattle.std.proofs.Common.{◌≡◌, ◌⊎◌, inl, inr, ⊎_elim, ℕ, suc, ◌<◌, ◌≤◌, Bool, true, false, sym, subst, arith}
 use Rattle.std.proofs.lemmas.Bool.{cases_eq, cases_lt}
 use Rattle.stl_tree.specs.Segments.{IsReached}
-use Rattle.stl_tree.specs.WellNested.{IsElse, IsIn, IsInLoop, IsJump, IsPlainJump, Segment, blocks_of}
+use Rattle.stl_tree.specs.Flows.{IsIn, IsInLoop, IsJump, IsPlainJump, Segment, blocks_of}
+use Rattle.nesting_rules.specs.NestedJumps.{IsElse}
 use Rattle.nesting_laws.specs.Plans.{Around, IsBare, IsBranch, IsOne, IsOther, IsPlan, IsWayOut, Plan, arm, arms, done, inside, loop, no_loop, one, skip}
 use Rattle.nesting_laws.proofs.Cases.{of_five, of_four, of_three}
 use Rattle.nesting_laws.proofs.Contexts.{AllLand, IsContext, all_land, arm_context, arm_rest_context, arms_rest_context, body_cases, body_context, first_context, from_branch, inner_cases, loop_rest_context, one_context, second_context, skip_context}

@@ -3,7 +3,7 @@ use Rattle.std.proofs.Common.{◌≡◌, ◌⊎◌, inl, inr, ℕ, suc, true, fa
 use Rattle.std.proofs.lemmas.Option.{same_Some}
 use Rattle.stl_tree.specs.Blocks.{Way, always, if_made, one_of}
 use Rattle.stl_tree.specs.Segments.{IsOneOf}
-use Rattle.stl_tree.specs.WellNested.{GoesOn, IsConditional, IsIn, IsJump, IsList, IsUnconditional, Segment, falls_by, jumps_of}
+use Rattle.stl_tree.specs.Flows.{GoesOn, IsConditional, IsIn, IsJump, IsList, IsUnconditional, Segment, falls_by, jumps_of}
 use Rattle.nesting_laws.specs.Plans.{LeadsTo}
 
 pub same_way : (g : Segment) (b : ℕ) (v w : Way) → GoesOn g b v → GoesOn g b w → v ≡ w

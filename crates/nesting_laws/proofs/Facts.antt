@@ -8,7 +8,7 @@ use Rattle.std.proofs.lemmas.List.Elements.{recursion_from_All}
 use Rattle.std.specs.List.{AllByRecursion}
 use Rattle.stl_tree.specs.Blocks.{Way, stops}
 use Rattle.stl_tree.specs.Segments.{IsOneOf, IsReached, JumpsTo, Ways, fall, first, jump}
-use Rattle.stl_tree.specs.WellNested.{GoesOn, IsEndBlock, IsIn, IsInLoop, IsInnermost, IsJump, IsList, IsLoop, IsSegment, Segment, blocks_of, jumps_of, ways_by}
+use Rattle.stl_tree.specs.Flows.{GoesOn, IsEndBlock, IsIn, IsInLoop, IsInnermost, IsJump, IsList, IsLoop, IsSegment, Segment, blocks_of, jumps_of, ways_by}
 use Rattle.nesting_laws.specs.PlanLaws.{IsFlow}
 use Rattle.nesting_laws.specs.Plans.{LeadsTo}
 use Rattle.nesting_laws.proofs.Exits.{jump_in, jump_leads, leads_cases, same_way, source_in}

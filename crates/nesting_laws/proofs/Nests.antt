@@ -2,7 +2,7 @@
 use Rattle.std.proofs.Common.{◌≡◌, ◌⊎◌, inl, inr, ⊎_elim, ℕ, suc, ◌<◌, ◌≤◌, Bool, true, false, sym, subst, arith}
 use Rattle.std.proofs.lemmas.Bool.{cases_lt}
 use Rattle.stl_tree.specs.Segments.{IsReached}
-use Rattle.stl_tree.specs.WellNested.{IsInnermost, IsJump, IsLoop, Segment, blocks_of}
+use Rattle.stl_tree.specs.Flows.{IsInnermost, IsJump, IsLoop, Segment, blocks_of}
 use Rattle.nesting_laws.specs.Plans.{Around, IsFresh, IsPlan, Plan, arm, arms, done, inside, loop, one, skip}
 use Rattle.nesting_laws.proofs.Contexts.{AllLand, IsContext, all_land, arm_context, arm_rest_context, arms_rest_context, body_cases, body_context, first_context, loop_rest_context, one_context, second_context, skip_context}
 use Rattle.nesting_laws.proofs.Exits.{jump_leads}

@@ -2,7 +2,7 @@
 use Rattle.std.proofs.Common.{◌≡◌, ⊎_elim, ℕ, suc, ◌<◌, ◌≤◌, Bool, true, false, refl, ap, subst, arith}
 use Rattle.std.proofs.lemmas.Bool.{cases_lt}
 use Rattle.stl_tree.specs.Blocks.{always, if_made}
-use Rattle.stl_tree.specs.WellNested.{GoesOn, IsList, IsLoop, Segment}
+use Rattle.stl_tree.specs.Flows.{GoesOn, IsList, IsLoop, Segment}
 use Rattle.nesting_laws.specs.PlanLaws.{OnePlan, PlanIsLow}
 use Rattle.nesting_laws.specs.Plans.{Around, IsBranch, IsFresh, IsOne, IsOpened, IsOther, IsPlan, Plan, arm, arms, done, inside, levels, loop, no_loop, one, skip}
 use Rattle.nesting_laws.proofs.Contexts.{planned_no_list}

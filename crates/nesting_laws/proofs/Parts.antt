@@ -2,7 +2,8 @@
 -- that follows it and the loop around it.
 use Rattle.std.proofs.Common.{◌≡◌, ◌⊎◌, inl, inr, ⊎_elim, ℕ, suc, ◌<◌, ◌≤◌, length, subst, arith}
 use Rattle.std.proofs.lemmas.Bool.{cases_eq, cases_lt}
-use Rattle.stl_tree.specs.WellNested.{IsEndBlock, IsInLoop, IsInnermost, IsJump, IsLoop, IsUnconditional, IsWellNested, Segment}
+use Rattle.stl_tree.specs.Flows.{IsEndBlock, IsInLoop, IsInnermost, IsJump, IsLoop, IsUnconditional, Segment}
+use Rattle.nesting_rules.specs.NestedJumps.{IsWellNested}
 use Rattle.nesting_laws.specs.Plans.{Around, IsWayOut, LeadsTo, inside, no_loop}
 use Rattle.nesting_laws.proofs.Exits.{leads_cases}
 use Rattle.nesting_laws.proofs.Facts.{Facts, back_loop, innermost, same_last}

@@ -7,7 +7,8 @@ use Rattle.std.specs.List.{AllByRecursion}
 use Rattle.std.proofs.lemmas.Bool.{cases_lt}
 use Rattle.stl_tree.specs.Blocks.{Way, always, if_made, on, one_of, stops}
 use Rattle.stl_tree.specs.Segments.{AreAscending, AreAscendingAfter, FallsFrom, IsOneOf, IsReached, JumpsTo, Ways, fall, first, jump}
-use Rattle.stl_tree.specs.WellNested.{AreHeadsAround, AreSourcesOver, Flow, IsJump, IsList, IsLoop, IsSegment, IsShallow, IsWellNested, Segment, blocks_of, jumps_of, ways_by}
+use Rattle.stl_tree.specs.Flows.{AreHeadsAround, Flow, IsJump, IsList, IsLoop, IsSegment, Segment, blocks_of, jumps_of, ways_by}
+use Rattle.nesting_rules.specs.NestedJumps.{AreSourcesOver, IsShallow, IsWellNested}
 use Rattle.nesting_laws.specs.PlanLaws.{IsFlow}
 use Rattle.nesting_laws.specs.Plans.{Around, IsBranch, IsOne, IsOther, IsPlanOf, LeadsTo, Plan, arm, done, inside, loop, one}
 use Rattle.nesting_laws.proofs.Exits.{jump_in, made_jumps}

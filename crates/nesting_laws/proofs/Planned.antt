@@ -1,7 +1,8 @@
 -- A segment with a plan is well nested.
 use Rattle.std.proofs.Common.{◌≡◌, ◌⊎◌, inl, inr, ⊎_elim, ℕ, suc, ◌<◌, ◌≤◌, false, arith}
 use Rattle.std.proofs.lemmas.Bool.{cases_lt}
-use Rattle.stl_tree.specs.WellNested.{AreNested, IsInLoop, IsInnermost, IsJump, IsList, IsLoop, IsPlainJump, IsSegment, IsShallow, IsWellNested, Segment}
+use Rattle.stl_tree.specs.Flows.{AreNested, IsInLoop, IsInnermost, IsJump, IsList, IsLoop, IsPlainJump, IsSegment, Segment}
+use Rattle.nesting_rules.specs.NestedJumps.{IsShallow, IsWellNested}
 use Rattle.nesting_laws.specs.PlanLaws.{IsFlow, PlannedIsWellNested, PlannedLoopsAreNested}
 use Rattle.nesting_laws.specs.Plans.{IsPlanOf, Plan, no_loop}
 use Rattle.nesting_laws.proofs.Cases.{of_three}

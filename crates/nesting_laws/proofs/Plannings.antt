@@ -3,7 +3,8 @@ use Rattle.std.proofs.Common.{◌≡◌, ◌⊎◌, inl, inr, ⊎_elim, ℕ, zer
 use Rattle.std.proofs.lemmas.Bool.{cases_lt}
 use Rattle.stl_tree.specs.Blocks.{Way, always, if_made}
 use Rattle.stl_tree.specs.Segments.{IsReached}
-use Rattle.stl_tree.specs.WellNested.{GoesOn, IsConditional, IsEndBlock, IsIn, IsJump, IsLoop, IsWellNested, Segment, blocks_of}
+use Rattle.stl_tree.specs.Flows.{GoesOn, IsConditional, IsEndBlock, IsIn, IsJump, IsLoop, Segment, blocks_of}
+use Rattle.nesting_rules.specs.NestedJumps.{IsWellNested}
 use Rattle.nesting_laws.specs.PlanLaws.{WellNestedIsPlanned}
 use Rattle.nesting_laws.specs.Plans.{Around, Goes, IsBare, IsBranch, IsFresh, IsOne, IsOther, IsPlan, IsPlanOf, IsWayOut, LeadsTo, Plan, arm, arms, done, levels, loop, no_loop, one, skip}
 use Rattle.nesting_laws.proofs.Arms.{branch_of, branch_plain, first_arm, known_other, one_arm, other_behind, other_clear, other_plain, second_arm, there_clear}

@@ -1,7 +1,8 @@
 -- The loops and plain jumps that are opened around a part: at most 64.
 use Rattle.std.proofs.Common.{◌≡◌, ℕ, suc, ◌+◌, ◌<◌, ◌≤◌, List, [], ◌∷◌, ◌++◌, length, length-append, refl, arith}
 use Rattle.stl_tree.specs.Segments.{AreAscending, AreAscendingAfter}
-use Rattle.stl_tree.specs.WellNested.{AreHeadsAround, AreSourcesOver, IsInLoop, IsLoop, IsPlainJump, IsShallow, Segment}
+use Rattle.stl_tree.specs.Flows.{AreHeadsAround, IsInLoop, IsLoop, IsPlainJump, Segment}
+use Rattle.nesting_rules.specs.NestedJumps.{AreSourcesOver, IsShallow}
 
 -- all of some numbers are below another
 abbrev pub AreBelow : ℕ → List ℕ → Type 0

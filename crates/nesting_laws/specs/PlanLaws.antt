@@ -2,7 +2,8 @@
 use Rattle.std.specs.Prelude.{◌≡◌, ℕ, suc, ◌<◌, ◌≤◌, true, All, length, slice_get, Some}
 use Rattle.nesting_laws.specs.Plans.{IsPlanOf, Plan, levels}
 use Rattle.stl_tree.specs.Blocks.{Way, stops}
-use Rattle.stl_tree.specs.WellNested.{AreNested, Flow, IsLoop, IsSegment, IsShallow, IsWellNested, Segment, falls_by, jumps_of}
+use Rattle.stl_tree.specs.Flows.{AreNested, Flow, IsLoop, IsSegment, Segment, falls_by, jumps_of}
+use Rattle.nesting_rules.specs.NestedJumps.{IsShallow, IsWellNested}
 
 -- each block leads to blocks, and one that holds the end word alone ends its body
 pub record IsFlow (flow : Flow) : Type 0 where

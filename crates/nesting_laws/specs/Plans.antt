@@ -3,7 +3,7 @@
 use Rattle.std.specs.Prelude.{◌≡◌, ◌⊎◌, ℕ, suc, ◌<◌, ◌≤◌, max, Bool, true, false}
 use Rattle.stl_tree.specs.Blocks.{Way, always, if_made}
 use Rattle.stl_tree.specs.Segments.{IsOneOf, IsReached}
-use Rattle.stl_tree.specs.WellNested.{GoesOn, IsEndBlock, IsIn, IsJump, IsList, IsLoop, IsUnconditional, Segment, blocks_of, falls_by, jumps_of}
+use Rattle.stl_tree.specs.Flows.{GoesOn, IsEndBlock, IsIn, IsJump, IsList, IsLoop, IsUnconditional, Segment, blocks_of, falls_by, jumps_of}
 
 -- Nothing; a block that no path reaches, and the rest; a block, and the rest; a block with a conditional jump to a
 -- block, what is done where the jump is not made, and the rest; one with two arms, the second of which ends at a block;

@@ -8,7 +8,7 @@ use Rattle.std.proofs.lemmas.List.{length-map}
 use Rattle.st_tree.specs.declared.graph.StNode.{StNode}
 use Rattle.st_tree.specs.declared.program.Stmt.{Stmt}
 use Rattle.stl_tree.specs.Segments.{IsCut, IsReached}
-use Rattle.stl_tree.specs.WellNested.{IsSegment, Segment, blocks_of, ways_by}
+use Rattle.stl_tree.specs.Flows.{IsSegment, Segment, blocks_of, ways_by}
 use Rattle.nesting_laws.specs.Plans.{IsBare}
 use Rattle.graph_rules.specs.Flow.{flow_of, way_by}
 use Rattle.region_plans.specs.PlanRegion.{is_at, is_last}

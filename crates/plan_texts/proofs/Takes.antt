@@ -3,7 +3,7 @@ use Rattle.std.proofs.Common.{◌≡◌, ◌⊎◌, ℕ, zero, suc, ◌+◌, ◌
 use Rattle.std.proofs.lemmas.List.{drop-drop}
 use Rattle.st_tree.specs.declared.program.Stmt.{Stmt}
 use Rattle.st_tree.specs.declared.graph.StNode.{StNode}
-use Rattle.stl_tree.specs.WellNested.{IsSegment, Segment}
+use Rattle.stl_tree.specs.Flows.{IsSegment, Segment}
 use Rattle.nesting_laws.specs.Plans.{Around as PlanAround, IsPlan, Plan, arm as arm_plan, arms as arms_plan, done, inside, levels, loop as loop_plan, one as one_plan, skip as skip_plan}
 use Rattle.region_laws.specs.Regions.{Place, Region, at as place_at, off, text_of}
 use Rattle.region_plans.specs.PlanRegion.{Chart, fork_region, loop_region, one_region, region_of}

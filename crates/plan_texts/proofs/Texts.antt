@@ -10,7 +10,7 @@ use Rattle.st_tree.specs.declared.graph.StExit.TheVariants as exit
 use Rattle.st_tree.specs.declared.graph.StNode.{StNode}
 use Rattle.st_tree.specs.declared.program.Stmt.{Stmt}
 use Rattle.stl_tree.specs.Blocks.{Way, always, if_made, on, one_of, stops, unless_ended}
-use Rattle.stl_tree.specs.WellNested.{GoesOn, IsList, IsSegment, Segment}
+use Rattle.stl_tree.specs.Flows.{GoesOn, IsList, IsSegment, Segment}
 use Rattle.nesting_laws.specs.Plans.{IsOne, IsPlanOf, Plan, levels, no_loop}
 use Rattle.graph_rules.specs.Flow.{flow_of, way_by}
 use Rattle.region_laws.specs.Regions.{Place, Region, at as place_at, choice, forever, fork, off, text_of}

@@ -3,7 +3,7 @@ ghost use Rattle.std.specs.Prelude.{◌≡◌, ◌<◌, ◌≤◌, ℕ, IfOk, Li
 ghost use Rattle.st_tree.specs.declared.graph.StNode.{StNode as Node};
 ghost use Rattle.graph_rules.specs.Flow.{flow_of};
 ghost use Rattle.graph_rules.specs.Plain.{AreSettings};
-ghost use Rattle.stl_tree.specs.WellNested.{IsSegment};
+ghost use Rattle.stl_tree.specs.Flows.{IsSegment};
 ghost use Rattle.nesting_laws.specs.Plans.{IsPlanOf, Plan, levels};
 ghost use Rattle.unit_regions.specs.MadeCharts.{ending_of};
 ghost use Rattle.unit_regions.specs.UnitCharts.{blocks_between};

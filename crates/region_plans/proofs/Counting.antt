@@ -5,7 +5,7 @@ use Rattle.st_tree.specs.declared.graph.StExit.{StExit}
 use Rattle.st_tree.specs.declared.graph.StExit.TheVariants as exit
 use Rattle.st_tree.specs.declared.graph.StNode.{StNode}
 use Rattle.st_tree.specs.declared.program.Stmt.{Stmt}
-use Rattle.stl_tree.specs.WellNested.{Segment}
+use Rattle.stl_tree.specs.Flows.{Segment}
 use Rattle.nesting_laws.specs.Plans.{Around, IsPlan, Plan, arm, arms, done, inside, levels, loop, no_loop, one, skip}
 use Rattle.region_laws.specs.RegionDepth.{depth}
 use Rattle.region_laws.specs.Regions.{Place, Region, again, at, ended, fork, leaves, loop_head, node, off, quit}

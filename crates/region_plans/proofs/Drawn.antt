@@ -6,7 +6,7 @@ use Rattle.st_tree.specs.declared.graph.StExit.{StExit}
 use Rattle.st_tree.specs.declared.graph.StExit.TheVariants as exit
 use Rattle.stl_tree.specs.Blocks.{stops}
 use Rattle.stl_tree.specs.Segments.{IsOneOf}
-use Rattle.stl_tree.specs.WellNested.{IsEndBlock, IsLoop, IsSegment, Segment, jumps_of}
+use Rattle.stl_tree.specs.Flows.{IsEndBlock, IsLoop, IsSegment, Segment, jumps_of}
 use Rattle.graph_rules.specs.Flow.{way_by}
 use Rattle.nesting_laws.specs.PlanLaws.{IsFlow}
 use Rattle.nesting_laws.specs.Plans.{LeadsTo}

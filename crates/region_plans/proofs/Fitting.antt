@@ -9,7 +9,7 @@ use Rattle.st_tree.specs.declared.graph.StExit.TheVariants as exit
 use Rattle.st_tree.specs.declared.graph.StNode.{StNode}
 use Rattle.st_tree.specs.declared.program.Stmt.{Stmt}
 use Rattle.stl_tree.specs.Blocks.{Way, always, if_made, on, unless_ended}
-use Rattle.stl_tree.specs.WellNested.{Flow, GoesOn, IsEndBlock, IsIn, IsList, IsLoop, Segment}
+use Rattle.stl_tree.specs.Flows.{Flow, GoesOn, IsEndBlock, IsIn, IsList, IsLoop, Segment}
 use Rattle.graph_rules.specs.Flow.{flow_of, way_by}
 use Rattle.nesting_laws.specs.Plans.{Around, Goes, IsBare, IsFresh, IsOne, IsOther, IsPlan, IsWayOut, LeadsTo, Plan, arm, arms, done, inside, loop, no_loop, one, skip}
 use Rattle.region_laws.specs.Regions as regions

@@ -9,7 +9,7 @@ use Rattle.std.proofs.lemmas.Option.{none-some, same_Some, slice_get-map}
 use Rattle.st_tree.specs.declared.graph.StNode.{StNode}
 use Rattle.stl_tree.specs.Blocks.{Way}
 use Rattle.stl_tree.specs.Segments.{IsCut, IsOneOf, IsReached, JumpsTo, Ways, fall, first, jump}
-use Rattle.stl_tree.specs.WellNested.{Flow, GoesOn, IsSegment, Segment, blocks_of, jumps_of, ways_by}
+use Rattle.stl_tree.specs.Flows.{Flow, GoesOn, IsSegment, Segment, blocks_of, jumps_of, ways_by}
 use Rattle.graph_rules.specs.Flow.{flow_of, way_by}
 use Rattle.nesting_laws.specs.PlanLaws.{IsFlow}
 use Rattle.nesting_laws.specs.Plans.{LeadsTo}

@@ -5,7 +5,7 @@ use Rattle.st_tree.specs.BodyParts.{statements_in}
 use Rattle.st_tree.specs.declared.graph.StExit.{StExit}
 use Rattle.st_tree.specs.declared.graph.StExit.TheVariants as exit
 use Rattle.st_tree.specs.declared.graph.StNode.{StNode}
-use Rattle.stl_tree.specs.WellNested.{Segment}
+use Rattle.stl_tree.specs.Flows.{Segment}
 use Rattle.graph_rules.specs.Plain.{AreSteps}
 use Rattle.nesting_laws.specs.Plans.{Around, IsPlan, Plan, arm, arms, done, loop, no_loop, one, skip}
 use Rattle.region_laws.specs.Regions.{Mark, Place, Region, arm_of, loop_head, unmarked}

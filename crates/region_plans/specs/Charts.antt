@@ -5,7 +5,7 @@ use Rattle.std.specs.Prelude.{◌≡◌, ◌⊎◌, ◌↔◌, ℕ, suc, ◌<◌
 use Rattle.st_tree.specs.declared.graph.StExit.TheVariants as exit
 use Rattle.st_tree.specs.declared.graph.StNode.{StNode}
 use Rattle.stl_tree.specs.Segments.{IsReached}
-use Rattle.stl_tree.specs.WellNested.{IsEndBlock, IsLoop, Segment, blocks_of}
+use Rattle.stl_tree.specs.Flows.{IsEndBlock, IsLoop, Segment, blocks_of}
 use Rattle.graph_rules.specs.Flow.{flow_of}
 use Rattle.graph_rules.specs.Plain.{AreSettings}
 use Rattle.nesting_laws.specs.Plans.{Around, LeadsTo, inside, no_loop}

@@ -4,7 +4,7 @@ use Rattle.std.specs.Prelude.{◌≡◌, ℕ, suc, ◌+◌, ◌≤◌, Bool, fal
 use Rattle.st_tree.specs.BodyParts.{statements_in}
 use Rattle.st_tree.specs.Nesting.{body_nesting}
 use Rattle.st_tree.specs.declared.graph.StNode.{StNode}
-use Rattle.stl_tree.specs.WellNested.{IsSegment, Segment}
+use Rattle.stl_tree.specs.Flows.{IsSegment, Segment}
 use Rattle.graph_rules.specs.Plain.{AreSteps}
 use Rattle.nesting_laws.specs.PlanLaws.{IsFlow}
 use Rattle.nesting_laws.specs.Plans.{Around, IsPlan, IsPlanOf, Plan, levels, no_loop}

@@ -8,7 +8,7 @@ use Rattle.std.proofs.lemmas.Option.{same_Some, slice_get-map}
 use Rattle.st_tree.specs.declared.graph.StNode.{StNode}
 use Rattle.stl_tree.specs.Blocks.{Way}
 use Rattle.stl_tree.specs.Segments.{AreAscending, AreCuts, IsOneOf, IsReached, Ways, fall, first, jump}
-use Rattle.stl_tree.specs.WellNested.{Flow, blocks_of, jumps_of, ways_by}
+use Rattle.stl_tree.specs.Flows.{Flow, blocks_of, jumps_of, ways_by}
 use Rattle.flow_graph.specs.Graphs.{ways_after, ways_of}
 use Rattle.flow_graph.specs.Graphs.{way_by as exit_way}
 use Rattle.flow_graph.specs.Reached.{AreReached}

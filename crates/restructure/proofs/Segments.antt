@@ -6,7 +6,8 @@ use Rattle.std.proofs.lemmas.List.{drop_more}
 use Rattle.std.proofs.lemmas.Result.{IfOk-weaker}
 use Rattle.st_tree.specs.declared.graph.StNode.{StNode}
 use Rattle.st_tree.specs.declared.program.Stmt.{Stmt}
-use Rattle.stl_tree.specs.WellNested.{IsSegment, IsWellNested}
+use Rattle.stl_tree.specs.Flows.{IsSegment}
+use Rattle.nesting_rules.specs.NestedJumps.{IsWellNested}
 use Rattle.graph_rules.specs.Flow.{flow_of}
 use Rattle.graph_rules.specs.Plain.{AreSettings}
 use Rattle.nesting_laws.specs.Plans.{IsPlanOf, Plan, levels}

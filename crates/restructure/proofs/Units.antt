@@ -4,7 +4,7 @@ use Rattle.std.proofs.lemmas.List.{length-map}
 use Rattle.std.proofs.lemmas.Option.{same_Some, slice_get_within}
 use Rattle.st_tree.specs.declared.graph.StNode.{StNode}
 use Rattle.stl_tree.specs.Segments.{IsCut}
-use Rattle.stl_tree.specs.WellNested.{IsSegment, blocks_of, ways_by}
+use Rattle.stl_tree.specs.Flows.{IsSegment, blocks_of, ways_by}
 use Rattle.graph_rules.specs.Flow.{flow_of, way_by}
 use Rattle.graph_rules.specs.Plain.{AreSettings}
 use Rattle.unit_regions.specs.MadeCharts.{ArePlain, ending_of}

@@ -8,7 +8,7 @@ ghost use Rattle.restructure.specs.TextShape.{HasSelectors, HasShape};
 ghost use Rattle.restructure.specs.inner.Writing.{AreSegments, IsKnownUnit, IsNext, IsUnitText};
 ghost use Rattle.shape_laws.specs.EachOnce.{HasEachOnce};
 ghost use Rattle.st_tree.specs.declared.graph.StNode.{StNode};
-ghost use Rattle.stl_tree.specs.WellNested.{IsSegment};
+ghost use Rattle.stl_tree.specs.Flows.{IsSegment};
 ghost use Rattle.text_shapes.specs.NodeCounts.{KeepsOff};
 ghost use Rattle.unit_regions.specs.MadeCharts.{ending_of};
 ghost use Rattle.unit_regions.specs.UnitCharts.{blocks_between};

@@ -5,7 +5,7 @@ use Rattle.std.proofs.lemmas.Bool.Decides.{Decides-eqb, Decides-like}
 use Rattle.std.proofs.lemmas.List.{length-map}
 use Rattle.nesting_laws.specs.Plans.{IsBare}
 use Rattle.stl_tree.specs.Segments.{IsReached}
-use Rattle.stl_tree.specs.WellNested.{Flow, Segment, blocks_of, ways_by}
+use Rattle.stl_tree.specs.Flows.{Flow, Segment, blocks_of, ways_by}
 use Rattle.segment_plans.specs.Known.{AreKnown, counts_from}
 use Rattle.segment_plans.specs.declared.blocks.Blocks.{Blocks}
 use Rattle.segment_plans.specs.Counts.{count, is_bare, is_reached}

@@ -18,7 +18,7 @@ use Rattle.st_tree.specs.declared.graph.StExit.TheVariants as way
 use Rattle.st_tree.specs.declared.graph.StNode.{StNode}
 use Rattle.stl_tree.specs.Blocks.{Way}
 use Rattle.stl_tree.specs.Segments.{IsOneOf, IsReached, JumpsTo, Ways}
-use Rattle.stl_tree.specs.WellNested.{Flow, blocks_of, ways_by}
+use Rattle.stl_tree.specs.Flows.{Flow, blocks_of, ways_by}
 use Rattle.segment_plans.specs.Known.{AreKnown, IsLastBack, IsReachedJump, counts_from}
 use Rattle.segment_plans.specs.declared.blocks.Blocks.{Blocks}
 use Rattle.segment_plans.specs.inner.Finding.{lasts_from, note, note_block, way_of}

@@ -3,7 +3,7 @@ use Rattle.std.proofs.Common.{◌≡◌, ◌⊎◌, ℕ, ◌-◌, ◌≤◌, Boo
 use Rattle.nesting_laws.specs.Plans.{IsBranch, IsOne, IsOther, IsWayOut}
 use Rattle.stl_tree.specs.Blocks.{always, if_made}
 use Rattle.stl_tree.specs.Segments.{IsReached}
-use Rattle.stl_tree.specs.WellNested.{IsEndBlock, Segment, blocks_of}
+use Rattle.stl_tree.specs.Flows.{IsEndBlock, Segment, blocks_of}
 use Rattle.segment_plans.specs.Planned.{IsPiece, around_of}
 use Rattle.segment_plans.specs.declared.planning.Part.{Part}
 use Rattle.segment_plans.specs.declared.planning.Piece.{Piece}

@@ -9,7 +9,7 @@ use Rattle.std.proofs.lemmas.List.{length-map}
 use Rattle.nesting_laws.specs.Plans.{Goes, IsBare, IsBranch, IsFresh, IsOne, IsOpened, IsOther, IsWayOut, LeadsTo}
 use Rattle.stl_tree.specs.Blocks.{Way, always, if_made, on, one_of, stops, unless_ended}
 use Rattle.stl_tree.specs.Segments.{IsOneOf, IsReached, jump}
-use Rattle.stl_tree.specs.WellNested.{IsEndBlock, IsIn, IsLoop, IsSegment, IsUnconditional, Segment, blocks_of, falls_by, jumps_of}
+use Rattle.stl_tree.specs.Flows.{IsEndBlock, IsIn, IsLoop, IsSegment, IsUnconditional, Segment, blocks_of, falls_by, jumps_of}
 use Rattle.flow_graph.specs.Graphs.{way_by}
 use Rattle.flow_graph.specs.declared.graph.Exit.{Exit}
 use Rattle.flow_graph.specs.declared.graph.Exit.TheVariants as exit

@@ -6,7 +6,7 @@ use Rattle.std.proofs.lemmas.Bool.Decides.{Decides-and, Decides-eqb, Decides-lik
 use Rattle.std.proofs.lemmas.Option.{none-some}
 use Rattle.stl_tree.specs.Blocks.{Way, always, if_made, on, one_of, stops, unless_ended}
 use Rattle.stl_tree.specs.Segments.{IsOneOf, IsReached}
-use Rattle.stl_tree.specs.WellNested.{IsEndBlock, IsExitJump, IsPlainJump, IsSegment, Segment, blocks_of, jumps_of}
+use Rattle.stl_tree.specs.Flows.{IsEndBlock, IsExitJump, IsPlainJump, IsSegment, Segment, blocks_of, jumps_of}
 use Rattle.flow_graph.specs.declared.graph.Exit.{Exit}
 use Rattle.flow_graph.specs.declared.graph.Exit.TheVariants as exit
 use Rattle.segment_plans.specs.Planned.{HasNestedLoops}

@@ -1,7 +1,7 @@
 -- A plan has a piece at its first block, and plans of what is inside and behind it.
 use Rattle.std.proofs.Common.{◌≡◌, ℕ, suc, ◌+◌, ◌-◌, ◌<◌, ◌≤◌, Bool, true, false, Option, Some, None, max, refl, sym, ap, subst, ◌∙◌, arith}
 use Rattle.nesting_laws.specs.Plans.{IsPlan, Plan, arm as arm_plan, arms as arms_plan, done, levels, loop as loop_plan, one as one_plan, skip as skip_plan}
-use Rattle.stl_tree.specs.WellNested.{Segment}
+use Rattle.stl_tree.specs.Flows.{Segment}
 use Rattle.segment_plans.specs.Planned.{AnswersPiece, HasInner, HasPlan, IsPiece, after, around_of, body}
 use Rattle.segment_plans.specs.declared.planning.Part.{Part}
 use Rattle.segment_plans.specs.declared.planning.Piece.{Piece}

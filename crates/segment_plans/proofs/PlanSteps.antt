@@ -3,7 +3,7 @@ use Rattle.std.proofs.Common.{◌≡◌, ℕ, ◌+◌, ◌-◌, ◌<◌, ◌≤�
 use Rattle.std.specs.Bool.{Decides}
 use Rattle.std.proofs.lemmas.Bool.Decides.{Decides-like}
 use Rattle.nesting_laws.specs.Plans.{done}
-use Rattle.stl_tree.specs.WellNested.{IsSegment, Segment}
+use Rattle.stl_tree.specs.Flows.{IsSegment, Segment}
 use Rattle.segment_plans.specs.Known.{AreKnown}
 use Rattle.segment_plans.specs.Planned.{HasInner, HasPlan, IsPartOf, IsPiece, IsWithin, after, arm, body}
 use Rattle.segment_plans.specs.declared.blocks.Blocks.{Blocks}

@@ -6,7 +6,8 @@ use Rattle.std.proofs.lemmas.Bool.Decides.{Decides-like}
 use Rattle.nesting_laws.specs.PlanLaws.{IsFlow}
 use Rattle.nesting_laws.proofs.Planned.{planned_is_well_nested, planned_loops_are_nested}
 use Rattle.nesting_laws.proofs.Plannings.{well_nested_is_planned}
-use Rattle.stl_tree.specs.WellNested.{IsSegment, IsShallow, IsWellNested, Segment}
+use Rattle.stl_tree.specs.Flows.{IsSegment, Segment}
+use Rattle.nesting_rules.specs.NestedJumps.{IsShallow, IsWellNested}
 use Rattle.segment_plans.specs.Known.{AreKnown}
 use Rattle.segment_plans.specs.Planned.{HasPlan, IsPartOf, whole}
 use Rattle.segment_plans.specs.declared.blocks.Blocks.{Blocks}

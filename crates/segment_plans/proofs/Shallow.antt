@@ -4,7 +4,8 @@ use Rattle.std.specs.Bool.{Decides}
 use Rattle.std.specs.Prelude.{nat_le, option_to_list}
 use Rattle.std.proofs.lemmas.Bool.Decides.{Decides-eqb, Decides-like}
 use Rattle.stl_tree.specs.Segments.{AreAscending, AreAscendingAfter, IsOneOf}
-use Rattle.stl_tree.specs.WellNested.{AreHeadsAround, AreSourcesOver, IsInLoop, IsPlainJump, IsSegment, IsShallow, Segment}
+use Rattle.stl_tree.specs.Flows.{AreHeadsAround, IsInLoop, IsPlainJump, IsSegment, Segment}
+use Rattle.nesting_rules.specs.NestedJumps.{AreSourcesOver, IsShallow}
 use Rattle.segment_plans.specs.Known.{AreKnown}
 use Rattle.segment_plans.specs.Planned.{HasNestedLoops}
 use Rattle.segment_plans.specs.declared.blocks.Blocks.{Blocks}

@@ -10,7 +10,7 @@ use Rattle.std.proofs.lemmas.List.{length-map}
 use Rattle.nesting_laws.specs.Plans.{IsBare, IsFresh}
 use Rattle.stl_tree.specs.Blocks.{Way}
 use Rattle.stl_tree.specs.Segments.{IsCut, IsOneOf, IsReached, JumpsTo, Ways}
-use Rattle.stl_tree.specs.WellNested.{Flow, IsJump, IsLoop, IsSegment, Segment, blocks_of, jumps_of, ways_by}
+use Rattle.stl_tree.specs.Flows.{Flow, IsJump, IsLoop, IsSegment, Segment, blocks_of, jumps_of, ways_by}
 use Rattle.flow_graph.specs.Graphs.{way_by}
 use Rattle.segment_plans.specs.Known.{AreKnown, IsLastBack, IsReachedJump}
 use Rattle.segment_plans.specs.declared.blocks.Blocks.{Blocks}

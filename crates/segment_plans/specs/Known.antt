@@ -2,7 +2,7 @@
 -- Held against: this project's own segments.
 use Rattle.std.specs.Prelude.{◌≡◌, ℕ, suc, ◌<◌, ◌≤◌, Bool, true, false, List, [], ◌∷◌, Option, Some, None, length, map, get_or}
 use Rattle.stl_tree.specs.Segments.{IsReached, JumpsTo}
-use Rattle.stl_tree.specs.WellNested.{Flow, blocks_of}
+use Rattle.stl_tree.specs.Flows.{Flow, blocks_of}
 use Rattle.flow_graph.specs.Graphs.{way_by}
 use Rattle.flow_graph.specs.Reached.{AreReached}
 use Rattle.segment_plans.specs.declared.blocks.Blocks.{Blocks}

@@ -2,7 +2,7 @@
 -- Held against: this project's own segments.
 use Rattle.std.specs.Prelude.{ℕ, ◌+◌, ◌-◌, ◌<◌, ◌≤◌, Bool, true, false, Option, Some, None}
 use Rattle.stl_tree.specs.Segments.{IsReached}
-use Rattle.stl_tree.specs.WellNested.{AreNested, IsLoop, Segment, blocks_of}
+use Rattle.stl_tree.specs.Flows.{AreNested, IsLoop, Segment, blocks_of}
 use Rattle.nesting_laws.specs.Plans.{Around as PlanAround, IsBranch, IsFresh, IsOne, IsOpened, IsOther, IsPlan, Plan, inside, levels, no_loop}
 use Rattle.segment_plans.specs.declared.planning.Around.{Around}
 use Rattle.segment_plans.specs.declared.planning.Around.TheVariants as around

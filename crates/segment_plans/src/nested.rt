@@ -2,7 +2,8 @@
 ghost use Rattle.std.specs.Bool.{Decides};
 ghost use Rattle.std.specs.Prelude.{◌≡◌, ◌≤◌, IfOk, false};
 ghost use Rattle.nesting_laws.specs.PlanLaws.{IsFlow};
-ghost use Rattle.stl_tree.specs.WellNested.{IsSegment, IsWellNested, Segment};
+ghost use Rattle.stl_tree.specs.Flows.{IsSegment, Segment};
+ghost use Rattle.nesting_rules.specs.NestedJumps.{IsWellNested};
 ghost use Rattle.segment_plans.specs.Known.{AreKnown};
 ghost use Rattle.segment_plans.specs.Planned.{whole};
 

@@ -3,7 +3,7 @@
 //! At each block there is at most one way to go on. So the first block that has none shows that there is no plan.
 ghost use Rattle.std.specs.Prelude.{◌≡◌, ◌+◌, ◌==◌, ◌<◌, ◌≤◌, IfSome};
 ghost use Rattle.std.specs.Bool.{Decides};
-ghost use Rattle.stl_tree.specs.WellNested.{IsSegment, Segment};
+ghost use Rattle.stl_tree.specs.Flows.{IsSegment, Segment};
 ghost use Rattle.segment_plans.specs.Known.{AreKnown};
 ghost use Rattle.segment_plans.specs.Planned.{AnswersPiece, HasInner, HasPlan, IsPartOf, IsWithin, after, arm, body};
 ghost use Rattle.segment_plans.specs.inner.Pieces.{branch, falls_off, goes_on, is_flat, is_inner_end, is_second_end, is_way_out, jumps_out, loop_if, may_lead, one_if, piece_within, second_end};

@@ -1,7 +1,8 @@
 //! Whether each block of a segment lies in few loops and jumps.
 ghost use Rattle.std.specs.Bool.{Decides};
 ghost use Rattle.std.specs.Prelude.{◌≡◌, IfOk, OnOk, get_or, length, option_to_list};
-ghost use Rattle.stl_tree.specs.WellNested.{IsSegment, IsShallow, Segment};
+ghost use Rattle.stl_tree.specs.Flows.{IsSegment, Segment};
+ghost use Rattle.nesting_rules.specs.NestedJumps.{IsShallow};
 ghost use Rattle.segment_plans.specs.Known.{AreKnown};
 ghost use Rattle.segment_plans.specs.Planned.{HasNestedLoops};
 ghost use Rattle.segment_plans.specs.inner.Spans.{innermost, is_plain, leave, left_by, note_end, plain_jump, with_loop};

@@ -2,7 +2,7 @@
 use Rattle.std.proofs.Common.{◌≡◌, inl, inr, ⊎_elim, ℕ, zero, suc, ◌+◌, ◌-◌, ◌<◌, ◌≤◌, Bool, true, false, if◌then◌else◌, List, [], ◌∷◌, length, refl, sym, ap, ◌∙◌, arith}
 use Rattle.std.proofs.lemmas.Bool.{cases_eq, cases_lt, cond_both}
 use Rattle.stl_tree.specs.Segments.{AreAscending, AreAscendingAfter, IsOneOf}
-use Rattle.stl_tree.specs.WellNested.{AreHeads, IsLoop, IsSegment, Segment}
+use Rattle.stl_tree.specs.Flows.{AreHeads, IsLoop, IsSegment, Segment}
 use Rattle.region_laws.specs.Regions.{Mark, arm_of, loop_head, unmarked}
 use Rattle.region_plans.specs.Charts.{IsHeaded}
 use Rattle.region_plans.specs.PlanRegion.{Chart}

@@ -1,6 +1,6 @@
 -- What is known of the segments of a unit that are written: their loops or their blocks.
 use Rattle.std.proofs.Common.{◌≡◌, inl, inr, ℕ, ◌+◌, ◌-◌, ◌<◌, List, [], ◌∷◌, length, Option, Some, None, refl, arith}
-use Rattle.stl_tree.specs.WellNested.{IsSegment}
+use Rattle.stl_tree.specs.Flows.{IsSegment}
 use Rattle.nesting_laws.specs.Plans.{Plan}
 use Rattle.region_plans.specs.PlanRegion.{Chart}
 use Rattle.text_shapes.specs.Allowed.{AreJudged, IsJudged, Judgement, arms_allowed, crossed, nested, selectors_allowed}

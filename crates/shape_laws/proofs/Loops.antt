@@ -13,7 +13,7 @@ use Rattle.st_tree.specs.declared.graph.StNode.{StNode}
 use Rattle.st_tree.specs.declared.program.Arm.{Arm}
 use Rattle.st_tree.specs.declared.program.Stmt.{Stmt, out-Stmt}
 use Rattle.st_tree.specs.declared.program.Stmt.TheOpen as S
-use Rattle.stl_tree.specs.WellNested.{IsSegment}
+use Rattle.stl_tree.specs.Flows.{IsSegment}
 use Rattle.graph_rules.specs.Plain.{AreSteps}
 use Rattle.nesting_laws.specs.Plans.{Plan, no_loop}
 use Rattle.region_laws.specs.Regions.{Place, labels_from, leaves, off, text_of, turn_to, ended}

@@ -7,7 +7,7 @@ use Rattle.st_tree.specs.declared.graph.StExit.TheVariants as exit
 use Rattle.st_tree.specs.declared.graph.StNode.{StNode}
 use Rattle.st_tree.specs.declared.program.Stmt.{Stmt}
 use Rattle.stl_tree.specs.Segments.{AreCuts, IsReached}
-use Rattle.stl_tree.specs.WellNested.{IsIn, Segment, blocks_of}
+use Rattle.stl_tree.specs.Flows.{IsIn, Segment, blocks_of}
 use Rattle.graph_rules.specs.Flow.{flow_of}
 use Rattle.nesting_laws.specs.Plans.{Around, IsPlan, Plan, arm, arms, done, inside, loop, no_loop, one, skip}
 use Rattle.region_laws.specs.Regions.{Place, Region, again, at, cycle, ended, fork, labels_from, leaves, node, off, quit, selector, table, text_of, turn_to}

@@ -1,6 +1,6 @@
 -- The segments of a unit that are written are some of all.
 use Rattle.std.proofs.Common.{◌≡◌, inl, inr, ℕ, List, [], ◌∷◌, length, Option, refl, sym, ap, ◌∙◌, subst}
-use Rattle.stl_tree.specs.WellNested.{AreSegmentsFrom, Segment}
+use Rattle.stl_tree.specs.Flows.{AreSegmentsFrom, Segment}
 use Rattle.graph_rules.specs.Flow.{flow_of}
 use Rattle.nesting_laws.specs.Plans.{Plan}
 use Rattle.region_plans.specs.PlanRegion.{Chart}

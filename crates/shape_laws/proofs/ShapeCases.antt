@@ -17,7 +17,8 @@ use Rattle.st_tree.specs.declared.program.Stmt.TheVariants as stmt
 use Rattle.st_tree.proofs.Equations.{fold_literal}
 use Rattle.st_tree.proofs.PartEquations.{reads_of_literal}
 use Rattle.stl_tree.specs.Segments.{AreCuts, FallsFrom, IsCut, IsOneOf, IsReached, JumpsTo, Ways, fall, first, jump}
-use Rattle.stl_tree.specs.WellNested.{IsWellNested, blocks_of}
+use Rattle.stl_tree.specs.Flows.{blocks_of}
+use Rattle.nesting_rules.specs.NestedJumps.{IsWellNested}
 use Rattle.graph_rules.specs.Flow.{flow_of}
 use Rattle.graph_rules.specs.Plain.{IsPlainNode, faultless_step, is_faultless, tests_of}
 use Rattle.graph_rules.specs.Runs.{AreOfRun, AreWritten, IsWritten, locals_of}

@@ -4,7 +4,7 @@ use Rattle.std.proofs.lemmas.Bool.{both_ways, cases_eq, cases_lt, cond_both, eq-
 use Rattle.st_tree.specs.declared.graph.StNode.{StNode}
 use Rattle.st_tree.specs.declared.program.Stmt.{Stmt}
 use Rattle.stl_tree.specs.Segments.{AreCuts}
-use Rattle.stl_tree.specs.WellNested.{blocks_of}
+use Rattle.stl_tree.specs.Flows.{blocks_of}
 use Rattle.graph_rules.specs.Flow.{flow_of}
 use Rattle.graph_rules.specs.Plain.{AreSettings, AreSteps}
 use Rattle.region_laws.specs.Regions.{Fits, at, no_loop, out, text_of}

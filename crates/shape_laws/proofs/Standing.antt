@@ -10,7 +10,7 @@ use Rattle.st_tree.specs.declared.graph.StExit.TheVariants as exit
 use Rattle.st_tree.specs.declared.graph.StNode.{StNode}
 use Rattle.st_tree.specs.declared.program.Stmt.{Stmt}
 use Rattle.stl_tree.specs.Segments.{IsOneOf, IsReached, Ways, fall, first, jump}
-use Rattle.stl_tree.specs.WellNested.{blocks_of, falls_by, jumps_of, ways_by}
+use Rattle.stl_tree.specs.Flows.{blocks_of, falls_by, jumps_of, ways_by}
 use Rattle.graph_rules.specs.Flow.{flow_of, way_by}
 use Rattle.region_laws.specs.Regions.{Around, Fits, IsNode, Leaves, LeadsTo, Mark, Marked, Place, Region, Repeats, again, arm_of, at, cycle, ended, fork, inside, is_arm, labels_from, leaves, no_loop, node, off, out, quit, selected, selector, table, turn_to}
 use Rattle.region_plans.specs.RegionCounts.{Weights, before, sum_of, weight}

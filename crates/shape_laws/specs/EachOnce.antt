@@ -11,7 +11,7 @@ use Rattle.st_tree.specs.declared.program.CaseArm.{CaseArm}
 use Rattle.st_tree.specs.declared.program.Stmt.{Stmt}
 use Rattle.st_tree.specs.declared.program.Stmt.TheOpen as S
 use Rattle.stl_tree.specs.Segments.{IsReached}
-use Rattle.stl_tree.specs.WellNested.{blocks_of}
+use Rattle.stl_tree.specs.Flows.{blocks_of}
 use Rattle.graph_rules.specs.Flow.{flow_of}
 use Rattle.text_shapes.specs.Shape.{count_in}
 use Rattle.unit_regions.specs.MadeCharts.{ArePlain, IsMade}

@@ -483,7 +483,7 @@ module _ (tree : StProgram) (waiting : List Pou) (unit : Pou) where
   abbrev own_unit_scope : UnitScope
   own_unit_scope = unit_scope_in tree unit
 
-  entered_fits : (n : ℕ) (callee : Pou) (formals : List Reference) (s : State) → slice_get tree.pous n ≡ Some callee
+  pub entered_fits : (n : ℕ) (callee : Pou) (formals : List Reference) (s : State) → slice_get tree.pous n ≡ Some callee
       → Fits tree waiting unit s → Paired (λ (f : Local) r. StandsFor all_running f.ty r) callee.formals formals
       → Fits tree all_running callee (state_on_entry callee formals s)
   entered_fits n callee formals s e h k =
@@ -542,7 +542,7 @@ module _ (tree : StProgram) (waiting : List Pou) (unit : Pou) where
       after_test (variable_type own_unit_scope v) (reference_of tree.globals v s) s (variable_refers tree waiting unit s h v)
 
   -- references, where there are some, are of the types of formals
-  abbrev AreOf : List Local → Result (List Reference) Fault → Type 0
+  abbrev pub AreOf : List Local → Result (List Reference) Fault → Type 0
   AreOf fs (Ok rs) = Paired (λ (f : Local) r. StandsFor all_running f.ty r) fs rs
   AreOf fs (Err f) = Unit {0}
 
@@ -553,7 +553,7 @@ module _ (tree : StProgram) (waiting : List Pou) (unit : Pou) where
   one_more f fs (Ok r) (Err e) h k = tt
   one_more f fs (Err e) q h k = tt
 
-  actuals_are : (fs : List Local) (vars : List Var) (s : State) → Fits tree waiting unit s
+  pub actuals_are : (fs : List Local) (vars : List Var) (s : State) → Fits tree waiting unit s
       → are_given own_unit_scope fs vars ≡ true → AreOf fs (located_actuals tree.globals vars s)
   actuals_are [] [] s h good = tt
   actuals_are [] (v ∷ vars) s h good = cc

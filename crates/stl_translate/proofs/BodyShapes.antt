@@ -14,7 +14,7 @@ use Rattle.st_tree.specs.declared.graph.StExit.{StExit}
 use Rattle.st_tree.specs.declared.graph.StExit.TheVariants as exit
 use Rattle.st_tree.specs.declared.graph.StNode.{StNode}
 use Rattle.stl_tree.specs.Blocks.{Extent, Way, always, if_made, instructions_of, one_of, way_of}
-use Rattle.stl_tree.specs.WellNested.{Flow}
+use Rattle.stl_tree.specs.Flows.{Flow}
 use Rattle.stl_tree.specs.declared.program.Instr.{Instr}
 use Rattle.text_shapes.specs.NodeCounts.{conditionals_of, lists_of, one_if_conditional, one_if_list}
 use Rattle.text_shapes.specs.Shape.{count_in, tests}

@@ -7,6 +7,7 @@ pub mod Brackets
 pub mod Calls
 pub mod Conversions
 pub mod DataBlocks
+pub mod Flows
 pub mod Instructions
 pub mod Jumps
 pub mod Now

@@ -1,163 +1,102 @@
--- Which segments of a body are well nested, so that statements can take the place of their jumps. A body is seen as its
--- blocks and how each goes on; only blocks that a path from the first one reaches have jumps that count.
+-- Which segments of a body are well nested, so that statements can take the place of their jumps and jump lists.
 -- Held against: this project's own segments.
-use Rattle.std.specs.Prelude.{◌≡◌, ◌⊎◌, ℕ, suc, ◌+◌, ◌<◌, ◌≤◌, Bool, true, false, List, [], ◌∷◌, length, map, slice_get, Some}
-use Rattle.stl_tree.specs.Blocks.{Way, always, if_made, on, one_of, stops, unless_ended}
-use Rattle.stl_tree.specs.Segments.{AreAscending, IsCut, IsOneOf, IsReached, Ways}
+use Rattle.std.specs.Prelude.{◌≡◌, ◌⊎◌, ℕ, suc, ◌+◌, ◌<◌, ◌≤◌, List, [], ◌∷◌, length, slice_get, Some}
+use Rattle.stl_tree.specs.Blocks.{Way, always, stops}
+use Rattle.stl_tree.specs.Segments.{AreAscending}
+use Rattle.stl_tree.specs.Flows.{AreHeadsAround, AreNested, GoesOn, IsConditional, IsEndBlock, IsExitJump, IsInLoop, IsInnermost, IsJump, IsList, IsLoop, IsPlainJump, IsUnconditional, Segment}
 
--- Blocks
+-- Jump lists
 
--- the blocks of a body: how it goes on after each, by the numbers of blocks, and whether the last one holds the end
--- word alone
-pub record Flow : Type 0 where
-  pub ways : List Way
-  pub ends_alone : Bool
+-- a block to which the jump list of a block leads; the list has an arm for each
+pub record IsTarget (g : Segment) (x t : ℕ) : Type 0 where
+  pub list : IsList g x
+  pub jump : IsJump g x t
 
--- the blocks to which a block jumps
-abbrev pub jumps_of : Way → List ℕ
-jumps_of on = []
-jumps_of (always to) = to ∷ []
-jumps_of (if_made to) = to ∷ []
-jumps_of unless_ended = []
-jumps_of (one_of targets label) = label ∷ targets
-jumps_of stops = []
+-- a block stands in an arm of a jump list whose arms end before a block
+pub record IsInArms (g : Segment) (x e b : ℕ) : Type 0 where
+  pub begin : ℕ
+  pub target : IsTarget g x begin
+  pub low : begin ≤ b
+  pub high : b < e
 
--- the next block may follow a block
-abbrev pub falls_by : Way → Bool
-falls_by on = true
-falls_by (always to) = false
-falls_by (if_made to) = true
-falls_by unless_ended = true
-falls_by (one_of targets label) = false
-falls_by stops = false
+-- two blocks of the arms of a jump list stand in the same one: no arm begins between them
+abbrev pub IsSameArm : Segment → ℕ → ℕ → ℕ → Type 0
+IsSameArm g x b d = (u : ℕ) → IsTarget g x u → ((u ≤ b → u ≤ d) × (u ≤ d → u ≤ b))
 
--- the ways after a block that goes on so
-abbrev pub ways_by : Way → Ways
-ways_by way = record { jumps = jumps_of way; falls = falls_by way }
+-- a jump back to the head of the innermost loop around its block
+abbrev pub IsTurn : Segment → ℕ → ℕ → Type 0
+IsTurn g s t = (last : ℕ) × IsInnermost g t last s
 
--- the ways after each block
-abbrev pub blocks_of : Flow → List Ways
-blocks_of flow = map ways_by flow.ways
+-- a block that goes on so may be the last one of an arm: it ends the body, or jumps to the end of all arms, back, out
+-- of a loop, or to the block of the end word alone
+abbrev pub EndsArm : Segment → ℕ → ℕ → Way → Type 0
+EndsArm g e b stops = Unit {0}
+EndsArm g e b (always t) = (t ≡ e) ⊎ ((t ≤ b) ⊎ (IsExitJump g b t ⊎ IsEndBlock g.flow t))
+EndsArm g e b other = ⊥
 
--- the block that holds the end word alone
-abbrev pub IsEndBlock : Flow → ℕ → Type 0
-IsEndBlock flow b = (flow.ends_alone ≡ true) × (suc b ≡ length flow.ways)
+-- the arms of the jump list of a block may end before a block. Each arm goes up to the next one, the last up to there
+pub record IsCase (g : Segment) (x e : ℕ) : Type 0 where
+  -- all arms stand behind the list
+  pub after : (t : ℕ) → IsTarget g x t → (x < t) × (t ≤ e)
+  -- no arm but the last goes on with the next one
+  pub closed : (b u t : ℕ) (way : Way) → IsTarget g x u → IsTarget g x t → u < t → suc b ≡ t → GoesOn g b way
+      → EndsArm g e b way
+  -- only the list jumps into an arm
+  pub entries : (s t : ℕ) → IsJump g s t → IsInArms g x e t → (s ≡ x) ⊎ (IsInArms g x e s × IsSameArm g x s t)
+  -- a jump from an arm stays in it, or leads to the end of all arms, to the next turn of a loop, out of one, or to the
+  -- block of the end word alone
+  pub exits : (s t : ℕ) → IsJump g s t → IsInArms g x e s
+      → (IsInArms g x e t × IsSameArm g x s t) ⊎ ((t ≡ e) ⊎ (IsTurn g s t ⊎ (IsExitJump g s t ⊎ IsEndBlock g.flow t)))
+  -- a loop that holds the list holds its arms
+  pub loops : (h l b : ℕ) → IsInLoop g h l x → IsInArms g x e b → b ≤ l
 
--- Segments
+-- the arms of the jump list of a block end before a block: the first one at which they may
+pub record IsCaseEnd (g : Segment) (x e : ℕ) : Type 0 where
+  pub list : IsList g x
+  pub fits : IsCase g x e
+  pub least : (d : ℕ) → IsCase g x d → e ≤ d
 
--- neighbouring blocks of a body: from the first to the one before the last
-pub record Segment : Type 0 where
-  pub flow : Flow
-  pub first : ℕ
-  pub past : ℕ
+-- Plain jumps
 
--- a segment lies between two neighbouring cuts, or between the last one and the end
-pub record IsSegment (g : Segment) : Type 0 where
-  pub begins : IsCut (blocks_of g.flow) g.first
-  pub some : g.first < g.past
-  pub inside : (q : ℕ) → g.first < q → q < g.past → IsCut (blocks_of g.flow) q → ⊥
-  pub ends : (g.past ≡ length g.flow.ways) ⊎ IsCut (blocks_of g.flow) g.past
+-- an arm after the one from which a jump leads to the end of all arms begins at a block
+abbrev pub IsLaterArm : Segment → ℕ → ℕ → ℕ → Type 0
+IsLaterArm g s t d = (x : ℕ) × IsCaseEnd g x t × IsTarget g x d × (x < s) × (s < d)
 
--- the segments of a body from a block on, by the cuts after it
-abbrev pub AreSegmentsFrom : Flow → ℕ → List ℕ → List Segment → Type 0
-AreSegmentsFrom flow b [] [] = ⊥
-AreSegmentsFrom flow b [] (g ∷ gs) = (g ≡ record { flow = flow; first = b; past = length flow.ways }) × (gs ≡ [])
-AreSegmentsFrom flow b (cut ∷ cuts) [] = ⊥
-AreSegmentsFrom flow b (cut ∷ cuts) (g ∷ gs) =
-    (g ≡ record { flow = flow; first = b; past = cut }) × AreSegmentsFrom flow cut cuts gs
+-- a jump counts as one to a block: to where it leads, or from an arm to the end of all arms, to the end of its own arm.
+-- Of several such, to the nearest
+pub record CountsAs (g : Segment) (s t c : ℕ) : Type 0 where
+  pub one : (c ≡ t) ⊎ IsLaterArm g s t c
+  pub most : c ≤ t
+  pub nearest : (d : ℕ) → IsLaterArm g s t d → c ≤ d
 
--- Jumps
-
--- a block of a segment that a path reaches
-pub record IsIn (g : Segment) (b : ℕ) : Type 0 where
-  pub reached : IsReached (blocks_of g.flow) b
-  pub low : g.first ≤ b
-  pub high : b < g.past
-
--- such a block goes on so
-abbrev pub GoesOn : Segment → ℕ → Way → Type 0
-GoesOn g b way = IsIn g b × (slice_get g.flow.ways b ≡ Some way)
-
--- a jump from a block of a segment to a block
-abbrev pub IsJump : Segment → ℕ → ℕ → Type 0
-IsJump g s t = (way : Way) × GoesOn g s way × IsOneOf t (jumps_of way)
-
-abbrev pub IsConditional : Segment → ℕ → Type 0
-IsConditional g s = (t : ℕ) × GoesOn g s (if_made t)
-
-abbrev pub IsUnconditional : Segment → ℕ → Type 0
-IsUnconditional g s = (t : ℕ) × GoesOn g s (always t)
-
--- a block ends in a jump list
-abbrev pub IsList : Segment → ℕ → Type 0
-IsList g s = (targets : List ℕ) × (label : ℕ) × GoesOn g s (one_of targets label)
-
--- Loops
-
--- a loop: the target of jumps back, its head, and the last block from which one of them comes
-pub record IsLoop (g : Segment) (head last : ℕ) : Type 0 where
-  pub back : IsJump g last head
-  pub ordered : head ≤ last
-  pub greatest : (s : ℕ) → IsJump g s head → s ≤ last
-
--- a block lies in a loop
-pub record IsInLoop (g : Segment) (head last b : ℕ) : Type 0 where
-  pub loop : IsLoop g head last
-  pub low : head ≤ b
-  pub high : b ≤ last
-
--- of the loops in which a block lies, the one with the greatest head
-pub record IsInnermost (g : Segment) (head last b : ℕ) : Type 0 where
-  pub around : IsInLoop g head last b
-  pub inner : (h l : ℕ) → IsInLoop g h l b → h ≤ head
-
--- two loops are disjoint, or one lies inside the other
-abbrev pub AreNested : ℕ → ℕ → ℕ → ℕ → Type 0
-AreNested h l k m = (l < k) ⊎ ((m < h) ⊎ (((h ≤ k) × (m ≤ l)) ⊎ ((k ≤ h) × (l ≤ m))))
-
--- Forward jumps
-
--- a jump leaves the innermost loop around its block for the block after that loop
-abbrev pub IsExitJump : Segment → ℕ → ℕ → Type 0
-IsExitJump g s t = (head : ℕ) × (last : ℕ) × IsInnermost g head last s × (t ≡ suc last)
-
--- a plain jump: forward, to no block of the end word alone, no exit jump and of no jump list
-pub record IsPlainJump (g : Segment) (s t : ℕ) : Type 0 where
-  pub jump : IsJump g s t
-  pub forward : s < t
-  pub no_end : IsEndBlock g.flow t → ⊥
-  pub no_exit : IsExitJump g s t → ⊥
-  pub no_list : IsList g s → ⊥
-
--- the two jumps around an ELSE: the second is that of the last block before the target of the first, and no other jump
--- forward has that target
-pub record IsElse (g : Segment) (s1 t1 s2 : ℕ) : Type 0 where
+-- the two jumps around an ELSE: the second is that of the last block before the end of the first, and no other jump
+-- forward counts as one to there
+pub record IsElse (g : Segment) (s1 c1 s2 : ℕ) : Type 0 where
   pub first : IsConditional g s1
   pub second : IsUnconditional g s2
-  pub next : suc s2 ≡ t1
-  pub alone : (s : ℕ) → IsJump g s t1 → s < t1 → s ≡ s1
+  pub next : suc s2 ≡ c1
+  pub alone : (s t : ℕ) → IsJump g s t → s < t → CountsAs g s t c1 → s ≡ s1
 
 -- Spans
 
--- each of some blocks is the head of a loop in which a block lies
-abbrev pub AreHeadsAround : Segment → ℕ → List ℕ → Type 0
-AreHeadsAround g b [] = Unit {0}
-AreHeadsAround g b (h ∷ rest) = ((l : ℕ) × IsInLoop g h l b) × AreHeadsAround g b rest
+-- from a block a plain jump leads to another, or its jump list has its arms up to there
+abbrev pub IsSpan : Segment → ℕ → ℕ → Type 0
+IsSpan g s t = IsPlainJump g s t ⊎ IsCaseEnd g s t
 
--- each of some blocks has a plain jump that begins at a block or before it, and leads there or behind it
-abbrev pub AreSourcesOver : Segment → ℕ → List ℕ → Type 0
-AreSourcesOver g b [] = Unit {0}
-AreSourcesOver g b (s ∷ rest) = ((t : ℕ) × IsPlainJump g s t × (s ≤ b) × (b ≤ t)) × AreSourcesOver g b rest
+-- each of some blocks has a plain jump or a jump list that begins at a block or before it, and ends there or behind it
+abbrev pub AreSpansOver : Segment → ℕ → List ℕ → Type 0
+AreSpansOver g b [] = Unit {0}
+AreSpansOver g b (s ∷ rest) = ((t : ℕ) × IsSpan g s t × (s ≤ b) × (b ≤ t)) × AreSpansOver g b rest
 
--- no block lies in more than 64 loops and plain jumps
+-- no block lies in more than 64 loops, plain jumps and jump lists
 abbrev pub IsShallow : Segment → Type 0
 IsShallow g = (b : ℕ) (heads sources : List ℕ) → AreAscending heads → AreHeadsAround g b heads
-    → AreAscending sources → AreSourcesOver g b sources → length heads + length sources ≤ 64
+    → AreAscending sources → AreSpansOver g b sources → length heads + length sources ≤ 64
 
 -- Well nested
 
--- a segment is well nested. One with a jump list does not count as such yet
-pub record IsWellNested (g : Segment) : Type 0 where
+-- a segment is well nested, where only blocks count that a path reaches
+pub record IsWellNestedByPaths (g : Segment) : Type 0 where
   pub loops : (h l k m : ℕ) → IsLoop g h l → IsLoop g k m → AreNested h l k m
   -- a jump into a loop leads to its head
   pub entries : (s t h l : ℕ) → IsJump g s t → IsInLoop g h l t → IsInLoop g h l s ⊎ (t ≡ h)
@@ -165,13 +104,18 @@ pub record IsWellNested (g : Segment) : Type 0 where
   pub exits : (s t h l : ℕ) → IsJump g s t → IsInnermost g h l s
       → ((h ≤ t) × (t ≤ l)) ⊎ ((t ≡ suc l) ⊎ IsEndBlock g.flow t)
   -- plain jumps cross only as the two jumps around an ELSE do
-  pub crossings : (s1 t1 s2 t2 : ℕ) → IsPlainJump g s1 t1 → IsPlainJump g s2 t2 → s1 < s2 → s2 < t1 → t1 < t2
-      → IsElse g s1 t1 s2
-  pub no_list : (b : ℕ) → IsList g b → ⊥
+  pub crossings : (s1 t1 c1 s2 t2 c2 : ℕ) → IsPlainJump g s1 t1 → CountsAs g s1 t1 c1
+      → IsPlainJump g s2 t2 → CountsAs g s2 t2 c2 → s1 < s2 → s2 < c1 → c1 < c2 → IsElse g s1 c1 s2
+  -- each jump list has arms
+  pub cases : (x : ℕ) → IsList g x → (e : ℕ) × IsCaseEnd g x e
   pub shallow : IsShallow g
 
--- the heads of the loops of a segment
-pub record AreHeads (g : Segment) (heads : List ℕ) : Type 0 where
-  pub ascending : AreAscending heads
-  pub each : (h : ℕ) → IsOneOf h heads → (l : ℕ) × IsLoop g h l
-  pub all : (h l : ℕ) → IsLoop g h l → IsOneOf h heads
+-- a block that stands right before an arm, but for the first one, ends the arm before it, be it reached or not
+abbrev pub HasClosedArms : Segment → Type 0
+HasClosedArms g = (x e b u t : ℕ) (way : Way) → IsCaseEnd g x e → IsTarget g x u → IsTarget g x t → u < t → suc b ≡ t
+    → slice_get g.flow.ways b ≡ Some way → EndsArm g e b way
+
+-- a segment is well nested
+pub record IsWellNested (g : Segment) : Type 0 where
+  pub by_paths : IsWellNestedByPaths g
+  pub closed : HasClosedArms g

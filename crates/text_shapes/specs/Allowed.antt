@@ -3,7 +3,8 @@
 -- Held against: this project's own readable texts.
 use Rattle.std.specs.Prelude.{◌≡◌, ◌⊎◌, ℕ, suc, ◌+◌, List, [], ◌∷◌, length}
 use Rattle.stl_tree.specs.Segments.{AreCuts}
-use Rattle.stl_tree.specs.WellNested.{AreHeads, AreSegmentsFrom, Flow, IsWellNested, Segment, blocks_of}
+use Rattle.stl_tree.specs.Flows.{AreHeads, AreSegmentsFrom, Flow, Segment, blocks_of}
+use Rattle.nesting_rules.specs.NestedJumps.{IsWellNested}
 
 -- Segments
 

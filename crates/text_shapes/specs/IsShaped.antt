@@ -3,7 +3,7 @@
 -- Held against: this project's own readable texts.
 use Rattle.std.specs.Prelude.{◌≡◌, ℕ, ◌≤◌, List, Option, Some}
 use Rattle.st_tree.specs.declared.program.Stmt.{Stmt}
-use Rattle.stl_tree.specs.WellNested.{Flow, Segment}
+use Rattle.stl_tree.specs.Flows.{Flow, Segment}
 use Rattle.text_shapes.specs.Allowed.{AreAmong, AreJudged, AreSegmentsOf, Judgement, arms_allowed, loops_allowed, selectors_allowed}
 use Rattle.text_shapes.specs.Shape.{KeepSelector, count_in, loops, other_cases, selector_arms, selector_cases, tests}
 

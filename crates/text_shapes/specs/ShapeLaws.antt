@@ -9,7 +9,7 @@ use Rattle.st_tree.specs.declared.program.CaseArm.{CaseArm}
 use Rattle.st_tree.specs.declared.program.Stmt.{Stmt}
 use Rattle.st_tree.specs.declared.program.Stmt.TheOpen as S
 use Rattle.st_tree.specs.declared.program.Stmt.TheVariants as stmt
-use Rattle.stl_tree.specs.WellNested.{Flow, Segment}
+use Rattle.stl_tree.specs.Flows.{Flow, Segment}
 use Rattle.text_shapes.specs.Allowed.{AreAmong}
 use Rattle.text_shapes.specs.IsShaped.{IsShaped}
 use Rattle.text_shapes.specs.Shape.{KeepsSelector, count_in, loops, other_cases, selector_arms, selector_cases, tests}

@@ -7,7 +7,8 @@ use Rattle.std.proofs.lemmas.Option.{same_Some, slice_get-map}
 use Rattle.st_tree.specs.declared.graph.StNode.{StNode}
 use Rattle.stl_tree.specs.Blocks.{Way, stops}
 use Rattle.stl_tree.specs.Segments.{IsOneOf, IsReached, JumpsTo, Ways}
-use Rattle.stl_tree.specs.WellNested.{GoesOn, IsJump, IsList, IsSegment, IsShallow, IsWellNested, Segment, blocks_of, jumps_of, ways_by}
+use Rattle.stl_tree.specs.Flows.{GoesOn, IsJump, IsList, IsSegment, Segment, blocks_of, jumps_of, ways_by}
+use Rattle.nesting_rules.specs.NestedJumps.{IsShallow, IsWellNested}
 use Rattle.graph_rules.specs.Flow.{flow_of, way_by}
 use Rattle.region_laws.specs.Regions.{Mark, arm_of}
 use Rattle.region_plans.specs.Charts.{IsHeaded}

@@ -6,7 +6,7 @@ use Rattle.std.proofs.lemmas.List.{length-map}
 use Rattle.std.proofs.lemmas.Option.{slice_get-map}
 use Rattle.st_tree.specs.declared.graph.StNode.{StNode}
 use Rattle.stl_tree.specs.Segments.{AreAscending, AreAscendingAfter, AreCuts, IsCut, IsOneOf, IsReached, JumpsTo, Ways, fall, jump}
-use Rattle.stl_tree.specs.WellNested.{GoesOn, IsSegment, blocks_of, ways_by}
+use Rattle.stl_tree.specs.Flows.{GoesOn, IsSegment, blocks_of, ways_by}
 use Rattle.graph_rules.specs.Flow.{flow_of, way_by}
 use Rattle.nesting_laws.specs.Plans.{LeadsTo}
 use Rattle.region_plans.specs.PlanRegion.{Chart}

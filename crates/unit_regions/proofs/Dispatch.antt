@@ -9,7 +9,7 @@ use Rattle.st_tree.specs.declared.graph.StNode.{StNode}
 use Rattle.st_tree.specs.declared.program.Stmt.{Stmt}
 use Rattle.stl_tree.specs.Blocks.{always, if_made, on, one_of, unless_ended}
 use Rattle.stl_tree.specs.Segments.{IsOneOf}
-use Rattle.stl_tree.specs.WellNested.{GoesOn, IsSegment, Segment}
+use Rattle.stl_tree.specs.Flows.{GoesOn, IsSegment, Segment}
 use Rattle.graph_rules.specs.Flow.{way_by}
 use Rattle.nesting_laws.specs.Plans.{LeadsTo}
 use Rattle.region_laws.specs.Regions.{Around, Fits, IsNode, Mark, Place, arm_of, at, inside, is_arm, leaves, ended, loop_head, no_loop, off, out, selected, turn_to, unmarked}

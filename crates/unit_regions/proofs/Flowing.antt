@@ -9,7 +9,7 @@ use Rattle.st_tree.specs.declared.graph.StExit.{StExit}
 use Rattle.st_tree.specs.declared.graph.StExit.TheVariants as exit
 use Rattle.st_tree.specs.declared.graph.StNode.{StNode}
 use Rattle.stl_tree.specs.Blocks.{Way}
-use Rattle.stl_tree.specs.WellNested.{falls_by, jumps_of}
+use Rattle.stl_tree.specs.Flows.{falls_by, jumps_of}
 use Rattle.graph_rules.specs.Flow.{flow_of, way_by}
 use Rattle.graph_rules.specs.Plain.{LeadsInside}
 use Rattle.nesting_laws.specs.PlanLaws.{IsFlow}

@@ -2,7 +2,7 @@
 use Rattle.std.proofs.Common.{◌≡◌, ◌⊎◌, inl, inr, ⊎_elim, ℕ, ◌<◌, Bool, true, false, ◌&&◌, List, [], ◌∷◌, ◌++◌, append_assoc, length, Option, Some, None, refl, sym, ap, subst, arith}
 use Rattle.std.proofs.lemmas.Bool.{and_parts}
 use Rattle.stl_tree.specs.Segments.{AreCuts, IsCut, IsReached, first}
-use Rattle.stl_tree.specs.WellNested.{IsSegment, blocks_of}
+use Rattle.stl_tree.specs.Flows.{IsSegment, blocks_of}
 use Rattle.graph_rules.specs.Flow.{flow_of}
 use Rattle.nesting_laws.specs.Plans.{Plan}
 use Rattle.region_laws.specs.Regions.{Fits, at, no_loop, out}

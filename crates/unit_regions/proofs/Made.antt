@@ -7,7 +7,8 @@ use Rattle.st_tree.specs.declared.graph.StNode.{StNode}
 use Rattle.st_tree.specs.declared.program.Stmt.{Stmt}
 use Rattle.stl_tree.specs.Blocks.{stops}
 use Rattle.stl_tree.specs.Segments.{IsCut, IsOneOf, JumpsTo, Ways}
-use Rattle.stl_tree.specs.WellNested.{IsEndBlock, IsSegment, IsWellNested, blocks_of, ways_by}
+use Rattle.stl_tree.specs.Flows.{IsEndBlock, IsSegment, blocks_of, ways_by}
+use Rattle.nesting_rules.specs.NestedJumps.{IsWellNested}
 use Rattle.graph_rules.specs.Flow.{flow_of, way_by}
 use Rattle.graph_rules.specs.Plain.{AreSettings, IsOnlyEnd}
 use Rattle.nesting_laws.specs.Plans.{LeadsTo, Plan}

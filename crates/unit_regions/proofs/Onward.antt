@@ -6,7 +6,7 @@ use Rattle.st_tree.specs.declared.graph.StExit.{StExit}
 use Rattle.st_tree.specs.declared.graph.StExit.TheVariants as exit
 use Rattle.stl_tree.specs.Blocks.{always, if_made, on, one_of, unless_ended}
 use Rattle.stl_tree.specs.Segments.{AreCuts}
-use Rattle.stl_tree.specs.WellNested.{GoesOn, IsJump, IsLoop, IsSegment, Segment, blocks_of}
+use Rattle.stl_tree.specs.Flows.{GoesOn, IsJump, IsLoop, IsSegment, Segment, blocks_of}
 use Rattle.graph_rules.specs.Flow.{flow_of, way_by}
 use Rattle.nesting_laws.specs.Plans.{LeadsTo}
 use Rattle.region_laws.specs.Regions.{IsOnward, LeadsOnward, takes_unit}

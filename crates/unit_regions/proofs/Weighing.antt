@@ -7,7 +7,7 @@ use Rattle.st_tree.specs.declared.graph.StExit.TheVariants as exit
 use Rattle.st_tree.specs.declared.graph.StNode.{StNode}
 use Rattle.st_tree.specs.declared.program.Stmt.{Stmt}
 use Rattle.stl_tree.specs.Segments.{AreCuts}
-use Rattle.stl_tree.specs.WellNested.{blocks_of}
+use Rattle.stl_tree.specs.Flows.{blocks_of}
 use Rattle.graph_rules.specs.Flow.{flow_of}
 use Rattle.nesting_laws.specs.Plans.{Plan, no_loop}
 use Rattle.region_laws.specs.Regions.{Mark, Place, Region, again, arm_of, cycle, ended, fork, labels_from, leaves, loop_head, node, off, quit, selector, table, turn_to, unmarked}

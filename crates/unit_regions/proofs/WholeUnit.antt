@@ -4,7 +4,7 @@ use Rattle.std.proofs.lemmas.Bool.{eqb-true}
 use Rattle.st_tree.specs.declared.graph.StNode.{StNode}
 use Rattle.st_tree.specs.declared.program.Stmt.{Stmt}
 use Rattle.stl_tree.specs.Segments.{IsReached, first}
-use Rattle.stl_tree.specs.WellNested.{IsSegment, blocks_of}
+use Rattle.stl_tree.specs.Flows.{IsSegment, blocks_of}
 use Rattle.graph_rules.specs.Flow.{flow_of}
 use Rattle.nesting_laws.specs.Plans.{Plan}
 use Rattle.nesting_laws.proofs.OnePlan.{plan_is_low}

@@ -5,7 +5,8 @@ use Rattle.std.specs.Prelude.{◌≡◌, ℕ, zero, suc, ◌-◌, ◌<◌, ◌�
 use Rattle.st_tree.specs.declared.graph.StNode.{StNode}
 use Rattle.st_tree.specs.declared.program.Stmt.{Stmt}
 use Rattle.stl_tree.specs.Segments.{IsReached, JumpsTo, Ways}
-use Rattle.stl_tree.specs.WellNested.{IsWellNested, blocks_of}
+use Rattle.stl_tree.specs.Flows.{blocks_of}
+use Rattle.nesting_rules.specs.NestedJumps.{IsWellNested}
 use Rattle.graph_rules.specs.Flow.{flow_of}
 use Rattle.graph_rules.specs.Plain.{IsPlainNode}
 use Rattle.nesting_laws.specs.Plans.{IsPlanOf, Plan}

@@ -3,7 +3,7 @@
 use Rattle.std.specs.Prelude.{◌≡◌, ◌⊎◌, ◌↔◌, ℕ, ◌<◌, ◌≤◌, Bool, true, false, ◌&&◌, List, [], ◌∷◌, length, Option, Some, None}
 use Rattle.st_tree.specs.declared.graph.StNode.{StNode}
 use Rattle.stl_tree.specs.Segments.{AreCuts, IsReached}
-use Rattle.stl_tree.specs.WellNested.{IsSegment, Segment, blocks_of}
+use Rattle.stl_tree.specs.Flows.{IsSegment, Segment, blocks_of}
 use Rattle.graph_rules.specs.Flow.{flow_of}
 use Rattle.nesting_laws.specs.Plans.{IsPlanOf, Plan}
 use Rattle.region_laws.specs.Regions.{arm_of}

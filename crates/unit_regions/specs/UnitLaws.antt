@@ -7,7 +7,7 @@ use Rattle.st_tree.specs.declared.graph.StNode.{StNode}
 use Rattle.st_tree.specs.declared.program.Stmt.{Stmt}
 use Rattle.st_tree.specs.declared.program.Stmt.TheVariants as stmt
 use Rattle.stl_tree.specs.Segments.{AreCuts}
-use Rattle.stl_tree.specs.WellNested.{IsSegment, blocks_of}
+use Rattle.stl_tree.specs.Flows.{IsSegment, blocks_of}
 use Rattle.graph_rules.specs.Flow.{flow_of}
 use Rattle.graph_rules.specs.Plain.{AreSettings, AreSteps}
 use Rattle.nesting_laws.specs.Plans.{LeadsTo}

@@ -3,7 +3,7 @@ use Rattle.std.specs.Prelude.{◌≡◌, ℕ, ◌==◌, Bool, true, false, not, 
 use Rattle.st_tree.specs.declared.graph.StExit.{StExit}
 use Rattle.st_tree.specs.declared.graph.StNode.{StNode}
 use Rattle.st_tree.specs.declared.program.Stmt.{Stmt}
-use Rattle.stl_tree.specs.WellNested.{IsSegment, Segment}
+use Rattle.stl_tree.specs.Flows.{IsSegment, Segment}
 use Rattle.graph_rules.specs.Flow.{flow_of}
 use Rattle.region_laws.specs.Regions.{Place, Region, text_of}
 use Rattle.region_plans.specs.PlanRegion.{Chart, exit_region, tail_to}

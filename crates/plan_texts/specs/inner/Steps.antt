@@ -5,7 +5,7 @@ use Rattle.st_tree.specs.declared.graph.StExit.{StExit}
 use Rattle.st_tree.specs.declared.graph.StExit.TheVariants as exit
 use Rattle.st_tree.specs.declared.graph.StNode.{StNode}
 use Rattle.st_tree.specs.declared.program.Stmt.{Stmt}
-use Rattle.stl_tree.specs.WellNested.{Segment}
+use Rattle.stl_tree.specs.Flows.{Segment}
 use Rattle.nesting_laws.specs.Plans.{Plan}
 use Rattle.region_laws.specs.Regions.{Place, Region, at as place_at, off, text_of}
 use Rattle.region_plans.specs.PlanRegion.{Chart, fork_region, loop_region, one_region, region_of}

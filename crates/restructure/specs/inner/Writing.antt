@@ -2,7 +2,7 @@
 use Rattle.std.specs.Prelude.{◌≡◌, ℕ, ◌+◌, Bool, List, [], ◌∷◌, ◌++◌, length, Option}
 use Rattle.st_tree.specs.declared.graph.StNode.{StNode}
 use Rattle.st_tree.specs.declared.program.Stmt.{Stmt}
-use Rattle.stl_tree.specs.WellNested.{IsSegment}
+use Rattle.stl_tree.specs.Flows.{IsSegment}
 use Rattle.graph_rules.specs.Flow.{flow_of}
 use Rattle.nesting_laws.specs.Plans.{Plan}
 use Rattle.segment_plans.specs.Counts.{is_reached, last_of}

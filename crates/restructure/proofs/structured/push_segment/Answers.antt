@@ -1,6 +1,6 @@
 use Rattle.std.proofs.Common.{sym, ◌∙◌, refl}
 use Rattle.std.proofs.lemmas.Bool.{false≢true}
-use Rattle.stl_tree.specs.WellNested.{IsWellNested}
+use Rattle.nesting_rules.specs.NestedJumps.{IsWellNested}
 use Rattle.unit_regions.specs.UnitCharts.{blocks_between}
 use Rattle.restructure.proofs.Segments.{by_plan, by_turns}
 use Rattle.restructure.proofs.Units.{past_within}
