@@ -11,9 +11,10 @@ ghost use Rattle.stl_rules.specs.Stages.{names as names_stage, symbols_behind};
 ghost use Rattle.stl_rules.specs.Verdict.{resolved_program};
 ghost use Rattle.symbol_names.specs.inner.Kept.{block_within, data_kept, instance_kept, symbol_kept};
 
-use crate::blocks::{Blocks, Known, note_blocks, put_blocks, variables_of};
-use crate::data::{FoundDataBlocks, note_too_many, put_dbs};
+use crate::blocks::{Known, note_blocks, put_blocks, variables_of};
+use crate::data::{note_too_many, put_dbs};
 use crate::headings::{is_address, note_symbols};
+use block_variables::BlockVariables;
 use data_contents::in_order;
 use memory_areas::{Area, AreaName, DataBlock, Place};
 use name_tables::Names;
@@ -40,8 +41,42 @@ fn first_in_symbols(alloc: Global, names: &Names<'_>) -> Result<Option<Break>, N
     Ok(first)
 }
 
-/// All rules that a raw program breaks, and the parts that can be made.
+/// All rules that a raw program breaks, and the parts that can be made, by what its names mean and by the variables of
+/// its blocks.
 #[tactic(auto, using(crate::proofs::Parts::first_of_names))]
+fn parts_with<'s, 't>(
+    alloc: Global,
+    names: &'s Names<'t>,
+    variables: &'s [BlockVariables<'t>],
+    raw: &'t RawProgram,
+    first: Option<Break>,
+) -> Result<ProgramParts, NoMemory>
+    requires names { names.now ≡ raw.now }
+    requires variables { variables.now ≡ raw.now.blocks }
+    requires first { first ≡ with_breaks None (symbols_behind [] raw.now.symbols) }
+    ensures dbs { IfOk result (λ p. p.dbs ≡ filter_map (data_kept (is_none (slice_get raw.now.dbs MOST_BLOCKS)) raw.now) raw.now.dbs) }
+    ensures instances { IfOk result (λ p. p.instances ≡ filter_map (instance_kept raw.now) raw.now.dbs) }
+    ensures blocks { IfOk result (λ p. p.blocks ≡ map (block_within raw.now) raw.now.blocks) }
+    ensures first { IfOk result (λ p. p.first ≡ first_of_all (names_stage raw.now)) }
+{
+    let found = put_dbs(alloc, names, variables, true, raw.dbs.as_slice(), first)?;
+    let mut later = found.first;
+    note_too_many(raw.dbs.as_slice(), &mut later);
+    let known = Known {
+        names,
+        declarations: found.declarations.as_slice(),
+        variables,
+    };
+    let blocks = put_blocks(alloc, &known, raw.blocks.as_slice(), later)?;
+    Ok(ProgramParts {
+        dbs: found.made,
+        instances: found.instances,
+        blocks: blocks.made,
+        first: blocks.first,
+    })
+}
+
+/// All rules that a raw program breaks, and the parts that can be made.
 fn parts_of(alloc: Global, raw: &RawProgram) -> Result<ProgramParts, NoMemory>
     ensures dbs { IfOk result (λ p. p.dbs ≡ filter_map (data_kept (is_none (slice_get raw.now.dbs MOST_BLOCKS)) raw.now) raw.now.dbs) }
     ensures instances { IfOk result (λ p. p.instances ≡ filter_map (instance_kept raw.now) raw.now.dbs) }
@@ -51,63 +86,44 @@ fn parts_of(alloc: Global, raw: &RawProgram) -> Result<ProgramParts, NoMemory>
     let names = Names::new(alloc, raw)?;
     let first = first_in_symbols(alloc, &names)?;
     let variables = variables_of(alloc, raw.blocks.as_slice())?;
-    let FoundDataBlocks {
-        declarations,
-        made,
-        instances,
-        first,
-    } = put_dbs(
-        alloc,
-        &names,
-        variables.as_slice(),
-        true,
-        raw.dbs.as_slice(),
-        first,
-    )?;
-    let mut later = first;
+    parts_with(alloc, &names, variables.as_slice(), raw, first)
+}
+
+/// The first rule of names, blocks and layouts that a raw program breaks, by what its names mean and by the variables
+/// of its blocks.
+#[tactic(auto, using(crate::proofs::Parts::first_of_names))]
+fn first_with<'s, 't>(
+    alloc: Global,
+    names: &'s Names<'t>,
+    variables: &'s [BlockVariables<'t>],
+    raw: &'t RawProgram,
+    first: Option<Break>,
+) -> Result<Option<Break>, NoMemory>
+    requires names { names.now ≡ raw.now }
+    requires variables { variables.now ≡ raw.now.blocks }
+    requires first { first ≡ with_breaks None (symbols_behind [] raw.now.symbols) }
+    ensures { IfOk result (λ first. first ≡ first_of_all (names_stage raw.now)) }
+{
+    let found = put_dbs(alloc, names, variables, false, raw.dbs.as_slice(), first)?;
+    let mut later = found.first;
     note_too_many(raw.dbs.as_slice(), &mut later);
     let known = Known {
-        names: &names,
-        declarations: declarations.as_slice(),
-        variables: variables.as_slice(),
+        names,
+        declarations: found.declarations.as_slice(),
+        variables,
     };
-    let Blocks {
-        made: blocks,
-        first,
-    } = put_blocks(alloc, &known, raw.blocks.as_slice(), later)?;
-    Ok(ProgramParts {
-        dbs: made,
-        instances,
-        blocks,
-        first,
-    })
+    note_blocks(alloc, &known, raw.blocks.as_slice(), &mut later)?;
+    Ok(later)
 }
 
 /// The first rule of names, blocks and layouts that a raw program breaks. Nothing is made of it.
-#[tactic(auto, using(crate::proofs::Parts::first_of_names))]
 pub fn first_in_names(alloc: Global, raw: &RawProgram) -> Result<Option<Break>, NoMemory>
     ensures { IfOk result (λ first. first ≡ first_of_all (names_stage raw.now)) }
 {
     let names = Names::new(alloc, raw)?;
     let first = first_in_symbols(alloc, &names)?;
     let variables = variables_of(alloc, raw.blocks.as_slice())?;
-    let found = put_dbs(
-        alloc,
-        &names,
-        variables.as_slice(),
-        false,
-        raw.dbs.as_slice(),
-        first,
-    )?;
-    let mut later = found.first;
-    note_too_many(raw.dbs.as_slice(), &mut later);
-    let known = Known {
-        names: &names,
-        declarations: found.declarations.as_slice(),
-        variables: variables.as_slice(),
-    };
-    note_blocks(alloc, &known, raw.blocks.as_slice(), &mut later)?;
-    Ok(later)
+    first_with(alloc, &names, variables.as_slice(), raw, first)
 }
 
 /// The area of a symbol's place.
