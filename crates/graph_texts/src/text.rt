@@ -1,5 +1,5 @@
 //! The text of a graph program, a unit at a time.
-ghost use Rattle.std.specs.Prelude.{◌≡◌, All, IfOk};
+ghost use Rattle.std.specs.Prelude.{◌≡◌, [], All, IfOk};
 ghost use Rattle.graph_rules.specs.Plain.{IsPlainUnit, Plain};
 ghost use Rattle.st_tree.specs.Proper.{Proper};
 ghost use Rattle.graph_texts.specs.Heads.{KeepHeads};
@@ -15,12 +15,13 @@ use st_tree::{GraphPou, GraphProgram, Local, Pou, StProgram, StType};
 use std::alloc::Global;
 
 /// The tree of a text that means the same as a plain graph program, and that a text can have. Its units are called as
-/// those of the graph program.
+/// those of the graph program, and it has no globals.
 pub fn text_of_graph(alloc: Global, graph: GraphProgram) -> Result<StProgram, NoMemory>
     requires { Plain graph }
     ensures proper { IfOk result Proper }
     ensures same { IfOk result (λ tree. SameAsGraph graph tree) }
     ensures heads { IfOk result (λ tree. KeepHeads graph.pous tree.pous) }
+    ensures globals { IfOk result (λ tree. tree.globals ≡ []) }
     ensures shape { IfOk result (λ tree. HaveShapes graph.pous tree.pous) }
 {
     tree_of(alloc, graph)

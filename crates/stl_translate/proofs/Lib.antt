@@ -1,6 +1,7 @@
 mod BodyCounts
 mod BodyShapes
 mod Names
+mod Polished
 mod Shapes
 mod StepTests
 mod Text

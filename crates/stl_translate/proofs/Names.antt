@@ -9,7 +9,7 @@ use Rattle.st_tree.specs.declared.program.Pou.{Pou}
 use Rattle.st_tree.specs.declared.program.StProgram.{StProgram}
 use Rattle.stl_tree.specs.declared.program.Block.{Block}
 use Rattle.stl_tree.specs.declared.program.Program.{Program}
-use Rattle.stl_translate.specs.Named.{AreNamedAs, Named}
+use Rattle.stl_translate.specs.Named.{AreNamedAs}
 
 named_as : (blocks : List Block) (units : List GraphPou) (texts : List Pou) → AreUnitsOf blocks units → KeepHeads units texts
     → AreNamedAs blocks texts
@@ -28,5 +28,6 @@ named_as [] (unit ∷ units) texts h k = absurd h
 named_as (block ∷ blocks) [] texts h k = absurd h
 named_as (block ∷ blocks) (unit ∷ units) [] h k = absurd k
 
-pub named_whole : (program : Program) (graph : GraphProgram) (tree : StProgram) → Lowered program graph → KeepHeads graph.pous tree.pous → Named program tree
-named_whole program graph tree lowered heads = named_as (in_order program.blocks) graph.pous tree.pous lowered.units heads
+pub named_whole : (program : Program) (graph : GraphProgram) (text : StProgram) → Lowered program graph → KeepHeads graph.pous text.pous
+    → AreNamedAs (in_order program.blocks) text.pous
+named_whole program graph text lowered heads = named_as (in_order program.blocks) graph.pous text.pous lowered.units heads

@@ -1,9 +1,10 @@
 -- What the units of a text, their formals and their locals are called: functions stand first, then function blocks,
--- then organization blocks, each by its number.
+-- then organization blocks, each by its number. And by which symbols it names places.
 -- Held against: this project's own names.
 use Rattle.std.specs.Prelude.{◌≡◌, List, [], ◌∷◌, All}
 use Rattle.graph_texts.specs.Heads.{IsNamedLocal}
 use Rattle.instruction_lowering.specs.UnitNames.{in_order, unit_formals}
+use Rattle.st_polish.specs.Symbols.{NamesSymbols}
 use Rattle.st_tree.specs.StRun.{called_name, is_program}
 use Rattle.st_tree.specs.declared.program.Pou.{Pou}
 use Rattle.st_tree.specs.declared.program.StProgram.{StProgram}
@@ -24,6 +25,7 @@ AreNamedAs [] (unit ∷ units) = ⊥
 AreNamedAs (block ∷ blocks) [] = ⊥
 AreNamedAs (block ∷ blocks) (unit ∷ units) = IsNamedAs block unit × AreNamedAs blocks units
 
--- the units of a text have the names of a program's blocks
-abbrev pub Named : Program → StProgram → Type 0
-Named program tree = AreNamedAs (in_order program.blocks) tree.pous
+-- the units of a text have the names of a program's blocks, and its globals are symbols of the program
+pub record Named (program : Program) (tree : StProgram) : Type 0 where
+  pub units : AreNamedAs (in_order program.blocks) tree.pous
+  pub symbols : NamesSymbols program.symbols tree

@@ -1,3 +1,4 @@
+use Rattle.std.proofs.Common.{◌≡◌, [], ◌∙◌}
 use Rattle.std.proofs.lemmas.Result.{IfOk-weaker}
 use Rattle.graph_texts.specs.Heads.{KeepHeads}
 use Rattle.region_laws.specs.SameRuns.{SameAsGraph}
@@ -28,3 +29,8 @@ returns-clause-heads c =
     let graph = c.args.graph in
     IfOk-weaker c.tree_of.result (HasProperTexts graph) (λ (tree : StProgram). KeepHeads graph.pous tree.pous)
     (λ tree t. keep_heads graph.pous tree.pous c.requires.units t.units) c.tree_of.ensures.texts
+
+pub returns-clause-globals : goal.returns-clause-globals
+returns-clause-globals c =
+    IfOk-weaker c.tree_of.result (HasProperTexts c.args.graph) (λ (tree : StProgram). tree.globals ≡ [])
+    (λ tree t. t.globals ∙ c.requires.globals) c.tree_of.ensures.texts

@@ -1,30 +1,53 @@
+use Rattle.std.proofs.Common.{List, subst, sym}
+use Rattle.std.specs.Prelude.{All}
 use Rattle.std.proofs.lemmas.Result.{IfOk-weaker}
-use Rattle.graph_texts.specs.Heads.{KeepHeads}
-use Rattle.graph_texts.specs.Shapes.{HaveShapes}
-use Rattle.region_laws.specs.SameRuns.{SameAsGraph}
+use Rattle.condition_laws.specs.NoLarger.{HasNoLarger}
+use Rattle.st_polish.specs.Names.{KeepsNames}
+use Rattle.st_polish.specs.SameRuns.{RunsAsBefore}
 use Rattle.st_tree.specs.declared.program.StProgram.{StProgram}
+use Rattle.stl_tree.specs.Accepted.{IsSymbol}
+use Rattle.stl_tree.specs.declared.program.Symbol.{Symbol}
 use Rattle.stl_translate.specs.Named.{Named}
 use Rattle.stl_translate.specs.Same.{Same}
 use Rattle.stl_translate.specs.Shape.{Shape}
 use Rattle.stl_translate.proofs.Names.{named_whole}
+use Rattle.stl_translate.proofs.Polished.{if_both, named_polished, same_polished, shape_polished}
 use Rattle.stl_translate.proofs.Shapes.{shape_whole}
 use Rattle.stl_translate.proofs.Text.{same_whole}
 use Rattle.stl_translate.proofs.translation.translate.Goals as goal
 
+pub polish-requires-clause-symbols : goal.polish-requires-clause-symbols
+polish-requires-clause-symbols c = subst (All IsSymbol) (sym c.as_slice.ensures) c.requires.symbols
+
 pub returns-clause-same : goal.returns-clause-same
 returns-clause-same c =
+    let program = c.args.program.now in
     let graph = c.in_ok-graph.graph in
-    IfOk-weaker c.text_of_graph.result (λ (tree : StProgram). SameAsGraph graph tree) (λ (tree : StProgram). Same c.args.program.now tree)
-    (λ tree e. same_whole c.args.program.now graph tree c.in_ok-graph.ensures.same e) c.text_of_graph.ensures.same
+    let text = c.in_ok-text.text in
+    IfOk-weaker c.polish.result (λ (tree : StProgram). RunsAsBefore text tree) (λ (tree : StProgram). Same program tree)
+    (λ tree before.
+    same_polished program text tree (same_whole program graph text c.in_ok-graph.ensures.same c.in_ok-text.ensures.same) before)
+    c.polish.ensures.same
 
 pub returns-clause-named : goal.returns-clause-named
 returns-clause-named c =
+    let program = c.args.program.now in
     let graph = c.in_ok-graph.graph in
-    IfOk-weaker c.text_of_graph.result (λ (tree : StProgram). KeepHeads graph.pous tree.pous) (λ (tree : StProgram). Named c.args.program.now tree)
-    (λ tree h. named_whole c.args.program.now graph tree c.in_ok-graph.ensures.same h) c.text_of_graph.ensures.heads
+    let text = c.in_ok-text.text in
+    IfOk-weaker c.polish.result (λ (tree : StProgram). KeepsNames c.as_slice.result.now text tree) (λ (tree : StProgram). Named program tree)
+    (λ tree names.
+    named_polished program text tree (named_whole program graph text c.in_ok-graph.ensures.same c.in_ok-text.ensures.heads)
+    (subst (λ (symbols : List Symbol). KeepsNames symbols text tree) c.as_slice.ensures names))
+    c.polish.ensures.names
 
 pub returns-clause-shape : goal.returns-clause-shape
 returns-clause-shape c =
+    let program = c.args.program.now in
     let graph = c.in_ok-graph.graph in
-    IfOk-weaker c.text_of_graph.result (λ (tree : StProgram). HaveShapes graph.pous tree.pous) (λ (tree : StProgram). Shape c.args.program.now tree)
-    (λ tree h. shape_whole c.args.program.now graph tree c.in_ok-graph.ensures.same h) c.text_of_graph.ensures.shape
+    let text = c.in_ok-text.text in
+    if_both c.polish.result (λ (tree : StProgram). KeepsNames c.as_slice.result.now text tree) (λ (tree : StProgram). HasNoLarger text tree)
+    (λ (tree : StProgram). Shape program tree)
+    (λ tree names less.
+    shape_polished program text tree (shape_whole program graph text c.in_ok-graph.ensures.same c.in_ok-text.ensures.shape) names.units
+    less)
+    c.polish.ensures.names c.polish.ensures.shape

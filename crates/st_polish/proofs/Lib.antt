@@ -1,0 +1,5 @@
+mod Fits
+mod Keeping
+mod Larger
+mod Named
+mod Selector
