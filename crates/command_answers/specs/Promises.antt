@@ -1,7 +1,7 @@
 -- What each exit status promises. What the sink took, that a translation means what the source means, and that a
 -- fault is named only where one happened.
 -- Held against: this project's own claim.
-use Rattle.std.specs.Prelude.{◌≡◌, ℕ, ◌⊎◌, List, Option, None, Some}
+use Rattle.std.specs.Prelude.{◌≡◌, ℕ, ◌⊎◌, List, Option, Some}
 use Rattle.s7_io.specs.Sink.{Took, TookFewer}
 use Rattle.stl_tree.specs.declared.program.Program.{Program}
 use Rattle.command_answers.specs.Answer.{Reply, Answers, IsAcceptedAs, Translates, Wants, WantsSource}

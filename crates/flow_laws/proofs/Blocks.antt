@@ -42,33 +42,40 @@ falls_by : (blocks : List Node) (e : Exit) → IsExitTo blocks on e → e ≡ wa
 falls_by blocks way.Fall h = refl
 falls_by blocks e h = elim h [ ]
 
-selects_by : (blocks : List Node) (n label : ℕ) (ys : List Instr) (e : Exit) → AreListed n ys
-    → IsExitTo blocks (one_of (flat_map (λ (i : Instr). targets_of i.op) (take n ys)) label) e → Selects blocks n label (take n ys) e
-selects_by blocks n label ys (way.Table js j) h to =
+selects_by : (blocks : List Node) (i n label : ℕ) (ys : List Instr) (e : Exit) → AreListed n ys
+    → ((j : ℕ) → BeginsAt blocks j label → j ≡ suc i)
+    → IsExitTo blocks (one_of (flat_map (λ (i : Instr). targets_of i.op) (take n ys)) label) e → Selects blocks i n label (take n ys) e
+selects_by blocks i n label ys (way.Table js j) h once to =
     record {
       nodes = js;
       node = j;
       exit = refl;
+      next = once j to.1;
       count = taken_long n ys (long_list n ys h);
       listed = listed_to blocks n ys js h to.0;
       there = to.1;
     }
-selects_by blocks n label ys e h to = elim to [ ]
+selects_by blocks i n label ys e h once to = elim to [ ]
 
 -- Blocks
+
+-- an instruction is no jump list
+abbrev IsNoList : Op → Type 0
+IsNoList (op.JumpList count label) = ⊥
+IsNoList other = Unit {0}
 
 -- an instruction that stands inside a block, or at its end
 data Turn (o : Op) : Type 0 where
   stands_inside : IsInside o → goes_elsewhere o ≡ false → ((n : ℕ) → still_listed o n ≡ n - 1) → way_after o ≡ on → Turn o
   begins_list : (count label : ℕ) → o ≡ op.JumpList count label → Turn o
-  ends_block : goes_elsewhere o ≡ true → still_listed o 0 ≡ 0 → ((n : ℕ) → open_behind o n ≡ none_open n) → Turn o
+  ends_block : IsNoList o → goes_elsewhere o ≡ true → still_listed o 0 ≡ 0 → ((n : ℕ) → open_behind o n ≡ none_open n) → Turn o
 
 turn_of : (o : Op) → Turn o
-turn_of (op.Jump t to) = ends_block refl refl (λ n. refl)
-turn_of (op.Loop to) = ends_block refl refl (λ n. refl)
+turn_of (op.Jump t to) = ends_block tt refl refl (λ n. refl)
+turn_of (op.Loop to) = ends_block tt refl refl (λ n. refl)
 turn_of (op.JumpList count label) = begins_list count label refl
-turn_of op.BlockEnd = ends_block refl refl (λ n. refl)
-turn_of op.BlockEndIf = ends_block refl refl (λ n. refl)
+turn_of op.BlockEnd = ends_block tt refl refl (λ n. refl)
+turn_of op.BlockEndIf = ends_block tt refl refl (λ n. refl)
 turn_of o = stands_inside tt refl (λ n. refl) refl
 
 goes_inside : (blocks : List Node) (i at : ℕ) (o : Op) (rest : List Instr) (e : Exit) (later : Type 0) → IsInside o → later → GoesBy blocks i at o rest e later
@@ -84,21 +91,15 @@ way_inside (op.JumpList count label) rest w h = elim h [ ]
 way_inside o rest w h = refl
 
 -- an instruction at the end of its block, that is no jump list: what its exit leads to; one that may go on begins a block
-closing_goes : (o : Op) → goes_elsewhere o ≡ true → still_listed o 0 ≡ 0 → (blocks : List Node) (i at : ℕ) (e : Exit) (later : Type 0)
+closing_goes : (o : Op) → IsNoList o → goes_elsewhere o ≡ true → still_listed o 0 ≡ 0 → (blocks : List Node) (i at : ℕ) (e : Exit) (later : Type 0)
     → ((o ≡ op.BlockEnd → ⊥) → BeginsAt blocks (suc i) (at + 1)) → IsExitTo blocks (way_after o) e → GoesBy blocks i at o [] e later
-closing_goes (op.Jump jump.Always to) elsewhere none blocks i at e later behind h = jumps_to blocks to [] e refl h
-closing_goes (op.Jump t to) elsewhere none blocks i at e later behind h = branches_to blocks i at to [] e refl (behind (λ f. cc)) h
-closing_goes (op.Loop to) elsewhere none blocks i at e later behind h = branches_to blocks i at to [] e refl (behind (λ f. cc)) h
-closing_goes (op.JumpList count label) elsewhere none blocks i at (way.Table js j) later behind h =
-    record { nodes = js; node = j; exit = refl; count = sym none; listed = no_nodes js h.0; there = h.1 }
-  where
-    no_nodes : (js : List ℕ) → BeginAt blocks js [] → AreListedTo blocks [] js
-    no_nodes [] h = tt
-    no_nodes (j ∷ js) h = elim h [ ]
-closing_goes (op.JumpList count label) elsewhere none blocks i at e later behind h = elim h [ ]
-closing_goes op.BlockEnd elsewhere none blocks i at e later behind h = ends_by blocks [] e refl h
-closing_goes op.BlockEndIf elsewhere none blocks i at e later behind h = ends_if_by blocks i at [] e refl (behind (λ f. cc)) h
-closing_goes o elsewhere none blocks i at e later behind h = absurd (never elsewhere)
+closing_goes (op.Jump jump.Always to) free elsewhere none blocks i at e later behind h = jumps_to blocks to [] e refl h
+closing_goes (op.Jump t to) free elsewhere none blocks i at e later behind h = branches_to blocks i at to [] e refl (behind (λ f. cc)) h
+closing_goes (op.Loop to) free elsewhere none blocks i at e later behind h = branches_to blocks i at to [] e refl (behind (λ f. cc)) h
+closing_goes (op.JumpList count label) free elsewhere none blocks i at e later behind h = elim free [ ]
+closing_goes op.BlockEnd free elsewhere none blocks i at e later behind h = ends_by blocks [] e refl h
+closing_goes op.BlockEndIf free elsewhere none blocks i at e later behind h = ends_if_by blocks i at [] e refl (behind (λ f. cc)) h
+closing_goes o free elsewhere none blocks i at e later behind h = absurd (never elsewhere)
   where
     never : false ≡ true → ⊥
     never f = cc
@@ -115,7 +116,8 @@ low_or_high (suc n) (suc c) =
 
 module _ (formals : Widths) (body : List Instr) (jumps : AreJumps body) (blocks : List Node) (i : ℕ) (x : Node)
     (within : x.past ≤ length body) (inner : (k : ℕ) → x.first < k → k < x.past → begins_at body k ≡ false)
-    (next : x.past < length body → begins_at body x.past ≡ true) (behind : x.past < length body → BeginsAt blocks (suc i) x.past) where
+    (next : x.past < length body → begins_at body x.past ≡ true) (behind : x.past < length body → BeginsAt blocks (suc i) x.past)
+    (once : (j : ℕ) → BeginsAt blocks j x.past → j ≡ suc i) where
   -- what is found of a block from a position on
   pub record IsFound (at m n : ℕ) (ys : List Instr) : Type 0 where
     pub goes : Goes blocks i at (take n ys) x.exit
@@ -155,8 +157,9 @@ module _ (formals : Widths) (body : List Instr) (jumps : AreJumps body) (blocks 
     last_here = let e : at ≡ at + 0 = omega arith in ap (is_last_at 0 body) e ∙ here.lasts 0
 
     -- a block that ends with the instruction
-    by_last : goes_elsewhere y.op ≡ true → still_listed y.op 0 ≡ 0 → ((k : ℕ) → open_behind y.op k ≡ none_open k) → IsFound at m (suc n) (y ∷ ys)
-    by_last elsewhere none opens =
+    by_last : IsNoList y.op → goes_elsewhere y.op ≡ true → still_listed y.op 0 ≡ 0
+        → ((k : ℕ) → open_behind y.op k ≡ none_open k) → IsFound at m (suc n) (y ∷ ys)
+    by_last free elsewhere none opens =
         let is_last : is_last_at 0 body at ≡ true = last_here ∙ (rw (elsewhere, none) refl) in
         let ends : at + 1 ≡ x.past = ends_there at above (omega arith) is_last in
         let short : n ≡ 0 = omega arith in
@@ -181,7 +184,7 @@ module _ (formals : Widths) (body : List Instr) (jumps : AreJumps body) (blocks 
             subst (BeginsAt blocks (suc i)) (sym ending) (behind (omega (arith, here.size, ending, some)))
 
         goes : IsExitTo blocks (way_after y.op) x.exit → GoesBy blocks i at y.op [] x.exit (Goes blocks i (at + 1) [] x.exit)
-        goes to = closing_goes y.op elsewhere none blocks i at x.exit (Goes blocks i (at + 1) [] x.exit) then_behind to
+        goes to = closing_goes y.op free elsewhere none blocks i at x.exit (Goes blocks i (at + 1) [] x.exit) then_behind to
 
     -- an instruction inside it, and the others
     by_inside : IsInside y.op → goes_elsewhere y.op ≡ false → still_listed y.op 0 ≡ 0 → (k : ℕ) → open_behind y.op m ≡ Some k
@@ -204,7 +207,8 @@ module _ (formals : Widths) (body : List Instr) (jumps : AreJumps body) (blocks 
             (subst (λ (k : ℕ). IsFound at k (suc (suc c)) (y ∷ ys)) (sym closed.0)
             (record {
               goes = subst (λ (o : Op). GoesBy blocks i at o (take (suc c) ys) x.exit (Goes blocks i (at + 1) (take (suc c) ys) x.exit)) (sym is)
-                  (selects_by blocks (suc c) label ys x.exit list.0 way);
+                  (selects_by blocks i (suc c) label ys x.exit list.0
+                  (λ j begins. once j (subst (BeginsAt blocks j) (list.2 ∙ past) begins)) way);
               closed = subst (λ (o : Op). WithNumber (open_behind o 0) (IsClosed (take (suc c) ys))) (sym is) (closed_list (suc c) ys list.0);
               rest = subst (λ (k : ℕ). IsRest formals body k 0 0 (drop (suc c) ys)) past
                   (rest_behind_list formals (suc c) body (at + 1) ys list.0
@@ -304,7 +308,7 @@ module _ (formals : Widths) (body : List Instr) (jumps : AreJumps body) (blocks 
         IsInside y.op → goes_elsewhere y.op ≡ false → way_after y.op ≡ on → (k : ℕ) → IsRest formals body (at + 1) 0 k ys → IsFound (at + 1) k n ys
 
     by_turn : FoundBehind → Turn y.op → IsFound at m (suc n) (y ∷ ys)
-    by_turn others (ends_block elsewhere none opens) = by_last at m n y ys here above reach exit elsewhere none opens
+    by_turn others (ends_block free elsewhere none opens) = by_last at m n y ys here above reach exit free elsewhere none opens
     by_turn others (begins_list count label is) =
         by_list at m n y ys here above reach exit count label is (some_listed y.op count label is (All-head (HasItsOperand formals) y ys here.operands))
     by_turn others (stands_inside is_inside elsewhere one_less on_way) =

@@ -51,10 +51,12 @@ pub record Jumps (blocks : List Node) (to : ℕ) (rest : List Instr) (e : Exit) 
   pub exit : e ≡ way.Jump node
   pub there : BeginsAt blocks node to
 
-pub record Selects (blocks : List Node) (size label : ℕ) (rest : List Instr) (e : Exit) : Type 0 where
+-- a jump list of the block of a number, with its JU at the end: its label is where the next node begins
+pub record Selects (blocks : List Node) (i size label : ℕ) (rest : List Instr) (e : Exit) : Type 0 where
   pub nodes : List ℕ
   pub node : ℕ
   pub exit : e ≡ way.Table nodes node
+  pub next : node ≡ suc i
   pub count : length rest ≡ size
   pub listed : AreListedTo blocks rest nodes
   pub there : BeginsAt blocks node label
@@ -73,7 +75,7 @@ abbrev pub GoesBy : List Node → ℕ → ℕ → Op → List Instr → Exit →
 GoesBy blocks i at (op.Jump jump.Always to) rest exit later = Jumps blocks to rest exit
 GoesBy blocks i at (op.Jump t to) rest exit later = Branches blocks i at to rest exit
 GoesBy blocks i at (op.Loop to) rest exit later = Branches blocks i at to rest exit
-GoesBy blocks i at (op.JumpList count label) rest exit later = Selects blocks count label rest exit
+GoesBy blocks i at (op.JumpList count label) rest exit later = Selects blocks i count label rest exit
 GoesBy blocks i at op.BlockEnd rest exit later = Ends rest exit
 GoesBy blocks i at op.BlockEndIf rest exit later = EndsIf blocks i at rest exit
 GoesBy blocks i at other rest exit later = later

@@ -138,14 +138,16 @@ IsGivenOn v = Unit {0}
 
 -- Nodes
 
--- an exit of the node at a position leads to nodes of a unit with this many nodes; a table has 1 to 255 entries
+-- an exit of the node at a position leads to nodes of a unit with this many nodes; a table has 1 to 255 entries, and
+-- the next node is its last target
 abbrev pub LeadsInside : ℕ → ℕ → StExit → Type 0
 LeadsInside count at exit.Fall = suc at < count
 LeadsInside count at (exit.Jump j) = j < count
 LeadsInside count at (exit.Branch e j) = (suc at < count) × (j < count)
 LeadsInside count at (exit.EndIf e) = suc at < count
 LeadsInside count at (exit.Table e targets last) =
-    (1 ≤ length targets) × (length targets ≤ 255) × All (λ (j : ℕ). j < count) targets × (last < count)
+    (1 ≤ length targets) × (length targets ≤ 255) × All (λ (j : ℕ). j < count) targets
+    × (last ≡ suc at) × (last < count)
 LeadsInside count at exit.End = Unit {0}
 
 -- the node of the end word alone is the last one and ends its unit, and its steps put at most four literals into

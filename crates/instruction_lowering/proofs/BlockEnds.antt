@@ -222,9 +222,9 @@ module _ (p : Program) (g : GraphProgram) (counts : Counting) (free : (i j : ℕ
           (keep_position_at listed.to (running_on p stack there) after t alike) none total units
           (next_step side size m units most (a.at + 1 + v) debt far)))
 
-      pub selects : (is : List Instr) (count label v : ℕ) → Selects u.blocks count label is x.exit → HasFrom u.block.body (a.at + 1) is
+      pub selects : (is : List Instr) (count label v : ℕ) → Selects u.blocks i count label is x.exit → HasFrom u.block.body (a.at + 1) is
           → x.past ≡ a.at + 1 + length is → (t : State) → Related frames now t → length (own_of t.activations) ≡ u.total
-          → (ways : Selects u.blocks count label is x.exit) → (o : Option ℕ) → slice_get ways.nodes v ≡ o
+          → (ways : Selects u.blocks i count label is x.exit) → (o : Option ℕ) → slice_get ways.nodes v ≡ o
           → Sees side (ran n (after_effect p now (go (if nat_lt v count then position_of now.activations + 1 + v else label) now)))
           (through (counted_if (counts i (entry_or o ways.node)) (nodes_then (entry_or o ways.node)) units t) k)
       selects is count label v h has past t alike total ways None e =

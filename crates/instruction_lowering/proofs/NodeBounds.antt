@@ -133,7 +133,7 @@ module _ (blocks : List Node) (i : ℕ) (formals : Widths) where
       let most : count ≤ 255 = operand.1 in
       let within = all_within rest h.nodes h.listed in
       let long : length h.nodes ≡ count = sym within.1 ∙ h.count in
-      subst (Leads l) (sym h.exit) (omega arith, omega arith, within.0, begins_within h.node label h.there)
+      subst (Leads l) (sym h.exit) (omega arith, omega arith, within.0, h.next, begins_within h.node label h.there)
   leads_by l at op.BlockEnd rest e later operand h others = subst (Leads l) (sym h.exit) tt
   leads_by l at op.BlockEndIf rest e later operand h others = subst (Leads l) (sym h.exit) (begins_within (suc i) (at + 1) h.behind)
   leads_by l at o rest e later operand h others = others h

@@ -4,6 +4,7 @@ use Rattle.std.proofs.Common.{◌≡◌, ℕ, zero, suc, ◌+◌, ◌-◌, ◌<�
 use Rattle.std.specs.Prelude.{All, map, slice_get}
 use Rattle.std.proofs.lemmas.List.{drop-drop, length-append}
 use Rattle.std.proofs.lemmas.List.Elements.{All-drop, All-take}
+use Rattle.std.proofs.lemmas.Option.{same_Some}
 use Rattle.flow_graph.specs.Graphs.{BeginsAt, IsExitTo, IsGraphOf, extent_of}
 use Rattle.flow_graph.specs.declared.graph.Graph.{Graph}
 use Rattle.flow_graph.specs.declared.graph.Node.{Node}
@@ -51,6 +52,51 @@ past_all [] n e = omega arith
 past_all (x ∷ xs) zero e = cc
 past_all (x ∷ xs) (suc n) e = let l : length xs ≤ n = past_all xs n e in omega arith
 
+-- where blocks begin, from a position on
+begins_above : (body : List Instr) (nodes : List Node) (at j : ℕ) (y : Node) → AreBlocksFrom body at (map extent_of nodes)
+    → slice_get nodes j ≡ Some y → (at ≤ y.first) × (y.first < y.past)
+begins_above body [] at j y are e = cc
+begins_above body (z ∷ rest) at zero y are e =
+    let block : IsBlock body at (extent_of z) = are.0 in
+    let same : z ≡ y = same_Some z y e in
+    let some : at < z.past = block.some in
+    let first : z.first ≡ at = block.first in
+    subst (λ (n : Node). (at ≤ n.first) × (n.first < n.past)) same (omega arith, omega arith)
+begins_above body (z ∷ rest) at (suc j) y are e =
+    let others = begins_above body rest z.past j y are.1 e in
+    let some : at < z.past = are.0.some in
+    (omega (arith, others.0), others.1)
+
+first_only : (body : List Instr) (nodes : List Node) (at j : ℕ) (y : Node) → AreBlocksFrom body at (map extent_of nodes)
+    → slice_get nodes j ≡ Some y → y.first ≡ at → j ≡ 0
+first_only body [] at j y are e f = cc
+first_only body (z ∷ rest) at zero y are e f = refl
+first_only body (z ∷ rest) at (suc j) y are e f =
+    let others = begins_above body rest z.past j y are.1 e in
+    let some : at < z.past = are.0.some in
+    absurd (omega (arith, others.0))
+
+-- the block that begins where another ends is the next one
+next_only : (body : List Instr) (nodes : List Node) (at i j : ℕ) (x y : Node) → AreBlocksFrom body at (map extent_of nodes)
+    → slice_get nodes i ≡ Some x → slice_get nodes j ≡ Some y → y.first ≡ x.past → j ≡ suc i
+next_only body [] at i j x y are e f g = cc
+next_only body (z ∷ rest) at zero zero x y are e f g =
+    let here = begins_above body (z ∷ rest) at zero y are f in
+    let same : x ≡ y = sym (same_Some z x e) ∙ same_Some z y f in
+    let long : x.past ≡ y.past = ap (λ (n : Node). n.past) same in
+    absurd (omega (arith, here.1))
+next_only body (z ∷ rest) at zero (suc j) x y are e f g =
+    let past : z.past ≡ x.past = ap (λ (n : Node). n.past) (same_Some z x e) in
+    ap suc (first_only body rest z.past j y are.1 f (g ∙ sym past))
+next_only body (z ∷ rest) at (suc i) zero x y are e f g =
+    let later = begins_above body rest z.past i x are.1 e in
+    let first : z.first ≡ y.first = ap (λ (n : Node). n.first) (same_Some z y f) in
+    let block : IsBlock body at (extent_of z) = are.0 in
+    let some : at < z.past = block.some in
+    let at_first : z.first ≡ at = block.first in
+    absurd (omega (arith, later.0, later.1))
+next_only body (z ∷ rest) at (suc i) (suc j) x y are e f g = ap suc (next_only body rest z.past i j x y are.1 e f g)
+
 module _ (p : Program) (formals : Widths) (body : List Instr) (graph : Graph) (jumps : AreJumps body) (is_graph : IsGraphOf body graph) where
   abbrev blocks : List Node
   blocks = graph.nodes
@@ -83,17 +129,20 @@ module _ (p : Program) (formals : Widths) (body : List Instr) (graph : Graph) (j
     mine : slice_get blocks i ≡ Some x
     mine = let e : i ≡ i + 0 = omega arith in ap (slice_get blocks) e ∙ lie 0 x refl
 
+    once : (j : ℕ) → BeginsAt blocks j x.past → j ≡ suc i
+    once j begins = next_only body blocks 0 i j x begins.0 is_graph.nodes mine begins.1 begins.2
+
     instructions : instructions_of body (extent_of x) ≡ take count (drop at body)
     instructions = ap (λ (m : ℕ). take (x.past - m) (drop m body)) first
 
     found : IsFound formals body jumps blocks i x block.within (λ k above below. block.inside k (omega (arith, above, first)) below) block.next
         (λ less. let e : suc i ≡ i + 1 = omega arith in subst (λ (m : ℕ). BeginsAt blocks m x.past) (sym e)
-        (begins_next x.past (i + 1) rest others (lie_behind i x rest lie) less)) at 0 (suc (count - 1)) (drop at body)
+        (begins_next x.past (i + 1) rest others (lie_behind i x rest lie) less)) once at 0 (suc (count - 1)) (drop at body)
     found =
         let some : at < x.past = block.some in
         walk formals body jumps blocks i x block.within (λ k above below. block.inside k (omega (arith, above, first)) below) block.next
         (λ less. let e : suc i ≡ i + 1 = omega arith in subst (λ (m : ℕ). BeginsAt blocks m x.past) (sym e)
-        (begins_next x.past (i + 1) rest others (lie_behind i x rest lie) less)) (count - 1) at 0 (drop at body) here (omega (arith, first)) (omega arith)
+        (begins_next x.past (i + 1) rest others (lie_behind i x rest lie) less)) once (count - 1) at 0 (drop at body) here (omega (arith, first)) (omega arith)
         (subst (λ (is : List Instr). IsExitTo blocks (way_of is) x.exit) (instructions ∙ ap (λ (n : ℕ). take n (drop at body)) (sym more))
         (is_graph.exits i x mine))
 

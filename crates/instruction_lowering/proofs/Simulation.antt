@@ -139,7 +139,7 @@ module _ (p : Program) (g : GraphProgram) (counts : Counting) (free : (i j : ℕ
     jump_list : (count label : ℕ) (is : List Instr) → IsNext (op.JumpList count label) is → Goal (op.JumpList count label) is
     jump_list count label is h =
         let closed : length q.brackets ≡ 0 = none_there (IsClosed is) (length q.brackets) h.closed in
-        let ways : Selects u.blocks count label is x.exit = h.goes in
+        let ways : Selects u.blocks i count label is x.exit = h.goes in
         let ctx : LoweringContext = context_after p.blocks (op.JumpList count label) q in
         let done =
         (jumps.list count label q.used).does g.globals (calls_within p g counts most) units (running_on p stack a) now s h.operand related

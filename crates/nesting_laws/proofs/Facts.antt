@@ -8,17 +8,17 @@ use Rattle.std.proofs.lemmas.List.Elements.{recursion_from_All}
 use Rattle.std.specs.List.{AllByRecursion}
 use Rattle.stl_tree.specs.Blocks.{Way, stops}
 use Rattle.stl_tree.specs.Segments.{IsOneOf, IsReached, JumpsTo, Ways, fall, first, jump}
-use Rattle.stl_tree.specs.Flows.{GoesOn, IsEndBlock, IsIn, IsInLoop, IsInnermost, IsJump, IsList, IsLoop, IsSegment, Segment, blocks_of, jumps_of, ways_by}
+use Rattle.stl_tree.specs.Flows.{GoesOn, IsEndBlock, IsExitJump, IsIn, IsInLoop, IsInnermost, IsJump, IsList, IsLoop, IsSegment, Segment, blocks_of, jumps_of, ways_by}
 use Rattle.nesting_laws.specs.PlanLaws.{IsFlow}
 use Rattle.nesting_laws.specs.Plans.{LeadsTo}
-use Rattle.nesting_laws.proofs.Exits.{jump_in, jump_leads, leads_cases, same_way, source_in}
+use Rattle.nesting_laws.proofs.Exits.{jump_in, jump_leads, leads_cases, list_jumps, list_or_not, same_way, source_in}
 use Rattle.nesting_laws.proofs.Reaching.{IsKnown, known_one, known_reached}
 
 -- a block stands outside of two
 abbrev pub IsOutside : ℕ → ℕ → ℕ → Type 0
 IsOutside lo hi b = (b ≤ lo) ⊎ (hi ≤ b)
 
--- what proofs use of a segment without jump lists
+-- what proofs use of a segment
 pub record Facts (g : Segment) : Type 0 where
   pub goes : (b : ℕ) → IsIn g b → (way : Way) × GoesOn g b way
   pub leads_reached : (b t : ℕ) → LeadsTo g b t → IsReached (blocks_of g.flow) t
@@ -31,7 +31,10 @@ pub record Facts (g : Segment) : Type 0 where
   pub by_paths : (lo hi : ℕ) → g.first ≤ lo → ((b t : ℕ) → LeadsTo g b t → IsOutside lo hi b → IsOutside lo hi t)
       → (q : ℕ) → IsIn g q → IsOutside lo hi q
   pub head_or_not : (h : ℕ) → ((l : ℕ) × IsLoop g h l) ⊎ ((s : ℕ) → IsJump g s h → s < h)
-  pub no_list : (b : ℕ) → IsList g b → ⊥
+  pub known_jump : (s t : ℕ) → IsKnown (IsJump g s t)
+  pub known_list : (x : ℕ) → IsKnown (IsList g x)
+  -- the label of a jump list is the next block
+  pub label : (x : ℕ) → IsList g x → IsJump g x (suc x)
 
 pub known_in : (g : Segment) (b : ℕ) → IsKnown (IsIn g b)
 known_in g b = by (known_reached (blocks_of g.flow) b) (cases_lt b g.first) (cases_lt b g.past)
@@ -48,13 +51,13 @@ all_one P (x ∷ xs) n all (inl e) = subst P (sym e) all.0
 all_one P (x ∷ xs) n all (inr o) = all_one P xs n all.1 o
 
 module _ (g : Segment) (flow : IsFlow g.flow) (segment : IsSegment g) where
-  way_at : (b : ℕ) (way : Way) → slice_get g.flow.ways b ≡ Some way → slice_get (blocks_of g.flow) b ≡ Some (ways_by way)
+  pub way_at : (b : ℕ) (way : Way) → slice_get g.flow.ways b ≡ Some way → slice_get (blocks_of g.flow) b ≡ Some (ways_by way)
   way_at b way e = slice_get-map ways_by g.flow.ways b ∙ ap (option_map ways_by) e
 
   length_blocks : length (blocks_of g.flow) ≡ length g.flow.ways
   length_blocks = length-map g.flow.ways ways_by
 
-  length_past : g.past ≤ length g.flow.ways
+  pub length_past : g.past ≤ length g.flow.ways
   length_past = let e = length_blocks in ⊎_elim (λ f. omega arith) (λ c. omega (arith, c.there)) segment.ends
 
   way_in : (b : ℕ) → IsIn g b → (way : Way) × GoesOn g b way
@@ -70,7 +73,7 @@ module _ (g : Segment) (flow : IsFlow g.flow) (segment : IsSegment g) where
   jump_on : (s t : ℕ) → IsJump g s t → JumpsTo (blocks_of g.flow) s t
   jump_on s t (way, goes, o) = (ways_by way, way_at s way goes.1, o)
 
-  jump_within : (s t : ℕ) → IsJump g s t → t < length g.flow.ways
+  pub jump_within : (s t : ℕ) → IsJump g s t → t < length g.flow.ways
   jump_within s t (way, goes, o) = all_one (λ t. t < length g.flow.ways) (jumps_of way) t (recursion_from_All _ (jumps_of way) (flow.jumps s way goes.1)) o
 
   lead_within : (b t : ℕ) → LeadsTo g b t → t < length g.flow.ways
@@ -198,8 +201,22 @@ module _ (g : Segment) (flow : IsFlow g.flow) (segment : IsSegment g) where
       (λ (l, j, x, f). inl (l, record { back = j; ordered = x; greatest = λ s i. f s i (jump_in g s h i).high }))
       (λ f. inr (λ s i. f s i (jump_in g s h i).high)) (last_of h g.past)
 
-  pub facts_of : ((b : ℕ) → IsList g b → ⊥) → Facts g
-  facts_of single = record {
+  known_list : (x : ℕ) → IsKnown (IsList g x)
+  known_list x = by (known_in g x)
+    where
+      at : (way : Way) × GoesOn g x way → IsKnown (IsList g x)
+      at (way, goes) = list_or_not g x way goes
+
+      by : IsKnown (IsIn g x) → IsKnown (IsList g x)
+      by (inl is) = at (way_in x is)
+      by (inr n) = inr (λ list. n list.2.0)
+
+  label_of : (x : ℕ) → IsList g x → IsJump g x (suc x)
+  label_of x (targets, label, goes) =
+      subst (λ t. IsJump g x t) (flow.labels x targets label goes.1) (list_jumps g x label targets goes)
+
+  pub facts_of : Facts g
+  facts_of = record {
     goes = way_in;
     leads_reached = lead_reached;
     leads_low = lead_low;
@@ -208,7 +225,9 @@ module _ (g : Segment) (flow : IsFlow g.flow) (segment : IsSegment g) where
     up_to_end = lead_up_to_end;
     by_paths = in_outside;
     head_or_not = loop_at;
-    no_list = single;
+    known_jump = known_jump;
+    known_list = known_list;
+    label = label_of;
   }
 
 -- Loops
@@ -257,3 +276,17 @@ module _ {g : Segment} (facts : Facts g) where
   innermost b h l is = ⊎_elim
       (λ (k, m, f). (k, m, record { around = f.0; inner = λ i n other. f.1 i n other (omega (arith, other.low)) }))
       (λ f. absurd (f h l is (omega (arith, is.low)))) (search_heads b (suc b) (omega arith))
+
+  -- whether a jump leaves the innermost loop around its block
+  pub known_exit : (b t : ℕ) → IsKnown (IsExitJump g b t)
+  known_exit b t = ⊎_elim
+      (λ (k, m, f). at k m (record { around = f.0; inner = λ i n other. f.1 i n other (omega (arith, other.low)) }) (cases_eq t (suc m)))
+      (λ f. inr (λ (h, l, is, e). f h l is.around (omega (arith, is.around.low)))) (search_heads b (suc b) (omega arith))
+    where
+      at : (k m : ℕ) → IsInnermost g k m b → IsKnown (t ≡ suc m) → IsKnown (IsExitJump g b t)
+      at k m is (inl e) = inl (k, m, is, e)
+      at k m is (inr n) = inr (λ (h, l, other, e). n (
+          let x = is.inner h l other.around in let y = other.inner k m is.around in
+          let z = same_last h l k m other.around.loop is.around.loop (omega arith) in
+          let w = same_last k m h l is.around.loop other.around.loop (omega arith) in omega arith
+          ))

@@ -3,8 +3,8 @@ use Rattle.std.proofs.Common.{◌≡◌, ◌⊎◌, inl, inr, ⊎_elim, ℕ, suc
 use Rattle.std.proofs.lemmas.Bool.{cases_lt}
 use Rattle.stl_tree.specs.Segments.{IsReached}
 use Rattle.stl_tree.specs.Flows.{IsInnermost, IsJump, IsLoop, Segment, blocks_of}
-use Rattle.nesting_laws.specs.Plans.{Around, IsFresh, IsPlan, Plan, arm, arms, done, inside, loop, one, skip}
-use Rattle.nesting_laws.proofs.Contexts.{AllLand, IsContext, all_land, arm_context, arm_rest_context, arms_rest_context, body_cases, body_context, first_context, loop_rest_context, one_context, second_context, skip_context}
+use Rattle.nesting_laws.specs.Plans.{Around, IsFresh, IsPlan, IsRow, Kind, Plan, arm, arms, blocks, cases, done, inside, list_arm, list_arms, loop, next, one, skip}
+use Rattle.nesting_laws.proofs.Contexts.{AllLand, IsContext, all_land, arm_context, arm_of_context, arm_rest_context, arms_rest_context, body_cases, body_context, choice_behind, choice_context, choice_rest_context, ends_high, first_context, loop_rest_context, one_context, others_context, row_source, second_context, skip_context}
 use Rattle.nesting_laws.proofs.Exits.{jump_leads}
 use Rattle.nesting_laws.proofs.Facts.{Facts}
 use Rattle.nesting_laws.proofs.Parts.{LoopLands}
@@ -36,8 +36,9 @@ nothing_nest g paid lo = let x = low_first paid lo in record {
 }
 
 -- two parts, one behind the other
-joined_nest : (g : Segment) (c d hi to : ℕ) (a : Around) → c ≤ d → d ≤ hi → IsContext g c d to a → IsNest g c c d → IsNest g d d hi → IsNest g c c hi
-joined_nest g c d hi to a x y ctx first rest = record {
+joined_nest : (g : Segment) (c d hi to : ℕ) (a : Around) (k : Kind) → c ≤ d → d ≤ hi → IsContext g c d to a k → IsNest g c c d → IsNest g d d hi
+    → IsNest g c c hi
+joined_nest g c d hi to a k x y ctx first rest = record {
   apart = λ h l k m is other z w v. ⊎_elim
       (λ i. ⊎_elim (λ j. first.apart h l k m is other z w j)
       (λ j. inl (⊎_elim (λ n. omega arith) (λ n. absurd (ctx.back l h is.back n z i)) (cases_lt l d))) (cases_lt k d))
@@ -63,8 +64,9 @@ module _ {g : Segment} (facts : Facts g) where
   unreached_fresh true lo none = tt
   unreached_fresh false lo none = λ s jump. absurd (none (facts.leads_reached s lo (jump_leads g s lo jump)))
 
-  module _ {lo hi follow : ℕ} {a : Around} (l : ℕ) (ctx : IsContext g lo hi follow a) (is_loop : IsLoop g lo l) (low : l < hi)
-      (land : AllLand g lo (suc l) lo (inside lo l)) (ctx' : IsContext g lo (suc l) lo (inside lo l))
+  module _ {lo hi follow : ℕ} {a : Around} {i : Kind} (left : Bool) (l : ℕ) (ctx : IsContext g lo hi follow a i) (row : IsRow i)
+      (is_loop : IsLoop g lo l) (low : l < hi)
+      (land : AllLand g lo (suc l) lo (inside left lo l) blocks) (ctx' : IsContext g lo (suc l) lo (inside left lo l) blocks)
       (body : IsNest g (suc lo) lo (suc l)) (rest : IsNest g (suc l) (suc l) hi) where
     -- a loop that begins in the loop ends in it
     ends_within : (h m : ℕ) → IsLoop g h m → lo ≤ h → h ≤ l → m ≤ l
@@ -76,14 +78,15 @@ module _ {g : Segment} (facts : Facts g) where
     loop_enters : (s t h m : ℕ) → IsJump g s t → IsLoop g h m → h ≤ lo → lo ≤ h → s < h → h < t → t ≤ m → ⊥
     loop_enters s t h m jump is x y z w v =
         let p = ends_within h m is y (omega (arith, is_loop.ordered)) in
-        ctx.entry s t jump (omega arith) (omega arith) (omega arith) (λ c. omega (arith, facts.before_end m h t is.back c)) lo (omega arith) (omega arith)
+        ctx.entry s t jump (omega arith) (omega arith) (omega arith) (λ c. omega (arith, facts.before_end m h t is.back c))
+        (row_source i s row) lo (omega arith) (omega arith)
         (facts.leads_reached l lo (jump_leads g l lo is_loop.back))
 
     loop_exits : (s t h m : ℕ) → IsJump g s t → IsLoop g h m → h ≤ lo → lo ≤ h → lo ≤ s → s ≤ l → LoopLands g h m t
     loop_exits s t h m jump is x y z w =
         let p = ends_within h m is y (omega (arith, is_loop.ordered)) in let q = same_end h m is (omega arith) in
         ⊎_elim (λ n. inl (omega arith, omega arith)) (λ n. inr (⊎_elim (λ e. inl (omega arith)) inr n))
-        (body_cases g lo l land s t jump z w is_loop.ordered)
+        (body_cases g left lo l land s t jump z w is_loop.ordered)
 
     loop_nest : IsNest g lo lo hi
     loop_nest = record {
@@ -103,29 +106,53 @@ module _ {g : Segment} (facts : Facts g) where
           (λ o. rest.exits s t h m jump is k w o) (cases_lt h (suc l))) (cases_lt s (suc l));
     }
 
-  pub plan_nest : (plan : Plan) (paid : Bool) (lo hi follow : ℕ) (a : Around) → IsPlan g plan paid lo hi follow a → IsContext g lo hi follow a
+  -- whether the first block is paid or not
+  paid_nest : (paid : Bool) (lo hi : ℕ) → IsNest g lo lo hi → IsNest g (first_head paid lo) lo hi
+  paid_nest paid lo hi nest = let x = low_first paid lo in record {
+    apart = λ h l k m is other y z w. nest.apart h l k m is other (omega arith) z w;
+    enters = λ s t h l jump is y z w v u. nest.enters s t h l jump is (omega arith) z w v u;
+    exits = λ s t h l jump is y z w. nest.exits s t h l jump is y z (omega arith);
+  }
+
+  pub plan_nest : (plan : Plan) (paid : Bool) (lo hi follow : ℕ) (a : Around) (k : Kind) → IsPlan g plan paid lo hi follow a k → IsContext g lo hi follow a k
       → IsNest g (first_head paid lo) lo hi
-  plan_nest done paid lo hi follow a is ctx = subst (λ hi. IsNest g (first_head paid lo) lo hi) is (nothing_nest g paid lo)
-  plan_nest (skip rest) paid lo hi follow a (x, none, is) ctx =
-      further_nest g paid lo hi (unreached_fresh paid lo none) (plan_nest rest false (suc lo) hi follow a is (skip_context facts ctx x none))
-  plan_nest (one rest) paid lo hi follow a (x, at, is) ctx =
-      further_nest g paid lo hi at.fresh (plan_nest rest false (suc lo) hi follow a is (one_context facts ctx paid x at))
-  plan_nest (arm t inner rest) paid lo hi follow a (x, fresh, branch, none, is, more) ctx =
-      let land = all_land g inner false (suc lo) t t a is in let land' = all_land g rest false t hi follow a more in
-      let c = arm_context facts ctx t branch land land' in
-      further_nest g paid lo hi fresh (joined_nest g (suc lo) t hi t a branch.ahead branch.within c (plan_nest inner false (suc lo) t t a is c)
-      (plan_nest rest false t hi follow a more (arm_rest_context facts ctx t branch land land')))
-  plan_nest (arms t u first second rest) paid lo hi follow a (x, fresh, branch, other, is, is', more) ctx =
-      let land = all_land g first false (suc lo) t u a is in let land' = all_land g second false t u u a is' in
-      let land'' = all_land g rest false u hi follow a more in
-      let c = first_context facts ctx t branch u other land land' land'' in
-      let c' = second_context facts ctx t branch u other land land' land'' in
-      further_nest g paid lo hi fresh (joined_nest g (suc lo) t hi u a branch.ahead branch.within c (plan_nest first false (suc lo) t u a is c)
-      (joined_nest g t u hi u a (omega (arith, other.ahead)) other.within c' (plan_nest second false t u u a is' c')
-      (plan_nest rest false u hi follow a more (arms_rest_context facts ctx t branch u other land land' land''))))
-  plan_nest (loop l body rest) paid lo hi follow a (opened, is, more) ctx =
-      let land = all_land g body true lo (suc l) lo (inside lo l) is in let land' = all_land g rest false (suc l) hi follow a more in
-      let c = body_context facts ctx l opened.loop opened.within land land' in
+  plan_nest done paid lo hi follow a k is ctx = subst (λ hi. IsNest g (first_head paid lo) lo hi) is (nothing_nest g paid lo)
+  plan_nest (skip rest) paid lo hi follow a k (x, row, none, is) ctx =
+      further_nest g paid lo hi (unreached_fresh paid lo none) (plan_nest rest false (suc lo) hi follow a k is (skip_context facts ctx row x none))
+  plan_nest (one rest) paid lo hi follow a k (x, row, at, is) ctx =
+      further_nest g paid lo hi at.fresh (plan_nest rest false (suc lo) hi follow a k is (one_context facts ctx row paid x at))
+  plan_nest (arm t c inner rest) paid lo hi follow a k (x, row, fresh, branch, none, is, more) ctx =
+      let land = all_land g inner false (suc lo) c t a k is in let land' = all_land g rest false c hi follow a k more in
+      let inside_of = arm_context facts ctx row t c branch land land' in
+      further_nest g paid lo hi fresh (joined_nest g (suc lo) c hi t a k branch.ahead (ends_high hi follow k t c branch.ends).0 inside_of
+      (plan_nest inner false (suc lo) c t a k is inside_of)
+      (plan_nest rest false c hi follow a k more (arm_rest_context facts ctx row t c branch land land')))
+  plan_nest (arms t u c first second rest) paid lo hi follow a k (x, row, fresh, branch, other, is, is', more) ctx =
+      let land = all_land g first false (suc lo) t u a blocks is in let land' = all_land g second false t c u a k is' in
+      let land'' = all_land g rest false c hi follow a k more in
+      let one = first_context facts ctx row t branch u c other land land' land'' in
+      let two = second_context facts ctx row t branch u c other land land' land'' in
+      further_nest g paid lo hi fresh (joined_nest g (suc lo) t hi u a blocks branch.ahead (ends_high hi follow k t t branch.ends).0 one
+      (plan_nest first false (suc lo) t u a blocks is one)
+      (joined_nest g t c hi u a k (omega (arith, other.ahead)) (ends_high hi follow k u c other.ends).0 two (plan_nest second false t c u a k is' two)
+      (plan_nest rest false c hi follow a k more (arms_rest_context facts ctx row t branch u c other land land' land''))))
+  plan_nest (loop left l body rest) paid lo hi follow a k (row, opened, leaves, is, more) ctx =
+      let land = all_land g body true lo (suc l) lo (inside left lo l) blocks is in let land' = all_land g rest false (suc l) hi follow a k more in
+      let inside_of = body_context facts ctx row left l opened.loop opened.within land land' in
       subst (λ p. IsNest g (first_head p lo) lo hi) (sym opened.free)
-      (loop_nest l ctx opened.loop opened.within land c (plan_nest body true lo (suc l) lo (inside lo l) is c)
-      (plan_nest rest false (suc l) hi follow a more (loop_rest_context facts ctx l opened.loop opened.within land land')))
+      (loop_nest left l ctx row opened.loop opened.within land inside_of (plan_nest body true lo (suc l) lo (inside left lo l) blocks is inside_of)
+      (plan_nest rest false (suc l) hi follow a k more (loop_rest_context facts ctx row left l opened.loop opened.within land land')))
+  plan_nest (cases e inner rest) paid lo hi follow a k (x, row, fresh, choice, is, more) ctx =
+      let land = all_land g inner false (suc lo) e e a (list_arms lo) is in let land' = all_land g rest false e hi follow a k more in
+      let inside_of = choice_context facts ctx row e choice land land' in
+      further_nest g paid lo hi fresh (joined_nest g (suc lo) e hi e a (list_arms lo) (choice_behind choice) choice.within inside_of
+      (plan_nest inner false (suc lo) e e a (list_arms lo) is inside_of)
+      (plan_nest rest false e hi follow a k more (choice_rest_context facts ctx row e choice land land')))
+  plan_nest (next d inner others) paid lo hi follow a blocks is ctx = absurd is
+  plan_nest (next d inner others) paid lo hi follow a list_arm is ctx = absurd is
+  plan_nest (next d inner others) paid lo hi follow a (list_arms x) (q, here, is, more) ctx =
+      let land = all_land g inner false lo d follow a list_arm is in let land' = all_land g others false d hi follow a (list_arms x) more in
+      let inside_of = arm_of_context facts ctx d here q land' in
+      paid_nest paid lo hi (joined_nest g lo d hi follow a list_arm (omega (arith, here.some)) here.within inside_of
+      (plan_nest inner false lo d follow a list_arm is inside_of)
+      (plan_nest others false d hi follow a (list_arms x) more (others_context facts ctx d here q land)))

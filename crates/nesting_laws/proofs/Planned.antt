@@ -1,30 +1,22 @@
 -- A segment with a plan is well nested.
 use Rattle.std.proofs.Common.{◌≡◌, ◌⊎◌, inl, inr, ⊎_elim, ℕ, suc, ◌<◌, ◌≤◌, false, arith}
 use Rattle.std.proofs.lemmas.Bool.{cases_lt}
-use Rattle.stl_tree.specs.Flows.{AreNested, IsInLoop, IsInnermost, IsJump, IsList, IsLoop, IsPlainJump, IsSegment, Segment}
-use Rattle.nesting_rules.specs.NestedJumps.{IsShallow, IsWellNested}
-use Rattle.nesting_laws.specs.PlanLaws.{IsFlow, PlannedIsWellNested, PlannedLoopsAreNested}
-use Rattle.nesting_laws.specs.Plans.{IsPlanOf, Plan, no_loop}
+use Rattle.stl_tree.specs.Flows.{AreNested, IsInLoop, IsInnermost, IsJump, IsList, IsLoop, IsPlainJump, Segment}
+use Rattle.stl_tree.specs.WellNested.{IsCaseEnd, IsShallow, IsWellNestedByPaths}
+use Rattle.nesting_laws.specs.PlanLaws.{IsNested, PlannedIsNested, PlannedIsNestedByPaths, PlannedIsWellNested}
+use Rattle.nesting_laws.specs.Plans.{IsPlanOf, Plan, blocks, no_loop}
 use Rattle.nesting_laws.proofs.Cases.{of_three}
-use Rattle.nesting_laws.proofs.Contexts.{IsContext, planned_no_list}
-use Rattle.nesting_laws.proofs.Crossings.{crossing}
+use Rattle.nesting_laws.proofs.Contexts.{whole_context}
+use Rattle.nesting_laws.proofs.Crossings.{IsPlaced, crossing}
 use Rattle.nesting_laws.proofs.Exits.{jump_in}
 use Rattle.nesting_laws.proofs.Facts.{Facts, facts_of, high_head, innermost, low_head, same_last}
+use Rattle.nesting_laws.proofs.ListPlans.{HasLoops, list_case}
 use Rattle.nesting_laws.proofs.Nests.{IsNest, plan_nest}
 use Rattle.nesting_laws.proofs.Parts.{LoopLands}
 
--- the context of a whole segment
-pub whole_context : (g : Segment) → IsContext g g.first g.past g.past no_loop
-whole_context g = record {
-  around = tt;
-  far = inl (omega arith);
-  back = λ s t jump x y z. omega (arith, (jump_in g s t jump).high);
-  entry = λ s t jump x y z open_end q i j r. omega (arith, (jump_in g s t jump).low);
-}
-
 module _ {g : Segment} (facts : Facts g) (plan : Plan) (is : IsPlanOf g plan) where
   nest : IsNest g g.first g.first g.past
-  nest = plan_nest facts plan false g.first g.past g.past no_loop is (whole_context g)
+  nest = plan_nest facts plan false g.first g.past g.past no_loop blocks is (whole_context g)
 
   apart : (h l k m : ℕ) → IsLoop g h l → IsLoop g k m → h < k → (l < k) ⊎ (m ≤ l)
   apart h l k m here there x = nest.apart h l k m here there (low_head facts h l here) x (high_head facts k m there)
@@ -53,6 +45,17 @@ module _ {g : Segment} (facts : Facts g) (plan : Plan) (is : IsPlanOf g plan) wh
   exits s t h l jump inner = let here = jump_in g s t jump in
       nest.exits s t h l jump inner here.low here.high (low_head facts h l inner.around.loop)
 
+  looped : HasLoops g
+  looped = record { loops = loops; entries = entries; exits = exits }
+
+  placed : IsPlaced g g.first g.past g.past blocks
+  placed = record { over = λ y e case x none. absurd (omega (arith, case.list.2.0.low)); arm = λ f x. absurd f; case = λ y source. absurd source }
+
+  list_cases : (x : ℕ) → IsList g x → (e : ℕ) × IsCaseEnd g x e
+  list_cases x list = let (e, case, low) = list_case facts looped plan false g.first g.past g.past no_loop blocks is
+      (whole_context g) x list.2.0.low list.2.0.high list
+      in (e, case)
+
   -- a plain jump does not leave a loop around it for the block behind it
   stays : (k l s t : ℕ) → IsInLoop g k l s → IsPlainJump g s t → t ≡ suc l → ⊥
   stays k l s t here plain e = by (innermost facts s k l here)
@@ -67,26 +70,26 @@ module _ {g : Segment} (facts : Facts g) (plan : Plan) (is : IsPlanOf g plan) wh
               (λ i. ⊎_elim (λ j. absurd (omega (arith, inner.around.low, here.high))) (λ j. j) (apart k l h m here.loop inner.around.loop i))
               (λ i. same_last facts k l h m here.loop inner.around.loop (omega arith)) (cases_lt k h)
 
-  planned_well_nested : IsShallow g → IsWellNested g
+  nested : IsNested g
+  nested = record { loops = loops; entries = entries; exits = exits; cases = list_cases }
+
+  planned_well_nested : IsShallow g → IsWellNestedByPaths g
   planned_well_nested few = record {
     loops = loops;
     entries = entries;
     exits = exits;
-    crossings = λ s1 t1 s2 t2 p q x y z. crossing facts stays plan false g.first g.past g.past no_loop is (whole_context g) s1 t1 s2 t2 p q
-        (jump_in g s1 t1 p.jump).low (jump_in g s2 t2 q.jump).high x y z;
-    no_list = facts.no_list;
+    crossings = λ s1 t1 c1 s2 t2 c2 p m q n x y z. crossing facts looped stays plan false g.first g.past g.past no_loop blocks is (whole_context g) placed
+        s1 t1 c1 s2 t2 c2 p m q n (jump_in g s1 t1 p.jump).low (jump_in g s2 t2 q.jump).high x y z;
+    cases = list_cases;
     shallow = few;
   }
 
--- the facts of a segment with a plan
-facts_with : (g : Segment) (plan : Plan) → IsFlow g.flow → IsSegment g → IsPlanOf g plan → Facts g
-facts_with g plan flow segment is = facts_of g flow segment single
-  where
-    single : (b : ℕ) → IsList g b → ⊥
-    single b list = planned_no_list g plan false g.first g.past g.past no_loop is b list.2.0.low list.2.0.high list
+pub planned_is_nested : PlannedIsNested
+planned_is_nested g plan flow segment is = nested (facts_of g flow segment) plan is
 
-pub planned_loops_are_nested : PlannedLoopsAreNested
-planned_loops_are_nested g plan flow segment is = loops (facts_with g plan flow segment is) plan is
+pub planned_is_nested_by_paths : PlannedIsNestedByPaths
+planned_is_nested_by_paths g plan flow segment is few = planned_well_nested (facts_of g flow segment) plan is few
 
 pub planned_is_well_nested : PlannedIsWellNested
-planned_is_well_nested g plan flow segment is few = planned_well_nested (facts_with g plan flow segment is) plan is few
+planned_is_well_nested g plan flow segment is few closed =
+    record { by_paths = planned_is_nested_by_paths g plan flow segment is few; closed = closed }

@@ -1,8 +1,8 @@
--- The loops and plain jumps that are opened around a part: at most 64.
+-- The loops, plain jumps and jump lists that are opened around a part: at most 64.
 use Rattle.std.proofs.Common.{◌≡◌, ℕ, suc, ◌+◌, ◌<◌, ◌≤◌, List, [], ◌∷◌, ◌++◌, length, length-append, refl, arith}
 use Rattle.stl_tree.specs.Segments.{AreAscending, AreAscendingAfter}
-use Rattle.stl_tree.specs.Flows.{AreHeadsAround, IsInLoop, IsLoop, IsPlainJump, Segment}
-use Rattle.nesting_rules.specs.NestedJumps.{AreSourcesOver, IsShallow}
+use Rattle.stl_tree.specs.Flows.{AreHeadsAround, IsInLoop, IsLoop, Segment}
+use Rattle.stl_tree.specs.WellNested.{AreSpansOver, IsShallow, IsSpan}
 
 -- all of some numbers are below another
 abbrev pub AreBelow : ℕ → List ℕ → Type 0
@@ -29,7 +29,7 @@ heads_last : (g : Segment) (b h l : ℕ) (xs : List ℕ) → IsInLoop g h l b �
 heads_last g b h l [] is all = ((l, is), tt)
 heads_last g b h l (k ∷ rest) is (one, all) = (one, heads_last g b h l rest is all)
 
-sources_last : (g : Segment) (b s t : ℕ) (xs : List ℕ) → IsPlainJump g s t → s ≤ b → b ≤ t → AreSourcesOver g b xs → AreSourcesOver g b (xs ++ s ∷ [])
+sources_last : (g : Segment) (b s t : ℕ) (xs : List ℕ) → IsSpan g s t → s ≤ b → b ≤ t → AreSpansOver g b xs → AreSpansOver g b (xs ++ s ∷ [])
 sources_last g b s t [] is x y all = ((t, is, x, y), tt)
 sources_last g b s t (k ∷ rest) is x y (one, all) = (one, sources_last g b s t rest is x y all)
 
@@ -43,7 +43,7 @@ pub record Spans (g : Segment) (m top_head top_source lo hi : ℕ) : Type 0 wher
   pub heads_around : (b : ℕ) → lo ≤ b → b < hi → AreHeadsAround g b heads
   pub sources_ascend : AreAscending sources
   pub sources_below : AreBelow top_source sources
-  pub sources_over : (b : ℕ) → lo ≤ b → b < hi → AreSourcesOver g b sources
+  pub sources_over : (b : ℕ) → lo ≤ b → b < hi → AreSpansOver g b sources
 
 pub no_spans : (g : Segment) (lo hi : ℕ) → Spans g 0 lo lo lo hi
 no_spans g lo hi = record {
@@ -92,8 +92,8 @@ loop_spans g m top_source lo hi l s is x = record {
   sources_over = λ b u v. s.sources_over b u (omega arith);
 }
 
--- with one plain jump more, over a smaller part
-pub jump_spans : (g : Segment) (m top_head top_source lo hi : ℕ) → Spans g m top_head top_source lo hi → (s t c d : ℕ) → IsPlainJump g s t
+-- with one plain jump or jump list more, over a smaller part
+pub jump_spans : (g : Segment) (m top_head top_source lo hi : ℕ) → Spans g m top_head top_source lo hi → (s t c d : ℕ) → IsSpan g s t
     → top_source ≤ s → s ≤ c → d ≤ suc t → lo ≤ c → d ≤ hi → Spans g (suc m) top_head (suc s) c d
 jump_spans g m top_head top_source lo hi spans s t c d is x y z u v = record {
   heads = spans.heads;

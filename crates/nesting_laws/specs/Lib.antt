@@ -1,2 +1,4 @@
+pub mod EndLaws
 pub mod PlanLaws
 pub mod Plans
+pub mod Splitting

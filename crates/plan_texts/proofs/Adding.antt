@@ -1,13 +1,12 @@
 -- What holds of what is written and left.
-use Rattle.std.proofs.Common.{◌≡◌, ℕ, suc, ◌+◌, Bool, true, false, cond, List, [], ◌∷◌, ◌++◌, append_assoc, append-nil, refl, sym, ap, subst, ◌∙◌, arith}
+use Rattle.std.proofs.Common.{◌≡◌, ℕ, Bool, true, false, cond, List, [], ◌∷◌, ◌++◌, append_assoc, append-nil, refl, sym, ap, ◌∙◌}
 use Rattle.st_tree.specs.declared.program.Stmt.{Stmt}
 use Rattle.st_tree.specs.declared.program.Stmt.TheVariants as stmt
 use Rattle.st_tree.specs.declared.expr.Expr.{Expr}
-use Rattle.region_laws.specs.Regions.{Place, Region, again, choice, ended, forever, fork, leaves, node, off, quit, text_of}
-use Rattle.unit_regions.specs.UnitRegion.{falls_off}
+use Rattle.region_laws.specs.Regions.{Place, Region, again, choice, ended, fork, leaves, node, off, quit, text_of}
 use Rattle.plan_texts.specs.declared.leads.Lead.{Lead}
 use Rattle.plan_texts.specs.declared.leads.Lead.TheVariants as lead
-use Rattle.plan_texts.specs.inner.Leads.{Adds, led_off, led_text}
+use Rattle.plan_texts.specs.inner.Leads.{Adds, led_text}
 
 -- Choices
 

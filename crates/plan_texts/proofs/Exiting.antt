@@ -1,5 +1,5 @@
 -- What is written of the exit of a block is what the region of the block asks for.
-use Rattle.std.proofs.Common.{◌≡◌, ℕ, suc, ◌+◌, ◌<◌, ◌≤◌, Bool, true, false, not, ◌&&◌, ◌==◌, cond, List, [], ◌∷◌, ◌++◌, length, append_assoc, refl, sym, ap, subst, ◌∙◌, arith}
+use Rattle.std.proofs.Common.{◌≡◌, ℕ, suc, ◌+◌, ◌<◌, ◌≤◌, Bool, true, false, ◌&&◌, ◌==◌, cond, List, [], ◌∷◌, ◌++◌, length, append_assoc, refl, sym, ap, subst, ◌∙◌, arith}
 use Rattle.std.specs.Bool.{Decides}
 use Rattle.std.specs.Prelude.{nat_le, nat_lt}
 use Rattle.std.proofs.lemmas.Bool.{leb-true}
@@ -11,14 +11,14 @@ use Rattle.st_tree.specs.declared.graph.StExit.TheVariants as exit
 use Rattle.st_tree.specs.declared.graph.StNode.{StNode}
 use Rattle.st_tree.specs.declared.program.Stmt.{Stmt}
 use Rattle.st_tree.specs.declared.program.Stmt.TheVariants as stmt
-use Rattle.nesting_laws.specs.Plans.{Around as PlanAround, inside, no_loop}
+use Rattle.nesting_laws.specs.Plans.{Around as PlanAround, inside}
 use Rattle.graph_rules.specs.Flow.{flow_of}
-use Rattle.region_laws.specs.Regions.{Place, Region, at as place_at, choice, ended, fork, leaves, node, again, off, quit, text_of}
-use Rattle.region_plans.specs.PlanRegion.{Chart, end_of, exit_region, is_at, is_last, is_out, tail_out, tail_to, way_to}
+use Rattle.region_laws.specs.Regions.{Place, Region, at as place_at, choice, ended, fork, leaves, node, again, off, text_of}
+use Rattle.region_plans.specs.PlanRegion.{Chart, end_of, exit_region, is_at, is_last, is_out, rest_from, tail_out, tail_to, way_to}
 use Rattle.unit_regions.specs.UnitRegion.{falls_off}
 use Rattle.dispatch_loops.specs.Charted.{chart_in}
 use Rattle.flow_graph.specs.Graphs.{way_by}
-use Rattle.segment_plans.specs.Counts.{is_bare, is_end}
+use Rattle.segment_plans.specs.Counts.{is_end}
 use Rattle.segment_plans.specs.Planned.{IsPartOf, around_of}
 use Rattle.segment_plans.specs.declared.blocks.Blocks.{Blocks}
 use Rattle.segment_plans.specs.declared.planning.Around.{Around}
@@ -26,7 +26,7 @@ use Rattle.segment_plans.specs.declared.planning.Part.{Part}
 use Rattle.unit_regions.specs.UnitCharts.{blocks_between}
 use Rattle.plan_texts.specs.declared.leads.Lead.{Lead}
 use Rattle.plan_texts.specs.declared.leads.Lead.TheVariants as lead
-use Rattle.plan_texts.specs.inner.Leads.{Adds, AddsTo, AddsWay, IsWriting, bare_region, ends_last, falls_to, is_next, led_off, led_text, place_in, tail_region}
+use Rattle.plan_texts.specs.inner.Leads.{Adds, AddsRest, AddsTo, AddsWay, IsWriting, bare_region, ends_last, falls_at, falls_to, is_next, place_in, rest_region, tail_region}
 use Rattle.plan_texts.proofs.Adding.{alone, behind_fork, behind_quit, behind_steps, continues, exits, off_end, onward, returns, where_false, where_true}
 use Rattle.plan_texts.proofs.Nexts.{as_many, falls_to_same, is_last_same, is_next_same}
 
@@ -55,25 +55,26 @@ at_end all from past blocks steps out t rest w e =
     (subst (λ (x : List Stmt). Adds out ((out ++ steps) ++ stmt.Return ∷ []) lead.Out (node x ended) rest) w.ending
     (behind_steps out steps ((out ++ steps) ++ stmt.Return ∷ []) lead.Out ended rest (returns (out ++ steps) rest)))
 
-pub to_head : (c : Chart) (head last t : ℕ) (out : List Stmt) (rest : Region) → (t == head) ≡ true
-    → Adds out (out ++ stmt.Continue ∷ []) lead.Out (way_to c (inside head last) t) rest
-to_head c head last t out rest e =
-    where_true out (out ++ stmt.Continue ∷ []) lead.Out (t == head) again (cond (t == suc last) leaves (end_of c t)) rest e (continues out rest)
+pub to_head : (c : Chart) (left : Bool) (head last t : ℕ) (out : List Stmt) (rest : Region) → (t == head) ≡ true
+    → Adds out (out ++ stmt.Continue ∷ []) lead.Out (way_to c (inside left head last) t) rest
+to_head c left head last t out rest e =
+    where_true out (out ++ stmt.Continue ∷ []) lead.Out (t == head) again (cond (left && (t == suc last)) leaves (end_of c t)) rest e (continues out rest)
 
-behind_last : (t last : ℕ) (b : Bool) → (t == last + 1) ≡ b → (t == suc last) ≡ b
-behind_last t last b e = ap (λ n. t == n) (let f : suc last ≡ last + 1 = omega arith in f) ∙ e
+behind_last : (t last : ℕ) (left b : Bool) → (left && (t == last + 1)) ≡ b → (left && (t == suc last)) ≡ b
+behind_last t last left b e = ap (λ n. left && (t == n)) (let f : suc last ≡ last + 1 = omega arith in f) ∙ e
 
-pub to_behind : (c : Chart) (head last t : ℕ) (out : List Stmt) (rest : Region) → (t == head) ≡ false → (t == last + 1) ≡ true
-    → Adds out (out ++ stmt.Exit ∷ []) lead.Out (way_to c (inside head last) t) rest
-to_behind c head last t out rest e f =
-    where_false out (out ++ stmt.Exit ∷ []) lead.Out (t == head) again (cond (t == suc last) leaves (end_of c t)) rest e
-    (where_true out (out ++ stmt.Exit ∷ []) lead.Out (t == suc last) leaves (end_of c t) rest (behind_last t last true f) (exits out rest))
+pub to_behind : (c : Chart) (left : Bool) (head last t : ℕ) (out : List Stmt) (rest : Region) → (t == head) ≡ false → (left && (t == last + 1)) ≡ true
+    → Adds out (out ++ stmt.Exit ∷ []) lead.Out (way_to c (inside left head last) t) rest
+to_behind c left head last t out rest e f =
+    where_false out (out ++ stmt.Exit ∷ []) lead.Out (t == head) again (cond (left && (t == suc last)) leaves (end_of c t)) rest e
+    (where_true out (out ++ stmt.Exit ∷ []) lead.Out (left && (t == suc last)) leaves (end_of c t) rest (behind_last t last left true f) (exits out rest))
 
-pub to_end : (c : Chart) (head last t : ℕ) (out new : List Stmt) (to : Lead) (rest : Region) → (t == head) ≡ false → (t == last + 1) ≡ false
-    → Adds out new to (end_of c t) rest → Adds out new to (way_to c (inside head last) t) rest
-to_end c head last t out new to rest e f h =
-    where_false out new to (t == head) again (cond (t == suc last) leaves (end_of c t)) rest e
-    (where_false out new to (t == suc last) leaves (end_of c t) rest (behind_last t last false f) h)
+pub to_end : (c : Chart) (left : Bool) (head last t : ℕ) (out new : List Stmt) (to : Lead) (rest : Region) → (t == head) ≡ false
+    → (left && (t == last + 1)) ≡ false
+    → Adds out new to (end_of c t) rest → Adds out new to (way_to c (inside left head last) t) rest
+to_end c left head last t out new to rest e f h =
+    where_false out new to (t == head) again (cond (left && (t == suc last)) leaves (end_of c t)) rest e
+    (where_false out new to (left && (t == suc last)) leaves (end_of c t) rest (behind_last t last left false f) h)
 
 -- The rest of a part
 
@@ -292,32 +293,34 @@ ending_out blocks steps copy out mid new t to e same m x =
     (subst (λ (l : List Stmt). AddsWay blocks steps (λ c. end_of c t) out (l ++ stmt.Return ∷ []) lead.Out)
     (sym (m ∙ ap (λ (l : List Stmt). out ++ l) same)) (λ all from past rest w. at_end all from past blocks steps out t rest w e))
 
-same_test : (m n : ℕ) → m ≡ n → (m == n) ≡ true
+pub same_test : (m n : ℕ) → m ≡ n → (m == n) ≡ true
 same_test m n e = (Decides-eqb m n).1 e
 
-other_test : (m n : ℕ) → (m ≡ n → ⊥) → (m == n) ≡ false
+pub other_test : (m n : ℕ) → (m ≡ n → ⊥) → (m == n) ≡ false
 other_test m n e = by (m == n) (Decides-eqb m n)
   where
     by : (b : Bool) → Decides b (m ≡ n) → b ≡ false
     by true d = absurd (e (d.0 refl))
     by false d = refl
 
-pub way_to_head : (blocks : Blocks) (steps out new : List Stmt) (head last t : ℕ) (to : Lead) → t ≡ head
-    → (to ≡ lead.Out) × (new ≡ out ++ stmt.Continue ∷ []) → AddsWay blocks steps (λ c. way_to c (inside head last) t) out new to
-way_to_head blocks steps out new head last t to e x =
-    as_out (λ l o. AddsWay blocks steps (λ c. way_to c (inside head last) t) out l o) out new stmt.Continue to x
-    (λ all from past rest w. to_head (chart_in all blocks) head last t out rest (same_test t head e))
+pub way_to_head : (blocks : Blocks) (steps out new : List Stmt) (left : Bool) (head last t : ℕ) (to : Lead) → t ≡ head
+    → (to ≡ lead.Out) × (new ≡ out ++ stmt.Continue ∷ []) → AddsWay blocks steps (λ c. way_to c (inside left head last) t) out new to
+way_to_head blocks steps out new left head last t to e x =
+    as_out (λ l o. AddsWay blocks steps (λ c. way_to c (inside left head last) t) out l o) out new stmt.Continue to x
+    (λ all from past rest w. to_head (chart_in all blocks) left head last t out rest (same_test t head e))
 
-pub way_to_behind : (blocks : Blocks) (steps out new : List Stmt) (head last t : ℕ) (to : Lead) → (t ≡ head → ⊥) → (t == last + 1) ≡ true
-    → (to ≡ lead.Out) × (new ≡ out ++ stmt.Exit ∷ []) → AddsWay blocks steps (λ c. way_to c (inside head last) t) out new to
-way_to_behind blocks steps out new head last t to e f x =
-    as_out (λ l o. AddsWay blocks steps (λ c. way_to c (inside head last) t) out l o) out new stmt.Exit to x
-    (λ all from past rest w. to_behind (chart_in all blocks) head last t out rest (other_test t head e) f)
+pub way_to_behind : (blocks : Blocks) (steps out new : List Stmt) (left : Bool) (head last t : ℕ) (to : Lead) → (t ≡ head → ⊥)
+    → (left && (t == last + 1)) ≡ true
+    → (to ≡ lead.Out) × (new ≡ out ++ stmt.Exit ∷ []) → AddsWay blocks steps (λ c. way_to c (inside left head last) t) out new to
+way_to_behind blocks steps out new left head last t to e f x =
+    as_out (λ l o. AddsWay blocks steps (λ c. way_to c (inside left head last) t) out l o) out new stmt.Exit to x
+    (λ all from past rest w. to_behind (chart_in all blocks) left head last t out rest (other_test t head e) f)
 
-pub way_to_end : (blocks : Blocks) (steps out new : List Stmt) (head last t : ℕ) (to : Lead) → (t ≡ head → ⊥) → (t == last + 1) ≡ false
-    → AddsWay blocks steps (λ c. end_of c t) out new to → AddsWay blocks steps (λ c. way_to c (inside head last) t) out new to
-way_to_end blocks steps out new head last t to e f h = λ all from past rest w.
-    to_end (chart_in all blocks) head last t out new to rest (other_test t head e) f (h all from past rest w)
+pub way_to_end : (blocks : Blocks) (steps out new : List Stmt) (left : Bool) (head last t : ℕ) (to : Lead) → (t ≡ head → ⊥)
+    → (left && (t == last + 1)) ≡ false
+    → AddsWay blocks steps (λ c. end_of c t) out new to → AddsWay blocks steps (λ c. way_to c (inside left head last) t) out new to
+way_to_end blocks steps out new left head last t to e f h = λ all from past rest w.
+    to_end (chart_in all blocks) left head last t out new to rest (other_test t head e) f (h all from past rest w)
 
 pub way_at : (blocks : Blocks) (steps out new : List Stmt) (t : ℕ) (a b : Around) (to : Lead) → a ≡ b
     → AddsWay blocks steps (λ c. way_to c (around_of b) t) out new to → AddsWay blocks steps (λ c. way_to c (around_of a) t) out new to
@@ -402,3 +405,53 @@ table_exit blocks steps out tail part at test targets last = λ all from past w 
 pub exit_at : (blocks : Blocks) (steps out new : List Stmt) (tail : Bool) (part : Part) (at : ℕ) (x y : StExit) (to : Lead) → x ≡ y
     → AddsTo blocks steps part at (bare_region tail part at y) out new to → AddsTo blocks steps part at (bare_region tail part at x) out new to
 exit_at blocks steps out new tail part at x y to e h = subst (λ z. AddsTo blocks steps part at (bare_region tail part at z) out new to) (sym e) h
+
+-- The block where all arms of a jump list end
+
+rest_on : (c : Chart) (e hi : ℕ) (f : Place) (a : PlanAround) (out : List Stmt) (rest : Region) → nat_lt e hi ≡ true
+    → Adds out out lead.Onward (rest_from c e hi f a rest) rest
+rest_on c e hi f a out rest h = where_true out out lead.Onward (nat_lt e hi) rest (cond (is_at f e) off (way_to c a e)) rest h (onward out rest)
+
+rest_off : (c : Chart) (e hi : ℕ) (f : Place) (a : PlanAround) (out : List Stmt) (rest : Region) → nat_lt e hi ≡ false → is_at f e ≡ true
+    → Adds out out lead.Off (rest_from c e hi f a rest) rest
+rest_off c e hi f a out rest h i =
+    where_false out out lead.Off (nat_lt e hi) rest (cond (is_at f e) off (way_to c a e)) rest h
+    (where_true out out lead.Off (is_at f e) off (way_to c a e) rest i (off_end out rest))
+
+rest_out : (c : Chart) (e hi : ℕ) (f : Place) (a : PlanAround) (out new : List Stmt) (to : Lead) (rest : Region) → nat_lt e hi ≡ false → is_at f e ≡ false
+    → Adds out new to (way_to c a e) rest → Adds out new to (rest_from c e hi f a rest) rest
+rest_out c e hi f a out new to rest h i w =
+    where_false out new to (nat_lt e hi) rest (cond (is_at f e) off (way_to c a e)) rest h
+    (where_false out new to (is_at f e) off (way_to c a e) rest i w)
+
+falls_there : (tail : Bool) (part : Part) (t : ℕ) → falls_at tail part t ≡ is_at (place_in tail part) t
+falls_there true part t = refl
+falls_there false part t = refl
+
+less_test : (m n : ℕ) → m < n → nat_lt m n ≡ true
+less_test m n e = (Decides-ltb m n).1 e
+
+not_less_test : (m n : ℕ) → n ≤ m → nat_lt m n ≡ false
+not_less_test m n e = by (nat_lt m n) (Decides-ltb m n)
+  where
+    by : (b : Bool) → Decides b (m < n) → b ≡ false
+    by true d = let f : m < n = d.0 refl in absurd (omega (arith, e, f))
+    by false d = refl
+
+pub rest_goes_on : (blocks : Blocks) (steps out : List Stmt) (tail : Bool) (part : Part) (e : ℕ) → e < part.past
+    → AddsRest blocks steps (rest_region tail part e) out out lead.Onward
+rest_goes_on blocks steps out tail part e h = λ all from past rest w.
+    rest_on (chart_in all blocks) e part.past (place_in tail part) (around_of part.around) out rest (less_test e part.past h)
+
+pub rest_falls_off : (blocks : Blocks) (steps out : List Stmt) (tail : Bool) (part : Part) (e : ℕ) → part.past ≤ e → falls_at tail part e ≡ true
+    → AddsRest blocks steps (rest_region tail part e) out out lead.Off
+rest_falls_off blocks steps out tail part e h f = λ all from past rest w.
+    rest_off (chart_in all blocks) e part.past (place_in tail part) (around_of part.around) out rest (not_less_test e part.past h)
+    (sym (falls_there tail part e) ∙ f)
+
+pub rest_leaves : (blocks : Blocks) (steps out new : List Stmt) (tail : Bool) (part : Part) (e : ℕ) (to : Lead) → part.past ≤ e
+    → falls_at tail part e ≡ false → AddsWay blocks steps (λ c. way_to c (around_of part.around) e) out new to
+    → AddsRest blocks steps (rest_region tail part e) out new to
+rest_leaves blocks steps out new tail part e to h f way = λ all from past rest w.
+    rest_out (chart_in all blocks) e part.past (place_in tail part) (around_of part.around) out new to rest (not_less_test e part.past h)
+    (sym (falls_there tail part e) ∙ f) (way all from past rest w)

@@ -1,5 +1,5 @@
 -- What is written of a piece is what its region asks for.
-use Rattle.std.proofs.Common.{◌≡◌, ◌⊎◌, ℕ, zero, suc, ◌+◌, ◌-◌, ◌<◌, ◌≤◌, Bool, true, false, not, List, [], ◌∷◌, ◌++◌, length, drop, append_assoc, refl, sym, ap, subst, ◌∙◌, arith}
+use Rattle.std.proofs.Common.{◌≡◌, ℕ, zero, suc, ◌+◌, ◌-◌, ◌<◌, ◌≤◌, Bool, true, false, not, ◌&&◌, List, [], ◌∷◌, ◌++◌, length, drop, append_assoc, refl, sym, ap, subst, ◌∙◌, arith}
 use Rattle.std.specs.Option.{option_map}
 use Rattle.std.specs.Prelude.{Option, Some, None, slice_get}
 use Rattle.std.proofs.lemmas.List.{drop-drop, length-drop}
@@ -9,19 +9,19 @@ use Rattle.st_tree.specs.declared.graph.StExit.{StExit}
 use Rattle.st_tree.specs.declared.graph.StExit.TheVariants as exit
 use Rattle.st_tree.specs.declared.graph.StNode.{StNode}
 use Rattle.st_tree.specs.declared.program.Stmt.{Stmt}
-use Rattle.stl_tree.specs.Blocks.{Way, always, if_made, on, one_of, stops, unless_ended}
-use Rattle.stl_tree.specs.Flows.{GoesOn, IsList, IsSegment, Segment}
-use Rattle.nesting_laws.specs.Plans.{IsOne, IsPlanOf, Plan, levels, no_loop}
+use Rattle.stl_tree.specs.Blocks.{Way, if_made}
+use Rattle.stl_tree.specs.Flows.{GoesOn, IsSegment, Segment}
+use Rattle.nesting_laws.specs.Plans.{IsPlanOf, Plan, levels, no_loop}
 use Rattle.graph_rules.specs.Flow.{flow_of, way_by}
 use Rattle.region_laws.specs.Regions.{Place, Region, at as place_at, choice, forever, fork, off, text_of}
-use Rattle.region_plans.specs.PlanRegion.{Chart, exit_region, fork_region, loop_region, one_region, region_of, test_region}
+use Rattle.region_plans.specs.PlanRegion.{exit_region, fork_region, loop_region, one_region, region_of, test_region}
 use Rattle.unit_regions.specs.UnitCharts.{blocks_between}
 use Rattle.unit_regions.specs.MadeCharts.{ending_of}
-use Rattle.unit_regions.specs.UnitRegion.{falls_off, place_if, region_by}
+use Rattle.unit_regions.specs.UnitRegion.{place_if, region_by}
 use Rattle.dispatch_loops.specs.Charted.{chart_in}
 use Rattle.segment_plans.specs.Counts.{is_reached}
 use Rattle.segment_plans.specs.Known.{AreKnown}
-use Rattle.segment_plans.specs.Planned.{HasInner, HasPlan, IsPartOf, IsPiece, arm, around_of, body, whole}
+use Rattle.segment_plans.specs.Planned.{HasInner, IsPartOf, IsPiece, arm, around_of, body, first_arm, whole}
 use Rattle.segment_plans.specs.declared.blocks.Blocks.{Blocks}
 use Rattle.segment_plans.specs.declared.planning.Part.{Part}
 use Rattle.segment_plans.specs.declared.planning.Piece.{Piece}
@@ -29,7 +29,7 @@ use Rattle.segment_plans.specs.declared.planning.Piece.TheVariants as piece
 use Rattle.plan_texts.specs.declared.leads.Lead.{Lead}
 use Rattle.plan_texts.specs.declared.leads.Lead.TheVariants as lead
 use Rattle.plan_texts.specs.PlanTexts.{IsWritten}
-use Rattle.plan_texts.specs.inner.Leads.{Adds, AddsTo, ForPart, IsWriting, bare_region, place_in}
+use Rattle.plan_texts.specs.inner.Leads.{Adds, AddsTo, IsWriting, bare_region, place_in}
 use Rattle.plan_texts.specs.inner.Steps.{HasSteps, Writes, WritesInner, WritesPart, WritesPiece, region_at, test_in}
 use Rattle.plan_texts.proofs.Exiting.{after_steps}
 use Rattle.plan_texts.proofs.Nexts.{within}
@@ -69,7 +69,7 @@ taken all at (n ∷ more) rest old new found h e s = record {
 
 -- Exits
 
-way_there : (all : List StNode) (at : ℕ) (n : StNode) (way : Way) → slice_get all at ≡ Some n → slice_get (flow_of all).ways at ≡ Some way
+pub way_there : (all : List StNode) (at : ℕ) (n : StNode) (way : Way) → slice_get all at ≡ Some n → slice_get (flow_of all).ways at ≡ Some way
     → way_by n.exit ≡ way
 way_there all at n way e f =
     same_Some (way_by n.exit) way
@@ -84,9 +84,9 @@ branch_tests (exit.Table test targets last) t e f = absurd cc
 branch_tests exit.End t e f = absurd cc
 
 -- a table stands in no plan
-no_table : (all : List StNode) (from past : ℕ) (paid : Bool) (part : Part) (at : ℕ) (n : StNode) → slice_get all at ≡ Some n
-    → IsPiece (blocks_between all from past) part paid at piece.One → (e : Expr) (targets : List ℕ) (last : ℕ) → n.exit ≡ exit.Table e targets last → ⊥
-no_table all from past paid part at n there one e targets last x =
+no_table : (all : List StNode) (from past : ℕ) (blocks : Blocks) (paid : Bool) (part : Part) (at : ℕ) (n : StNode) → slice_get all at ≡ Some n
+    → IsPiece (blocks_between all from past) blocks part paid at piece.One → (e : Expr) (targets : List ℕ) (last : ℕ) → n.exit ≡ exit.Table e targets last → ⊥
+no_table all from past blocks paid part at n there one e targets last x =
     one.no_list (
       targets,
       last,
@@ -103,7 +103,7 @@ no_table all from past paid part at n there one e targets last x =
 pub block_written : (all : List StNode) (from past : ℕ) (blocks : Blocks) (steps : List Stmt) (tail : Bool) (left : ℕ) (part : Part) (at : ℕ) (paid : Bool)
     (inner : HasInner (blocks_between all from past) left part at piece.One) (nodes rest : List StNode) (old mid new : List Stmt) (x : StExit) (to : Lead)
     → IsWriting all from past blocks steps → IsPartOf (blocks_between all from past) part at → at < part.past
-    → IsPiece (blocks_between all from past) part paid at piece.One → nodes ≡ drop at all → HasSteps nodes rest old mid (Some x)
+    → IsPiece (blocks_between all from past) blocks part paid at piece.One → nodes ≡ drop at all → HasSteps nodes rest old mid (Some x)
     → ((more : Region) → Adds mid new to (exit_region (chart_in all blocks) at part.past (place_in tail part) (around_of part.around) more [] x) more)
     → Writes (chart_in all blocks) (place_in tail part) (blocks_between all from past) left part at piece.One inner rest old new to
 block_written all from past blocks steps tail left part at paid inner nodes rest old mid new x to w p low one e s adds =
@@ -117,7 +117,7 @@ block_written all from past blocks steps tail left part at paid inner nodes rest
           more)
           (sym t.there)
           (after_steps (chart_in all blocks) at part.past (place_in tail part) (around_of part.around) more t.node.steps t.node.exit old new to
-          (no_table all from past paid part at t.node t.there one)
+          (no_table all from past blocks paid part at t.node t.there one)
           (subst (λ (l : List Stmt). Adds l new to
           (exit_region (chart_in all blocks) at part.past (place_in tail part) (around_of part.around) more [] t.node.exit) more) t.steps
           (subst (λ (y : StExit). Adds mid new to
@@ -185,7 +185,7 @@ forked all from past blocks steps part at nodes rest old mid x e there behind bo
     (subst (λ (l : List Stmt). Adds old (l ++ choice e bodies others ∷ []) lead.Onward (fork k.node.steps e there behind join more) more) (sym k.steps)
     (fork_adds old k.node.steps e there behind bodies others join more b o))
 
-rest_of : (all : List StNode) (from past : ℕ) (blocks : Blocks) (steps : List Stmt) (part : Part) (at : ℕ) (nodes rest : List StNode)
+pub rest_of : (all : List StNode) (from past : ℕ) (blocks : Blocks) (steps : List Stmt) (part : Part) (at : ℕ) (nodes rest : List StNode)
     (old mid : List Stmt) (x : StExit) → IsWriting all from past blocks steps → IsPartOf (blocks_between all from past) part at → at < part.past
     → nodes ≡ drop at all → HasSteps nodes rest old mid (Some x) → rest ≡ drop (at + 1) all
 rest_of all from past blocks steps part at nodes rest old mid x w p low f s =
@@ -195,42 +195,45 @@ rest_of all from past blocks steps part at nodes rest old mid x w p low f s =
 arm_in : (g : Segment) (part : Part) (at t follow : ℕ) → IsPartOf g part at → at < t → t ≤ part.past → IsPartOf g (arm part t follow) (at + 1)
 arm_in g part at t follow inside low up = record { low = omega (arith, inside.low); ordered = omega (arith, low); high = omega (arith, up, inside.high) }
 
-pub arm_written : (blocks : Blocks) (steps : List Stmt) (tail : Bool) (left : ℕ) (part : Part) (at t : ℕ) (nodes rest last : List StNode)
-    (old mid other : List Stmt) (x : StExit) (e : Expr) → at < t → t ≤ part.past → HasSteps nodes rest old mid (Some x) → Some e ≡ test_in x
-    → WritesInner blocks steps left (arm part t t) (at + 1) false rest last other
-    → WritesPiece blocks steps tail left part at (piece.Arm t) nodes last old (mid ++ choice e [] other ∷ []) lead.Onward
-arm_written blocks steps tail left part at t nodes rest last old mid other x e low up s h w = λ all from past unit inside paid inner fits f.
+pub arm_written : (blocks : Blocks) (steps : List Stmt) (tail : Bool) (left : ℕ) (part : Part) (at t d : ℕ) (nodes rest last : List StNode)
+    (old mid other : List Stmt) (x : StExit) (e : Expr) → at < d → d ≤ part.past → HasSteps nodes rest old mid (Some x) → Some e ≡ test_in x
+    → WritesInner blocks steps left (arm part d t) (at + 1) false rest last other
+    → WritesPiece blocks steps tail left part at (piece.Arm t d) nodes last old (mid ++ choice e [] other ∷ []) lead.Onward
+arm_written blocks steps tail left part at t d nodes rest last old mid other x e low up s h w = λ all from past unit inside paid inner fits f.
     let g : Segment = blocks_between all from past in
     let before : at < part.past = omega (arith, low, up) in
-    let k = w all from past unit (arm_in g part at t t inside low up) inner.1 inner.0
+    let k = w all from past unit (arm_in g part at d t inside low up) inner.1 inner.0
     (rest_of all from past blocks steps part at nodes rest old mid x unit inside before f s) in
     record {
       taken = k.0;
       adds = λ more.
           forked all from past blocks steps part at nodes rest old mid x e off
-          (region_at (chart_in all blocks) (place_at t) (arm part t t) (at + 1) inner.1.0)
+          (region_at (chart_in all blocks) (place_at t) (arm part d t) (at + 1) inner.1.0)
           [] other (place_at t) more unit inside before f s h (λ next. refl) k.1;
     }
 
-pub arms_written : (blocks : Blocks) (steps : List Stmt) (tail : Bool) (left : ℕ) (part : Part) (at t u : ℕ) (nodes rest between last : List StNode)
-    (old mid other there : List Stmt) (x : StExit) (e : Expr) → at < t → t < u → u ≤ part.past → HasSteps nodes rest old mid (Some x) → Some e ≡ test_in x
-    → WritesInner blocks steps left (arm part t u) (at + 1) false rest between other
-    → WritesInner blocks steps left (arm part u u) t false between last there
-    → WritesPiece blocks steps tail left part at (piece.Arms t u) nodes last old (mid ++ choice e there other ∷ []) lead.Onward
-arms_written blocks steps tail left part at t u nodes rest between last old mid other there x e low order up s h w v = λ all from past unit inside paid inner
-    fits f.
+pub arms_written : (blocks : Blocks) (steps : List Stmt) (tail : Bool) (left : ℕ) (part : Part) (at t u d : ℕ) (nodes rest between last : List StNode)
+    (old mid other there : List Stmt) (x : StExit) (e : Expr) → at < t → t < d → d ≤ part.past → HasSteps nodes rest old mid (Some x) → Some e ≡ test_in x
+    → WritesInner blocks steps left (first_arm part t u) (at + 1) false rest between other
+    → WritesInner blocks steps left (arm part d u) t false between last there
+    → WritesPiece blocks steps tail left part at (piece.Arms t u d) nodes last old (mid ++ choice e there other ∷ []) lead.Onward
+arms_written blocks steps tail left part at t u d nodes rest between last old mid other there x e low order up s h w v = λ all from past unit inside paid
+    inner fits f.
     let g : Segment = blocks_between all from past in
     let before : at < part.past = omega (arith, low, order, up) in
-    let k = w all from past unit (arm_in g part at t u inside low (omega (arith, order, up))) inner.1 inner.0
+    let first : IsPartOf g (first_arm part t u) (at + 1) =
+    record { low = omega (arith, inside.low); ordered = omega (arith, low); high = omega (arith, order, up, inside.high) } in
+    let k = w all from past unit first inner.1 inner.0
     (rest_of all from past blocks steps part at nodes rest old mid x unit inside before f s) in
-    let second : IsPartOf g (arm part u u) t =
+    let second : IsPartOf g (arm part d u) t =
     record { low = omega (arith, inside.low, low); ordered = omega (arith, order); high = omega (arith, up, inside.high) } in
     let m = v all from past unit second inner.2 inner.0 k.0 in
     record {
       taken = m.0;
       adds = λ more.
-          forked all from past blocks steps part at nodes rest old mid x e (region_at (chart_in all blocks) (place_at u) (arm part u u) t inner.2.0)
-          (region_at (chart_in all blocks) (place_at u) (arm part t u) (at + 1) inner.1.0) there other (place_at u) more unit inside before f s h m.1 k.1;
+          forked all from past blocks steps part at nodes rest old mid x e (region_at (chart_in all blocks) (place_at u) (arm part d u) t inner.2.0)
+          (region_at (chart_in all blocks) (place_at u) (first_arm part t u) (at + 1) inner.1.0) there other (place_at u) more unit inside before f s h m.1
+          k.1;
     }
 
 -- Loops
@@ -253,32 +256,35 @@ loop_off false old turn inner l place more e t = record {
   falls = refl;
 }
 
-next_reached : (blocks : Blocks) (l : ℕ) (b : Bool) → is_reached blocks (l + 1) ≡ b → is_reached blocks (suc l) ≡ b
-next_reached blocks l b e = ap (is_reached blocks) (let f : suc l ≡ l + 1 = omega arith in f) ∙ e
+next_reached : (blocks : Blocks) (l : ℕ) (leaves b : Bool) → (leaves && is_reached blocks (l + 1)) ≡ b → (leaves && is_reached blocks (suc l)) ≡ b
+next_reached blocks l leaves b e = ap (λ n. leaves && is_reached blocks n) (let f : suc l ≡ l + 1 = omega arith in f) ∙ e
 
-pub loop_written : (blocks : Blocks) (steps : List Stmt) (tail : Bool) (left : ℕ) (part : Part) (at l : ℕ) (nodes last : List StNode) (old turn : List Stmt)
-    → at ≤ l → l < part.past → is_reached blocks (l + 1) ≡ true → WritesInner blocks steps left (body at l) at true nodes last turn
-    → WritesPiece blocks steps tail left part at (piece.Loop l) nodes last old (old ++ forever turn ∷ []) lead.Onward
-loop_written blocks steps tail left part at l nodes last old turn low up r w = λ all from past unit inside paid inner fits f.
+pub loop_written : (blocks : Blocks) (steps : List Stmt) (tail : Bool) (left : ℕ) (part : Part) (at l : ℕ) (leaves : Bool) (nodes last : List StNode)
+    (old turn : List Stmt)
+    → at ≤ l → l < part.past → (leaves && is_reached blocks (l + 1)) ≡ true → WritesInner blocks steps left (body at l leaves) at true nodes last turn
+    → WritesPiece blocks steps tail left part at (piece.Loop l leaves) nodes last old (old ++ forever turn ∷ []) lead.Onward
+loop_written blocks steps tail left part at l leaves nodes last old turn low up r w = λ all from past unit inside paid inner fits f.
     let k = w all from past unit (record { low = inside.low; ordered = omega (arith, low); high = omega (arith, up, inside.high) }) inner.1 inner.0 f in
     record {
       taken = k.0;
       adds = λ more.
-          loop_onward (is_reached blocks (suc l)) old turn (region_at (chart_in all blocks) (place_at at) (body at l) at inner.1.0) l (place_in tail part)
-          more
-          (next_reached blocks l true r) k.1;
+          loop_onward (leaves && is_reached blocks (suc l)) old turn (region_at (chart_in all blocks) (place_at at) (body at l leaves) at inner.1.0) l
+          (place_in tail part) more
+          (next_reached blocks l leaves true r) k.1;
     }
 
-pub last_loop_written : (blocks : Blocks) (steps : List Stmt) (tail : Bool) (left : ℕ) (part : Part) (at l : ℕ) (nodes last : List StNode)
-    (old turn : List Stmt) → at ≤ l → l < part.past → is_reached blocks (l + 1) ≡ false → WritesInner blocks steps left (body at l) at true nodes last turn
-    → WritesPiece blocks steps tail left part at (piece.Loop l) nodes last old (old ++ forever turn ∷ []) lead.Off
-last_loop_written blocks steps tail left part at l nodes last old turn low up r w = λ all from past unit inside paid inner fits f.
+pub last_loop_written : (blocks : Blocks) (steps : List Stmt) (tail : Bool) (left : ℕ) (part : Part) (at l : ℕ) (leaves : Bool) (nodes last : List StNode)
+    (old turn : List Stmt) → at ≤ l → l < part.past → (leaves && is_reached blocks (l + 1)) ≡ false
+    → WritesInner blocks steps left (body at l leaves) at true nodes last turn
+    → WritesPiece blocks steps tail left part at (piece.Loop l leaves) nodes last old (old ++ forever turn ∷ []) lead.Off
+last_loop_written blocks steps tail left part at l leaves nodes last old turn low up r w = λ all from past unit inside paid inner fits f.
     let k = w all from past unit (record { low = inside.low; ordered = omega (arith, low); high = omega (arith, up, inside.high) }) inner.1 inner.0 f in
     record {
       taken = k.0;
       adds = λ more.
-          loop_off (is_reached blocks (suc l)) old turn (region_at (chart_in all blocks) (place_at at) (body at l) at inner.1.0) l (place_in tail part) more
-          (next_reached blocks l false r) k.1;
+          loop_off (leaves && is_reached blocks (suc l)) old turn (region_at (chart_in all blocks) (place_at at) (body at l leaves) at inner.1.0) l
+          (place_in tail part) more
+          (next_reached blocks l leaves false r) k.1;
     }
 
 -- a block that no path reaches is passed over
@@ -299,19 +305,19 @@ no_node blocks steps tail left part at p nodes rest old new found to low s e = �
     absurd (node_there all from past blocks steps part at nodes rest old new unit within low f (subst (HasSteps nodes rest old new) e s))
 
 -- nor where its exit has no test
-pub no_test : (blocks : Blocks) (steps : List Stmt) (tail : Bool) (left : ℕ) (part : Part) (at t : ℕ) (nodes rest : List StNode)
+pub no_test : (blocks : Blocks) (steps : List Stmt) (tail : Bool) (left : ℕ) (part : Part) (at t d : ℕ) (nodes rest : List StNode)
     (old new : List Stmt) (found : Option StExit) (x : StExit) (asked : Option Expr) (to : Lead) → at < part.past → HasSteps nodes rest old new found → found
     ≡ Some x
-    → asked ≡ test_in x → asked ≡ None → WritesPiece blocks steps tail left part at (piece.Arm t) nodes rest old new to
-no_test blocks steps tail left part at t nodes rest old new found x asked to low s e g h = λ all from past unit within paid inner fits f.
+    → asked ≡ test_in x → asked ≡ None → WritesPiece blocks steps tail left part at (piece.Arm t d) nodes rest old new to
+no_test blocks steps tail left part at t d nodes rest old new found x asked to low s e g h = λ all from past unit within paid inner fits f.
     absurd (test_there all from past blocks steps part at t nodes rest old new x unit within low f (subst (HasSteps nodes rest old new) e s) fits.1.jump
     (sym h ∙ g))
 
-pub no_tests : (blocks : Blocks) (steps : List Stmt) (tail : Bool) (left : ℕ) (part : Part) (at t u : ℕ) (nodes rest : List StNode)
+pub no_tests : (blocks : Blocks) (steps : List Stmt) (tail : Bool) (left : ℕ) (part : Part) (at t u d : ℕ) (nodes rest : List StNode)
     (old new : List Stmt) (found : Option StExit) (x : StExit) (asked : Option Expr) (to : Lead) → at < part.past → HasSteps nodes rest old new found → found
     ≡ Some x
-    → asked ≡ test_in x → asked ≡ None → WritesPiece blocks steps tail left part at (piece.Arms t u) nodes rest old new to
-no_tests blocks steps tail left part at t u nodes rest old new found x asked to low s e g h = λ all from past unit within paid inner fits f.
+    → asked ≡ test_in x → asked ≡ None → WritesPiece blocks steps tail left part at (piece.Arms t u d) nodes rest old new to
+no_tests blocks steps tail left part at t u d nodes rest old new found x asked to low s e g h = λ all from past unit within paid inner fits f.
     absurd (test_there all from past blocks steps part at t nodes rest old new x unit within low f (subst (HasSteps nodes rest old new) e s) fits.1.jump
     (sym h ∙ g))
 
@@ -322,52 +328,57 @@ block_piece blocks steps tail left part at nodes rest old mid new found x to low
     block_written all from past blocks steps tail left part at paid inner nodes rest old mid new x to unit within low fits f
     (subst (HasSteps nodes rest old mid) e s) (h all from past unit within)
 
-pub arm_piece : (blocks : Blocks) (steps : List Stmt) (tail : Bool) (left : ℕ) (part other_part : Part) (at t : ℕ) (nodes rest last : List StNode)
-    (old mid other none new : List Stmt) (found : Option StExit) (x : StExit) (asked : Option Expr) (e : Expr) (y : Stmt) → at < t → none ≡ []
-    → HasSteps nodes rest old mid found → found ≡ Some x → asked ≡ test_in x → asked ≡ Some e → other_part ≡ arm part t t
-    → WritesInner blocks steps left other_part (at + 1) false rest last other → y ≡ choice e none other → new ≡ mid ++ y ∷ [] → t ≤ part.past
-    → WritesPiece blocks steps tail left part at (piece.Arm t) nodes last old new lead.Onward
-arm_piece blocks steps tail left part other_part at t nodes rest last old mid other none new found x asked e y low i s g h k a w c n up =
-    subst (λ (l : List Stmt). WritesPiece blocks steps tail left part at (piece.Arm t) nodes last old l lead.Onward)
+pub arm_piece : (blocks : Blocks) (steps : List Stmt) (tail : Bool) (left : ℕ) (part other_part : Part) (at t d : ℕ) (nodes rest last : List StNode)
+    (old mid other none new : List Stmt) (found : Option StExit) (x : StExit) (asked : Option Expr) (e : Expr) (y : Stmt) → at < d → none ≡ []
+    → HasSteps nodes rest old mid found → found ≡ Some x → asked ≡ test_in x → asked ≡ Some e → other_part ≡ arm part d t
+    → WritesInner blocks steps left other_part (at + 1) false rest last other → y ≡ choice e none other → new ≡ mid ++ y ∷ [] → d ≤ part.past
+    → WritesPiece blocks steps tail left part at (piece.Arm t d) nodes last old new lead.Onward
+arm_piece blocks steps tail left part other_part at t d nodes rest last old mid other none new found x asked e y low i s g h k a w c n up =
+    subst (λ (l : List Stmt). WritesPiece blocks steps tail left part at (piece.Arm t d) nodes last old l lead.Onward)
     (sym (n ∙ ap (λ (z : Stmt). mid ++ z ∷ []) (c ∙ ap (λ (l : List Stmt). choice e l other) i)))
-    (arm_written blocks steps tail left part at t nodes rest last old mid other x e low up (subst (HasSteps nodes rest old mid) g s) (sym k ∙ h)
+    (arm_written blocks steps tail left part at t d nodes rest last old mid other x e low up (subst (HasSteps nodes rest old mid) g s) (sym k ∙ h)
     (subst (λ q. WritesInner blocks steps left q (at + 1) false rest last other) a w))
 
-pub arms_piece : (blocks : Blocks) (steps : List Stmt) (tail : Bool) (left : ℕ) (part first_part second_part : Part) (at t u : ℕ)
+pub arms_piece : (blocks : Blocks) (steps : List Stmt) (tail : Bool) (left : ℕ) (part first_part second_part : Part) (at t u d : ℕ)
     (nodes rest between last : List StNode) (old mid other there new : List Stmt) (found : Option StExit) (x : StExit) (asked : Option Expr) (e : Expr)
     (y : Stmt)
-    → at < t → t < u → HasSteps nodes rest old mid found → found ≡ Some x → asked ≡ test_in x → asked ≡ Some e
-    → first_part ≡ arm part t u → second_part ≡ arm part u u
+    → at < t → t < d → HasSteps nodes rest old mid found → found ≡ Some x → asked ≡ test_in x → asked ≡ Some e
+    → first_part ≡ first_arm part t u → second_part ≡ arm part d u
     → WritesInner blocks steps left first_part (at + 1) false rest between other → WritesInner blocks steps left second_part t false between last there
-    → y ≡ choice e there other → new ≡ mid ++ y ∷ [] → u ≤ part.past
-    → WritesPiece blocks steps tail left part at (piece.Arms t u) nodes last old new lead.Onward
-arms_piece blocks steps tail left part first_part second_part at t u nodes rest between last old mid other there new found x asked e y low order s g h k a b
-    w v c n up =
-    subst (λ (l : List Stmt). WritesPiece blocks steps tail left part at (piece.Arms t u) nodes last old l lead.Onward)
+    → y ≡ choice e there other → new ≡ mid ++ y ∷ [] → d ≤ part.past
+    → WritesPiece blocks steps tail left part at (piece.Arms t u d) nodes last old new lead.Onward
+arms_piece blocks steps tail left part first_part second_part at t u d nodes rest between last old mid other there new found x asked e y low order s g h k a
+    b w v c n up =
+    subst (λ (l : List Stmt). WritesPiece blocks steps tail left part at (piece.Arms t u d) nodes last old l lead.Onward)
     (sym (n ∙ ap (λ (z : Stmt). mid ++ z ∷ []) c))
-    (arms_written blocks steps tail left part at t u nodes rest between last old mid other there x e low order up (subst (HasSteps nodes rest old mid) g s)
-    (sym k ∙ h)
+    (arms_written blocks steps tail left part at t u d nodes rest between last old mid other there x e low order up
+    (subst (HasSteps nodes rest old mid) g s) (sym k ∙ h)
     (subst (λ q. WritesInner blocks steps left q (at + 1) false rest between other) a w)
     (subst (λ q. WritesInner blocks steps left q t false between last there) b v))
 
-pub loop_piece : (blocks : Blocks) (steps : List Stmt) (tail : Bool) (left : ℕ) (part turn_part : Part) (at l : ℕ) (nodes last : List StNode)
-    (old turn new : List Stmt) (y : Stmt) → at ≤ l → l < part.past → turn_part ≡ body at l → WritesInner blocks steps left turn_part at true nodes last turn
-    → y ≡ forever turn → new ≡ old ++ y ∷ [] → is_reached blocks (l + 1) ≡ true
-    → WritesPiece blocks steps tail left part at (piece.Loop l) nodes last old new lead.Onward
-loop_piece blocks steps tail left part turn_part at l nodes last old turn new y low up a w c n r =
-    subst (λ (k : List Stmt). WritesPiece blocks steps tail left part at (piece.Loop l) nodes last old k lead.Onward)
+pub loop_piece : (blocks : Blocks) (steps : List Stmt) (tail : Bool) (left : ℕ) (part turn_part : Part) (at l : ℕ) (leaves : Bool)
+    (nodes last : List StNode)
+    (old turn new : List Stmt) (y : Stmt) → at ≤ l → l < part.past → turn_part ≡ body at l leaves
+    → WritesInner blocks steps left turn_part at true nodes last turn
+    → y ≡ forever turn → new ≡ old ++ y ∷ [] → (leaves && is_reached blocks (l + 1)) ≡ true
+    → WritesPiece blocks steps tail left part at (piece.Loop l leaves) nodes last old new lead.Onward
+loop_piece blocks steps tail left part turn_part at l leaves nodes last old turn new y low up a w c n r =
+    subst (λ (k : List Stmt). WritesPiece blocks steps tail left part at (piece.Loop l leaves) nodes last old k lead.Onward)
     (sym (n ∙ ap (λ (z : Stmt). old ++ z ∷ []) c))
-    (loop_written blocks steps tail left part at l nodes last old turn low up r (subst (λ q. WritesInner blocks steps left q at true nodes last turn) a w))
+    (loop_written blocks steps tail left part at l leaves nodes last old turn low up r
+    (subst (λ q. WritesInner blocks steps left q at true nodes last turn) a w))
 
-pub last_loop_piece : (blocks : Blocks) (steps : List Stmt) (tail : Bool) (left : ℕ) (part turn_part : Part) (at l : ℕ) (nodes last : List StNode)
-    (old turn new : List Stmt) (y : Stmt) → at ≤ l → l < part.past → turn_part ≡ body at l → WritesInner blocks steps left turn_part at true nodes last turn
-    → y ≡ forever turn → new ≡ old ++ y ∷ [] → is_reached blocks (l + 1) ≡ false
-    → WritesPiece blocks steps tail left part at (piece.Loop l) nodes last old new lead.Off
-last_loop_piece blocks steps tail left part turn_part at l nodes last old turn new y low up a w c n r =
-    subst (λ (k : List Stmt). WritesPiece blocks steps tail left part at (piece.Loop l) nodes last old k lead.Off)
+pub last_loop_piece : (blocks : Blocks) (steps : List Stmt) (tail : Bool) (left : ℕ) (part turn_part : Part) (at l : ℕ) (leaves : Bool)
+    (nodes last : List StNode)
+    (old turn new : List Stmt) (y : Stmt) → at ≤ l → l < part.past → turn_part ≡ body at l leaves
+    → WritesInner blocks steps left turn_part at true nodes last turn
+    → y ≡ forever turn → new ≡ old ++ y ∷ [] → (leaves && is_reached blocks (l + 1)) ≡ false
+    → WritesPiece blocks steps tail left part at (piece.Loop l leaves) nodes last old new lead.Off
+last_loop_piece blocks steps tail left part turn_part at l leaves nodes last old turn new y low up a w c n r =
+    subst (λ (k : List Stmt). WritesPiece blocks steps tail left part at (piece.Loop l leaves) nodes last old k lead.Off)
     (sym (n ∙ ap (λ (z : Stmt). old ++ z ∷ []) c))
-    (last_loop_written blocks steps tail left part at l nodes last old turn low up r (subst (λ q. WritesInner blocks steps left q at true nodes last turn) a
-    w))
+    (last_loop_written blocks steps tail left part at l leaves nodes last old turn low up r
+    (subst (λ q. WritesInner blocks steps left q at true nodes last turn) a w))
 
 pub skip_piece : (blocks : Blocks) (steps : List Stmt) (tail : Bool) (left : ℕ) (part : Part) (at : ℕ) (nodes rest : List StNode) (out : List Stmt)
     → rest ≡ drop 1 nodes → WritesPiece blocks steps tail left part at piece.Skip nodes rest out out lead.Onward

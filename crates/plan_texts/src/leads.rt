@@ -1,11 +1,11 @@
 //! What leads from a block of a part to another: nothing, CONTINUE, EXIT, or the end of the unit.
-ghost use Rattle.std.specs.Prelude.{◌≡◌, ◌<◌, ◌++◌, ◌∷◌, [], IfOk};
+ghost use Rattle.std.specs.Prelude.{◌≡◌, ◌<◌, ◌+◌, ◌==◌, ◌&&◌, ◌++◌, ◌∷◌, [], IfOk};
 ghost use Rattle.graph_rules.specs.Plain.{AreSettings};
 ghost use Rattle.nesting_laws.specs.Plans.{inside};
 ghost use Rattle.region_plans.specs.PlanRegion.{end_of, way_to};
 ghost use Rattle.segment_plans.specs.Planned.{around_of};
 ghost use Rattle.plan_texts.specs.declared.leads.Lead.TheVariants as lead_to;
-ghost use Rattle.plan_texts.specs.inner.Leads.{AddsTo, AddsWay, falls_to, is_next, is_off, is_onward, tail_region};
+ghost use Rattle.plan_texts.specs.inner.Leads.{AddsRest, AddsTo, AddsWay, falls_at, falls_to, is_next, is_off, is_onward, rest_region, tail_region};
 
 use dispatch_loops::{push_all, settings};
 use s7_base::{List, NoMemory};
@@ -65,7 +65,8 @@ pub fn push_out(out: &mut List<Stmt>, statement: Stmt) -> Result<Lead, NoMemory>
 /// Writes the end of the unit, if a block is that of the end word alone.
 fn push_ending(context: Context<'_>, out: &mut List<Stmt>, to: u32) -> Result<Lead, NoMemory>
     requires { AreSettings context.ending.now }
-    ensures { IfOk result (AddsWay context.entry.blocks.now context.entry.ending.now (λ c. end_of c to) out.old out.new) }
+    ensures { IfOk result (AddsWay context.entry.blocks.now context.entry.ending.now (λ c. end_of c to)
+        out.old out.new) }
 {
     if !context.blocks.is_end(to) {
         return Ok(Lead::Off);
@@ -74,22 +75,30 @@ fn push_ending(context: Context<'_>, out: &mut List<Stmt>, to: u32) -> Result<Le
     push_out(out, Stmt::Return)
 }
 
+/// A loop that may be left is left for a block, which comes right behind it.
+fn leaves(last: u32, left: bool, to: u32) -> bool
+    ensures { result ≡ (left && (to == last + 1)) }
+{
+    left && is_behind(to, last)
+}
+
 /// Writes what leads from a loop to a block that is not in the part.
 fn push_loop_way(
     context: Context<'_>,
     out: &mut List<Stmt>,
     head: u32,
     last: u32,
+    left: bool,
     to: u32,
 ) -> Result<Lead, NoMemory>
     requires { AreSettings context.ending.now }
-    ensures { IfOk result (AddsWay context.entry.blocks.now context.entry.ending.now (λ c. way_to c (inside head last) to)
-        out.old out.new) }
+    ensures { IfOk result (AddsWay context.entry.blocks.now context.entry.ending.now
+        (λ c. way_to c (inside left head last) to) out.old out.new) }
 {
     if to == head {
         return push_out(out, Stmt::Continue);
     }
-    if is_behind(to, last) {
+    if leaves(last, left, to) {
         return push_out(out, Stmt::Exit);
     }
     push_ending(context, out, to)
@@ -103,12 +112,12 @@ pub fn push_way(
     to: u32,
 ) -> Result<Lead, NoMemory>
     requires { AreSettings context.ending.now }
-    ensures { IfOk result (AddsWay context.entry.blocks.now context.entry.ending.now (λ c. way_to c (around_of around) to)
-        out.old out.new) }
+    ensures { IfOk result (AddsWay context.entry.blocks.now context.entry.ending.now
+        (λ c. way_to c (around_of around) to) out.old out.new) }
 {
     match around {
         Around::NoLoop => push_ending(context, out, to),
-        Around::Inside(head, last) => push_loop_way(context, out, head, last, to),
+        Around::Inside(head, last, left) => { push_loop_way(context, out, head, last, left, to) }
     }
 }
 
@@ -147,4 +156,31 @@ pub fn push_tail(
         return Ok(Lead::Off);
     }
     push_way(context, out, part.around, to)
+}
+
+/// A part leads to a block when it falls off its end.
+fn falls_at(context: Context<'_>, part: Part, to: u32) -> bool
+    ensures { result ≡ falls_at context.entry.tail part to }
+{
+    !context.tail && part.follow == to
+}
+
+/// Writes what leads on from the block where all arms of a jump list end.
+pub fn push_rest(
+    context: Context<'_>,
+    out: &mut List<Stmt>,
+    part: Part,
+    end: u32,
+) -> Result<Lead, NoMemory>
+    requires { AreSettings context.ending.now }
+    ensures { IfOk result (AddsRest context.entry.blocks.now context.entry.ending.now
+        (rest_region context.entry.tail part end) out.old out.new) }
+{
+    if end < part.past {
+        return Ok(Lead::Onward);
+    }
+    if falls_at(context, part, end) {
+        return Ok(Lead::Off);
+    }
+    push_way(context, out, part.around, end)
 }

@@ -1,6 +1,6 @@
 //! Nodes are taken in their order, and their steps are moved.
 ghost use Rattle.std.specs.Prelude.{◌≡◌, IfOk, drop};
-ghost use Rattle.plan_texts.specs.inner.Steps.{HasSteps, test_in};
+ghost use Rattle.plan_texts.specs.inner.Steps.{HasSteps, list_in, test_in};
 
 use dispatch_loops::push_all;
 use s7_base::{List, NoMemory};
@@ -36,6 +36,16 @@ pub fn test_in(exit: StExit) -> Option<Expr>
 {
     match exit {
         StExit::Branch(test, _) => Some(test),
+        _ => None,
+    }
+}
+
+/// The value of an exit that is a jump list, and where its entries lead.
+pub fn list_in(exit: StExit) -> Option<(Expr, List<u32>)>
+    ensures { result ≡ list_in exit }
+{
+    match exit {
+        StExit::Table(value, targets, _) => Some((value, targets)),
         _ => None,
     }
 }

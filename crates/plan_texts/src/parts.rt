@@ -1,5 +1,5 @@
-//! Parts of a segment that has a plan, piece by piece: blocks, arms, loops.
-ghost use Rattle.std.specs.Prelude.{◌≡◌, ◌<◌, ◌≤◌, ℕ, IfOk, List, Some, length, drop};
+//! Parts of a segment that has a plan, piece by piece: blocks, arms of tests and of jump lists, loops.
+ghost use Rattle.std.specs.Prelude.{◌≡◌, ◌<◌, ◌≤◌, ◌+◌, ◌&&◌, ℕ, IfOk, List, Some, length, drop};
 ghost use Rattle.st_tree.specs.declared.graph.StNode.{StNode as Node};
 ghost use Rattle.graph_rules.specs.Flow.{flow_of};
 ghost use Rattle.graph_rules.specs.Plain.{AreSettings};
@@ -9,19 +9,24 @@ ghost use Rattle.unit_regions.specs.MadeCharts.{ending_of};
 ghost use Rattle.unit_regions.specs.UnitCharts.{blocks_between};
 ghost use Rattle.unit_regions.specs.UnitRegion.{region_by};
 ghost use Rattle.dispatch_loops.specs.Charted.{chart_in};
+ghost use Rattle.segment_plans.specs.Counts.{is_reached};
 ghost use Rattle.segment_plans.specs.Known.{AreKnown};
 ghost use Rattle.segment_plans.specs.Planned.{IsWithin};
 ghost use Rattle.segment_plans.specs.declared.planning.Piece.TheVariants as piece_of;
 ghost use Rattle.plan_texts.specs.PlanTexts.{IsWritten};
+ghost use Rattle.plan_texts.specs.inner.Lists.{WritesArms};
 ghost use Rattle.plan_texts.specs.inner.Steps.{WritesInner, WritesPart, WritesPiece};
 
 use crate::exits::push_exit;
-use crate::leads::{Context, Lead, is_off, is_onward};
-use crate::nodes::{pass_nodes, push_steps, test_in};
+use crate::leads::{Context, Lead, is_off, is_onward, push_rest};
+use crate::lists::{JumpList, label_end, node_arm, push_last_arm};
+use crate::nodes::{list_in, pass_nodes, push_steps, test_in};
 use dispatch_loops::{choice, endless};
 use s7_base::{List, NoMemory};
-use segment_plans::{Blocks, Part, Piece, after, arm, body, piece_at, whole};
-use st_tree::{StNode, Stmt};
+use segment_plans::{
+    Blocks, Part, Piece, after, arm, body, first_arm, list_arm, next_arm, piece_at, whole,
+};
+use st_tree::{CaseArm, StNode, Stmt};
 use std::alloc::Global;
 use std::collections::VecDeque;
 
@@ -38,8 +43,8 @@ fn push_block(
 ) -> Result<Lead, NoMemory>
     requires low { at < part.past }
     requires set { AreSettings context.ending.now }
-    ensures { IfOk result (WritesPiece context.entry.blocks.now context.entry.ending.now context.entry.tail context.entry.levels
-        part at piece_of.One nodes.old.items nodes.new.items out.old out.new) }
+    ensures { IfOk result (WritesPiece context.entry.blocks.now context.entry.ending.now context.entry.tail
+        context.entry.levels part at piece_of.One nodes.old.items nodes.new.items out.old out.new) }
 {
     let Some(exit) = push_steps(out, nodes)? else {
         return Ok(Lead::Off);
@@ -55,12 +60,14 @@ fn push_arm(
     nodes: &mut VecDeque<StNode>,
     part: Part,
     at: u32,
+    to: u32,
     past: u32,
 ) -> Result<Lead, NoMemory>
     requires low { at < past }
     requires set { AreSettings context.ending.now }
-    ensures { IfOk result (λ lead. past ≤ part.past → WritesPiece context.entry.blocks.now context.entry.ending.now context.entry.tail
-        context.entry.levels part at (piece_of.Arm past) nodes.old.items nodes.new.items out.old out.new lead) }
+    ensures { IfOk result (λ lead. past ≤ part.past → WritesPiece context.entry.blocks.now context.entry.ending.now
+        context.entry.tail context.entry.levels part at (piece_of.Arm to past) nodes.old.items nodes.new.items
+        out.old out.new lead) }
 {
     let Some(exit) = push_steps(out, nodes)? else {
         return Ok(Lead::Off);
@@ -68,9 +75,17 @@ fn push_arm(
     let Some(test) = test_in(exit) else {
         return Ok(Lead::Off);
     };
-    let other = inner_text(context, nodes, arm(part, past, past), at + 1, false)?;
+    let other = inner_text(context, nodes, arm(part, past, to), at + 1, false)?;
     out.push(choice(context.alloc, test, List::new(context.alloc), other)?)?;
     Ok(Lead::Onward)
+}
+
+/// Two arms: the block after the first one, that to which a jump leads over the second one, and that after the second.
+#[derive(Clone, Copy)]
+struct TwoArms {
+    past: u32,
+    over: u32,
+    end: u32,
 }
 
 /// Writes a block and the two arms behind it.
@@ -81,14 +96,14 @@ fn push_arms(
     nodes: &mut VecDeque<StNode>,
     part: Part,
     at: u32,
-    past: u32,
-    end: u32,
+    arms: TwoArms,
 ) -> Result<Lead, NoMemory>
-    requires low { at < past }
-    requires high { past < end }
+    requires low { at < arms.past }
+    requires high { arms.past < arms.end }
     requires set { AreSettings context.ending.now }
-    ensures { IfOk result (λ lead. end ≤ part.past → WritesPiece context.entry.blocks.now context.entry.ending.now context.entry.tail
-        context.entry.levels part at (piece_of.Arms past end) nodes.old.items nodes.new.items out.old out.new lead) }
+    ensures { IfOk result (λ lead. arms.end ≤ part.past → WritesPiece context.entry.blocks.now context.entry.ending.now
+        context.entry.tail context.entry.levels part at (piece_of.Arms arms.past arms.over arms.end) nodes.old.items
+        nodes.new.items out.old out.new lead) }
 {
     let Some(exit) = push_steps(out, nodes)? else {
         return Ok(Lead::Off);
@@ -96,10 +111,20 @@ fn push_arms(
     let Some(test) = test_in(exit) else {
         return Ok(Lead::Off);
     };
-    let other = inner_text(context, nodes, arm(part, past, end), at + 1, false)?;
-    let there = inner_text(context, nodes, arm(part, end, end), past, false)?;
+    let first = first_arm(part, arms.past, arms.over);
+    let other = inner_text(context, nodes, first, at + 1, false)?;
+    let second = arm(part, arms.end, arms.over);
+    let there = inner_text(context, nodes, second, arms.past, false)?;
     out.push(choice(context.alloc, test, there, other)?)?;
     Ok(Lead::Onward)
+}
+
+/// A path leads from a loop to the block behind it.
+fn is_followed(blocks: &Blocks, part: Part, last: u32, left: bool) -> bool
+    requires { last < part.past }
+    ensures { result ≡ (left && is_reached blocks.now (last + 1)) }
+{
+    left && blocks.is_reached(last + 1)
 }
 
 /// Writes a loop.
@@ -111,20 +136,81 @@ fn push_loop(
     part: Part,
     at: u32,
     last: u32,
+    left: bool,
 ) -> Result<Lead, NoMemory>
     requires low { at ≤ last }
     requires high { last < part.past }
     requires set { AreSettings context.ending.now }
-    ensures { IfOk result (WritesPiece context.entry.blocks.now context.entry.ending.now context.entry.tail context.entry.levels
-        part at (piece_of.Loop last) nodes.old.items nodes.new.items out.old out.new) }
+    ensures { IfOk result (WritesPiece context.entry.blocks.now context.entry.ending.now context.entry.tail
+        context.entry.levels part at (piece_of.Loop last left) nodes.old.items nodes.new.items out.old out.new) }
 {
-    let turn = inner_text(context, nodes, body(part, at, last), at, true)?;
+    let turn = inner_text(context, nodes, body(part, at, last, left), at, true)?;
     out.push(endless(turn))?;
-    if context.blocks.is_reached(last + 1) {
+    if is_followed(context.blocks, part, last, left) {
         Ok(Lead::Onward)
     } else {
         Ok(Lead::Off)
     }
+}
+
+/// The arms of a jump list from one on, each of the blocks before the next one.
+#[cycle(text)]
+fn list_arms(
+    context: Context<'_>,
+    nodes: &mut VecDeque<StNode>,
+    part: Part,
+    list: JumpList<'_>,
+    first: u32,
+) -> Result<List<CaseArm>, NoMemory>
+    requires low { first ≤ list.end }
+    requires set { AreSettings context.ending.now }
+    ensures { IfOk result (WritesArms context.entry.blocks.now context.entry.ending.now context.entry.levels part
+        list.entry.block list.entry.end list.entry.targets.now first nodes.old.items nodes.new.items) }
+{
+    let mut arms = List::new(context.alloc);
+    let mut at = first;
+    while at < list.end {
+        let past = next_arm(context.blocks, list.block, at, list.end);
+        let body = inner_text(context, nodes, list_arm(part, past, list.end), at, false)?;
+        arms.push(node_arm(context.alloc, list.targets, at, body)?)?;
+        at = past;
+    }
+    Ok(arms)
+}
+
+/// Writes a block with a jump list and its arms. The arm of the label is what stands after ELSE.
+#[cycle(text)]
+fn push_cases(
+    context: Context<'_>,
+    out: &mut List<Stmt>,
+    nodes: &mut VecDeque<StNode>,
+    part: Part,
+    at: u32,
+    end: u32,
+) -> Result<Lead, NoMemory>
+    requires low { at < end }
+    requires set { AreSettings context.ending.now }
+    ensures { IfOk result (λ lead. end ≤ part.past → WritesPiece context.entry.blocks.now context.entry.ending.now
+        context.entry.tail context.entry.levels part at (piece_of.Cases end) nodes.old.items nodes.new.items
+        out.old out.new lead) }
+{
+    let Some(exit) = push_steps(out, nodes)? else {
+        return Ok(Lead::Off);
+    };
+    let Some((value, targets)) = list_in(exit) else {
+        return Ok(Lead::Off);
+    };
+    let past = label_end(context.blocks, at, end);
+    let other = inner_text(context, nodes, list_arm(part, past, end), at + 1, false)?;
+    let list = JumpList {
+        block: at,
+        end,
+        targets: targets.as_slice(),
+    };
+    let mut arms = list_arms(context, nodes, part, list, past)?;
+    push_last_arm(context.alloc, &mut arms, targets.as_slice(), end)?;
+    out.push(Stmt::Case(value, arms, other))?;
+    push_rest(context, out, part, end)
 }
 
 /// Writes a piece of a part.
@@ -139,8 +225,8 @@ fn push_piece(
 ) -> Result<Lead, NoMemory>
     requires within { IsWithin part at piece }
     requires set { AreSettings context.ending.now }
-    ensures { IfOk result (WritesPiece context.entry.blocks.now context.entry.ending.now context.entry.tail context.entry.levels
-        part at piece nodes.old.items nodes.new.items out.old out.new) }
+    ensures { IfOk result (WritesPiece context.entry.blocks.now context.entry.ending.now context.entry.tail
+        context.entry.levels part at piece nodes.old.items nodes.new.items out.old out.new) }
 {
     match piece {
         Piece::Skip => {
@@ -148,9 +234,12 @@ fn push_piece(
             Ok(Lead::Onward)
         }
         Piece::One => push_block(context, out, nodes, part, at),
-        Piece::Arm(past) => push_arm(context, out, nodes, part, at, past),
-        Piece::Arms(past, end) => push_arms(context, out, nodes, part, at, past, end),
-        Piece::Loop(last) => push_loop(context, out, nodes, part, at, last),
+        Piece::Arm(to, past) => push_arm(context, out, nodes, part, at, to, past),
+        Piece::Arms(past, over, end) => {
+            push_arms(context, out, nodes, part, at, TwoArms { past, over, end })
+        }
+        Piece::Loop(last, left) => push_loop(context, out, nodes, part, at, last, left),
+        Piece::Cases(end) => push_cases(context, out, nodes, part, at, end),
     }
 }
 
@@ -193,8 +282,8 @@ fn push_part(
 ) -> Result<bool, NoMemory>
     requires low { first ≤ part.past }
     requires set { AreSettings context.ending.now }
-    ensures { IfOk result (WritesPart context.entry.blocks.now context.entry.ending.now context.entry.tail context.entry.levels
-        part first paid nodes.old.items nodes.new.items out.old out.new) }
+    ensures { IfOk result (WritesPart context.entry.blocks.now context.entry.ending.now context.entry.tail
+        context.entry.levels part first paid nodes.old.items nodes.new.items out.old out.new) }
 {
     let mut at = first;
     let mut is_paid = paid;

@@ -8,6 +8,7 @@ pub mod Matches
 pub mod Means
 pub mod Moved
 pub mod Near
+pub mod NodeArms
 mod RegionCases
 pub mod Starts
 pub mod Statements

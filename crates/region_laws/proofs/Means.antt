@@ -1,5 +1,5 @@
 -- The statements of a region that fits do what the nodes of its unit do, for each number of units of work: an equation.
-use Rattle.std.proofs.Common.{◌≡◌, ◌⊎◌, ℕ, zero, suc, ◌+◌, ◌≤◌, ◌<◌, ◌==◌, inl, inr, ℤ, pos, negsuc, Bool, true, false, if◌then◌else◌, List, [], ◌∷◌, ◌++◌, length, map, Option, Some, None, Result, Ok, Err, refl, sym, ap, ◌∙◌, subst, arith}
+use Rattle.std.proofs.Common.{◌≡◌, ◌⊎◌, ℕ, zero, suc, ◌+◌, ◌≤◌, ◌<◌, ◌==◌, inl, inr, ⊎_elim, ℤ, pos, negsuc, Bool, true, false, if◌then◌else◌, List, [], ◌∷◌, ◌++◌, length, map, Option, Some, None, Result, Ok, Err, refl, sym, ap, ◌∙◌, subst, arith}
 use Rattle.std.specs.Prelude.{slice_get}
 use Rattle.std.proofs.lemmas.Bool.{eqb-true}
 use Rattle.std.proofs.lemmas.Option.{slice_get_past}
@@ -28,8 +28,9 @@ use Rattle.st_tree.proofs.Equations.{meaning_arm, meaning_case, meaning_continue
 use Rattle.st_tree.proofs.TwoParts.{in_parts}
 use Rattle.graph_rules.specs.Plain.{AreSteps}
 use Rattle.region_laws.specs.NextLocal.{set_next}
-use Rattle.region_laws.specs.Regions.{Around, Fits, IsNode, LeadsTo, Mark, Marked, MayBegin, Place, Region, again, arm_of, at, choice, cycle, ended, forever, fork, inside, is_arm, arms_with_labels, labels_from, leaves, loop_head, no_loop, node, off, out, quit, selected, selector, table, text_of, turn_to, unmarked}
+use Rattle.region_laws.specs.Regions.{Around, Fits, IsNode, LeadsTo, Mark, Marked, MayBegin, Place, Region, HaveArms, again, arm_of, arms_of_nodes, at, choice, choose, cycle, ended, forever, fork, inside, is_among, is_arm, arms_with_labels, labels_from, leaves, loop_head, no_loop, node, off, out, quit, selected, selector, table, text_of, turn_to, unmarked}
 use Rattle.region_laws.proofs.Left.{CallsLeave, Left, statements_left}
+use Rattle.region_laws.proofs.NodeArms.{by_entry, entry_among, no_entry, no_number}
 use Rattle.region_laws.proofs.Statements.{at_node, forever_does, forever_turn, forever_turns, is_label, labelled_does, no_label, one_statement, or_rest, or_true, paid_same, set_does, set_read, setting}
 use Rattle.region_laws.proofs.Straight.{IsStraight, steps_straight}
 
@@ -293,6 +294,37 @@ module _ (g : List Located) (calls : Calls) (fewer : CallsLeave calls)
         table_land (Ok w) = by_number w.n
         table_land (Err f) = refl
 
+    module _ (k : Sem) (a : Around) (targets nodes : List ℕ) (last : ℕ) (have : HaveArms targets last nodes) (bodies : ℕ → List Stmt)
+        (other : List Stmt) (u : ℕ) (s : State) (h : (j : ℕ) → is_among j nodes ≡ true → land k a (does (bodies j) u s) ≡ ways j u s)
+        (l : land k a (does other u s) ≡ ways last u s)
+      where
+        abbrev list_does : ℤ → Out
+        list_does z = first_with z (map (case_meaning g calls) (arms_of_nodes targets bodies nodes)) (does other) u s
+
+        entry_land : (t : ℕ) → is_among t targets ≡ true → land k a (if is_among t nodes then does (bodies t) u s else does other u s) ≡ ways t u s
+        entry_land t e = by (is_among t nodes) refl
+          where
+            by : (b : Bool) → is_among t nodes ≡ b → land k a (if b then does (bodies t) u s else does other u s) ≡ ways t u s
+            by true q = h t q
+            by false q = l ∙ ap (λ (j : ℕ). ways j u s) (sym (⊎_elim (λ f. absurd cc) (λ f. f) (have.all t e)))
+
+        list_number : (z : ℤ) → land k a (list_does z) ≡ ways (chosen_node z targets last) u s
+        list_number (negsuc m) = ap (land k a) (no_number g calls targets bodies (does other) u s m nodes) ∙ l
+        list_number (pos n) = by (slice_get targets n) refl
+          where
+            by : (o : Option ℕ) → slice_get targets n ≡ o → land k a (list_does (pos n)) ≡ ways (entry_or (slice_get targets n) last) u s
+            by None q =
+                ap (land k a) (no_entry g calls targets bodies (does other) u s n q nodes) ∙ l
+                ∙ ap (λ (o : Option ℕ). ways (entry_or o last) u s) (sym q)
+            by (Some t) q =
+                ap (land k a) (by_entry g calls targets bodies (does other) u s n t q nodes) ∙ entry_land t (entry_among targets n t q)
+                ∙ ap (λ (o : Option ℕ). ways (entry_or o last) u s) (sym q)
+
+        list_land : (r : Result Value Fault)
+            → land k a (with_value r u s (λ w. list_does w.n)) ≡ on_way ways (and_then r (λ w. Ok (run.to (chosen_node w.n targets last)))) u s
+        list_land (Ok w) = list_number w.n
+        list_land (Err f) = refl
+
     -- Dispatch loops
 
     module _ (bodies : ℕ → List Stmt) (labels : List ℕ) (k : ℕ) (behind : Place)
@@ -402,6 +434,15 @@ module _ (g : List Located) (calls : Calls) (fewer : CallsLeave calls)
         ∙ ap (land (arrive join) a) (meaning_case g calls v t x (arms_with_labels bodies (labels_from 0 count)) (bodies count))
         ∙ table_land (arrive join) a bodies count targets last many v t
         (λ n l. means (arms n) false (at (entry_or (slice_get targets n) last)) join a (inner n l) v t) (value g x t)) u s
+    means (choose steps x targets nodes arms other join rest) turn p follow a (i, last, e, is, have, each, own, third) u s =
+        let bodies : ℕ → List Stmt = λ j. text_of next (arms j) in
+        let whole : Stmt = stmt.Case x (arms_of_nodes targets bodies nodes) (text_of next other) in
+        node_land (arrive follow) a turn i p steps (whole ∷ text_of next rest) (exit.Table x targets last) e is
+        (λ v t.
+        first_land (arrive follow) (arrive join) a whole (text_of next rest) (means rest false join follow a third) v t
+        ∙ ap (land (arrive join) a) (meaning_case g calls v t x (arms_of_nodes targets bodies nodes) (text_of next other))
+        ∙ list_land (arrive join) a targets nodes last have bodies (text_of next other) v t
+        (λ j l. means (arms j) false (at j) join a (each j l) v t) (means other false (at last) join a own v t) (value g x t)) u s
     means (cycle body behind rest) turn p follow a (h, e, l, head, inner, third) u s =
         first_land (arrive follow) (arrive behind) a (forever (text_of next body)) (text_of next rest) (means rest false behind follow a third) u s
         ∙ forever_land (text_of next body) (at h) (loop_head_takes h head) behind (means body true (at h) (at h) (inside (at h) behind) inner) a u s

@@ -54,7 +54,7 @@ or_rest false true e = refl
 or_rest false false e = refl
 or_rest true c e = cc
 
-same_number : (m n : ℕ) → int_eq (pos m) (pos n) ≡ (m == n)
+pub same_number : (m n : ℕ) → int_eq (pos m) (pos n) ≡ (m == n)
 same_number m n = by (int_eq (pos m) (pos n)) (m == n) refl refl
   where
     by : (b c : Bool) → int_eq (pos m) (pos n) ≡ b → (m == n) ≡ c → b ≡ c

@@ -1,7 +1,7 @@
 -- How deep the lists of the statements of a region stand in one another.
 -- Held against: this project's own bounds.
 use Rattle.std.specs.Prelude.{ℕ, suc, max, List, [], ◌∷◌}
-use Rattle.region_laws.specs.Regions.{Region, again, cycle, ended, fork, labels_from, leaves, node, off, quit, selector, table, turn_to}
+use Rattle.region_laws.specs.Regions.{Region, again, choose, cycle, ended, fork, labels_from, leaves, node, off, quit, selector, table, turn_to}
 
 -- the greatest over some numbers
 abbrev pub most_of : (ℕ → ℕ) → List ℕ → ℕ
@@ -19,6 +19,8 @@ depth (fork steps e there behind join rest) = max (suc (max (depth there) (depth
 depth (quit steps e rest) = max 1 (depth rest)
 depth (table steps e count arms join rest) =
     max (suc (most_of (λ n. depth (arms n)) (labels_from 0 (suc count)))) (depth rest)
+depth (choose steps e targets nodes arms other join rest) =
+    max (suc (max (most_of (λ j. depth (arms j)) nodes) (depth other))) (depth rest)
 depth (cycle body behind rest) = max (suc (depth body)) (depth rest)
 depth (turn_to j rest) = depth rest
 depth (selector labels arms behind rest) = max (suc (suc (most_of (λ n. depth (arms n)) labels))) (depth rest)

@@ -1,7 +1,7 @@
 -- How statements take the place of the jumps of a unit. A region is what a list of statements stands for, from one
 -- place of the unit on: the nodes whose steps it holds, and where it leads.
 -- Held against: this project's own segments.
-use Rattle.std.specs.Prelude.{◌≡◌, ℕ, zero, suc, ◌≤◌, ◌<◌, ◌==◌, pos, Bool, true, false, List, [], ◌∷◌, ◌++◌, length, slice_get, Some}
+use Rattle.std.specs.Prelude.{◌≡◌, ◌≢◌, ◌⊎◌, ℕ, zero, suc, ◌≤◌, ◌<◌, ◌==◌, ℤ, pos, if◌then◌else◌, Bool, true, false, List, [], ◌∷◌, ◌++◌, length, slice_get, Some}
 use Rattle.std.specs.List.{list_any}
 use Rattle.st_tree.specs.GraphRun.{entry_or}
 use Rattle.st_tree.specs.declared.expr.Expr.{Expr}
@@ -53,7 +53,8 @@ pub data Around : Type 0 where
 
 -- a region: nothing; EXIT, CONTINUE or RETURN; a node that leads to one place; a node that branches, with a region each
 -- way and the place where both fall off; a node that ends the unit or goes on; a node with a table of so many entries,
--- with a region for each and for all else; a loop, with its body and the place behind it; `NEXT` set to a node; or a
+-- with a region for each and for all else; a node with a table of these entries, with a region for each of some nodes
+-- to which they lead, and for all else; a loop, with its body and the place behind it; `NEXT` set to a node; or a
 -- dispatch loop over the nodes at some positions. What is not an end has the region behind it last
 pub data Region : Type 0 where
   off : Region
@@ -64,6 +65,7 @@ pub data Region : Type 0 where
   fork : List Stmt → Expr → Region → Region → Place → Region → Region
   quit : List Stmt → Expr → Region → Region
   table : List Stmt → Expr → ℕ → (ℕ → Region) → Place → Region → Region
+  choose : List Stmt → Expr → List ℕ → List ℕ → (ℕ → Region) → Region → Place → Region → Region
   cycle : Region → Place → Region → Region
   turn_to : ℕ → Region → Region
   selector : List ℕ → (ℕ → Region) → Place → Region → Region
@@ -88,6 +90,18 @@ abbrev pub arms_with_labels : (ℕ → List Stmt) → List ℕ → List CaseArm
 arms_with_labels bodies [] = []
 arms_with_labels bodies (label ∷ labels) = arm_with_label label (bodies label) ∷ arms_with_labels bodies labels
 
+-- the positions of the entries of a table that lead to a node, where they are counted from a number on
+abbrev pub positions_of : ℕ → ℕ → List ℕ → List ℤ
+positions_of j label [] = []
+positions_of j label (t ∷ targets) =
+    if t == j then pos label ∷ positions_of j (suc label) targets else positions_of j (suc label) targets
+
+-- an arm of a CASE for each of some nodes, with the positions of the entries that lead to it as labels
+abbrev pub arms_of_nodes : List ℕ → (ℕ → List Stmt) → List ℕ → List CaseArm
+arms_of_nodes targets bodies [] = []
+arms_of_nodes targets bodies (j ∷ nodes) =
+    record { labels = positions_of j 0 targets; body = bodies j } ∷ arms_of_nodes targets bodies nodes
+
 -- the statements of a region, where `NEXT` is the local at a position
 abbrev pub text_of : ℕ → Region → List Stmt
 text_of next off = []
@@ -101,6 +115,10 @@ text_of next (quit steps e rest) = steps ++ choice e (stmt.Return ∷ []) [] ∷
 text_of next (table steps e count arms join rest) =
     steps
     ++ stmt.Case e (arms_with_labels (λ n. text_of next (arms n)) (labels_from 0 count)) (text_of next (arms count))
+    ∷ text_of next rest
+text_of next (choose steps e targets nodes arms other join rest) =
+    steps
+    ++ stmt.Case e (arms_of_nodes targets (λ j. text_of next (arms j)) nodes) (text_of next other)
     ∷ text_of next rest
 text_of next (cycle body behind rest) = forever (text_of next body) ∷ text_of next rest
 text_of next (turn_to j rest) = set_next next j ∷ text_of next rest
@@ -150,6 +168,17 @@ pub record IsNode (unit : Marked) (turn : Bool) (i : ℕ) (steps : List Stmt) (x
   pub exit_is : node.exit ≡ x
   pub free : MayBegin turn (unit.marks i)
 
+-- a number is among some
+abbrev pub is_among : ℕ → List ℕ → Bool
+is_among j numbers = list_any (λ n. n == j) numbers
+
+-- nodes have arms in place of a table: there are some, entries lead to each of them, and each entry leads to one of
+-- them or to the last node
+pub record HaveArms (targets : List ℕ) (last : ℕ) (nodes : List ℕ) : Type 0 where
+  pub any : nodes ≢ []
+  pub some : (j : ℕ) → is_among j nodes ≡ true → is_among j targets ≡ true
+  pub all : (j : ℕ) → is_among j targets ≡ true → (is_among j nodes ≡ true) ⊎ (j ≡ last)
+
 -- a region is right from a place on, leads to another place when it falls off its end, and stands inside a loop or in
 -- none; it is the body of a loop that begins at its place, or not
 abbrev pub Fits : Marked → Bool → Region → Place → Place → Around → Type 0
@@ -171,6 +200,11 @@ Fits unit turn (table steps e count arms join rest) p follow a =
     × (count ≡ length targets)
     × ((n : ℕ) → n ≤ count → Fits unit false (arms n) (at (entry_or (slice_get targets n) last)) join a)
     × Fits unit false rest join follow a
+Fits unit turn (choose steps e targets nodes arms other join rest) p follow a =
+    (i : ℕ) × (last : ℕ) × (p ≡ at i) × IsNode unit turn i steps (exit.Table e targets last)
+    × HaveArms targets last nodes
+    × ((j : ℕ) → is_among j nodes ≡ true → Fits unit false (arms j) (at j) join a)
+    × Fits unit false other (at last) join a × Fits unit false rest join follow a
 Fits unit turn (cycle body behind rest) p follow a =
     (h : ℕ) × (turn ≡ false) × (p ≡ at h) × (unit.marks h ≡ loop_head)
     × Fits unit true body (at h) (at h) (inside (at h) behind) × Fits unit false rest behind follow a

@@ -62,6 +62,7 @@ module _ (c : Chart) (g : Segment) (is_flow : IsFlow g.flow) (segment : IsSegmen
     within = (let x = within_flow g is_flow segment in let e = many in omega arith);
     reached = drawn.reached;
     there = λ b r. (let x = reach_within g is_flow segment b ((drawn.reached b).0 r) in let e = many in omega arith);
+    lists = λ b targets label e. (drawn.entries b targets label e, is_flow.labels b targets label e);
     nexts = drawn.nexts;
     heads = drawn.heads;
     ends = end_there;

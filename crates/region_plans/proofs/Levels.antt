@@ -15,6 +15,7 @@ use Rattle.st_tree.specs.declared.graph.StExit.{StExit}
 use Rattle.st_tree.specs.declared.graph.StExit.TheVariants as exit
 use Rattle.st_tree.specs.declared.graph.StNode.{StNode}
 use Rattle.st_tree.specs.declared.program.Arm.{Arm}
+use Rattle.st_tree.specs.declared.program.CaseArm.{CaseArm}
 use Rattle.st_tree.specs.declared.program.Stmt.{Stmt}
 use Rattle.st_tree.specs.declared.program.Stmt.TheVariants as stmt
 use Rattle.st_tree.proofs.Equations.{canon_literal, canon_read}
@@ -23,7 +24,7 @@ use Rattle.graph_rules.proofs.Nesting.{nests_at_most_twice}
 use Rattle.graph_rules.specs.Plain.{tests_of}
 use Rattle.region_laws.specs.NextLocal.{arm_with_label, set_next}
 use Rattle.region_laws.specs.RegionDepth.{depth, most_of}
-use Rattle.region_laws.specs.Regions.{Around, Fits, IsNode, Mark, Marked, Place, Region, again, arm_of, at, choice, cycle, ended, forever, fork, inside, is_arm, arms_with_labels, labels_from, leaves, loop_head, node, off, quit, selected, selector, table, text_of, turn_to, unmarked}
+use Rattle.region_laws.specs.Regions.{Around, Fits, IsNode, Mark, Marked, Place, Region, again, arm_of, arms_of_nodes, at, choice, choose, cycle, ended, forever, fork, inside, is_among, is_arm, arms_with_labels, labels_from, leaves, loop_head, node, off, positions_of, quit, selected, selector, table, text_of, turn_to, unmarked}
 use Rattle.region_plans.specs.RegionLaws.{TextNests}
 use Rattle.region_plans.specs.TextCounts.{IsLow}
 
@@ -66,6 +67,18 @@ arms_nest bodies deep (n ∷ labels) each =
     let l : body_nesting (bodies n) ≤ deep n + 64 = each n (or_left (n == n) (list_any (λ label. label == n) labels) (eq-eqb n n refl)) in
     let more : greatest (map case_nesting (arms_with_labels bodies labels)) ≤ most_of deep labels + 64
     = arms_nest bodies deep labels (λ m e. each m (or_right (n == m) (list_any (λ label. label == m) labels) e)) in omega arith
+
+-- those of nodes
+node_arms_nest : (targets : List ℕ) (bodies : ℕ → List Stmt) (deep : ℕ → ℕ) (nodes : List ℕ)
+    → ((j : ℕ) → is_among j nodes ≡ true → body_nesting (bodies j) ≤ deep j + 64)
+    → greatest (map case_nesting (arms_of_nodes targets bodies nodes)) ≤ most_of deep nodes + 64
+node_arms_nest targets bodies deep [] each = omega arith
+node_arms_nest targets bodies deep (j ∷ nodes) each =
+    let arm : CaseArm = record { labels = positions_of j 0 targets; body = bodies j } in
+    let own : case_nesting arm ≡ body_nesting (bodies j) = nesting_case_arm arm in
+    let l : body_nesting (bodies j) ≤ deep j + 64 = each j (or_left (j == j) (is_among j nodes) (eq-eqb j j refl)) in
+    let more : greatest (map case_nesting (arms_of_nodes targets bodies nodes)) ≤ most_of deep nodes + 64
+    = node_arms_nest targets bodies deep nodes (λ m e. each m (or_right (j == m) (is_among m nodes) e)) in omega arith
 
 -- of labels from one on, the last one
 last_most : (deep : ℕ → ℕ) (label n : ℕ) → most_of deep (labels_from label (suc n)) ≡ max (most_of deep (labels_from label n)) (deep (label + n))
@@ -130,6 +143,18 @@ module _ (unit : Marked) (next : ℕ) (low : (i : ℕ) (n : StNode) → slice_ge
       let m = last_most (λ n. depth (arms n)) 0 count in let same : 0 + count ≡ count = omega arith in
       let own : depth (arms (0 + count)) ≡ depth (arms count) = ap (λ (n : ℕ). depth (arms n)) same in
       let h = nests (arms count) false _ join a (each count (omega arith)) in
+      let h' = nests rest false join follow a fits in omega arith
+  nests (choose steps e targets nodes arms other join rest) turn p follow a (i, last, q, is, have, each, own, fits) =
+      let s = steps_low turn i steps (exit.Table e targets last) is in
+      let l = low_test e (test_low turn i steps (exit.Table e targets last) e refl is) in
+      let bodies : ℕ → List Stmt = λ j. text_of next (arms j) in
+      let listed = arms_of_nodes targets bodies nodes in
+      let choosing = stmt.Case e listed (text_of next other) in
+      let n = body_append steps (choosing ∷ text_of next rest) in
+      let c : nesting choosing ≡ suc (max (expression_nesting e) (max (greatest (map case_nesting listed)) (body_nesting (text_of next other))))
+      = nesting_case e listed (text_of next other) in
+      let d = node_arms_nest targets bodies (λ j. depth (arms j)) nodes (λ j f. nests (arms j) false (at j) join a (each j f)) in
+      let h = nests other false (at last) join a own in
       let h' = nests rest false join follow a fits in omega arith
   nests (cycle body behind rest) turn p follow a (h, t, e, m, fit, fits) =
       let f = forever_nests (text_of next body) in let i = nests body true (at h) (at h) (inside (at h) behind) fit in

@@ -7,7 +7,7 @@ use Rattle.st_tree.specs.declared.graph.StExit.TheVariants as exit
 use Rattle.st_tree.specs.declared.graph.StNode.{StNode}
 use Rattle.stl_tree.specs.Flows.{Segment}
 use Rattle.graph_rules.specs.Plain.{AreSteps}
-use Rattle.nesting_laws.specs.Plans.{Around, IsPlan, Plan, arm, arms, done, loop, no_loop, one, skip}
+use Rattle.nesting_laws.specs.Plans.{Around, IsPlan, Plan, arm, arms, blocks, cases, done, loop, next, no_loop, one, skip}
 use Rattle.region_laws.specs.Regions.{Mark, Place, Region, arm_of, loop_head, unmarked}
 use Rattle.region_plans.specs.Charts.{IsCharted}
 use Rattle.region_plans.specs.PlanRegion.{Chart, region_of}
@@ -26,17 +26,19 @@ between f h less lo (suc hi) x = ⊎_elim
     subst (λ lo. before f (suc hi) + before h lo ≤ before h (suc hi) + before f lo) e (omega arith))
     (cases_lt lo (suc hi))
 
-plan_ahead : (g : Segment) (plan : Plan) (turn : Bool) (lo hi f : ℕ) (a : Around) → IsPlan g plan turn lo hi f a → lo ≤ hi
+plan_ahead : (g : Segment) (plan : Plan) (turn : Bool) (lo hi f : ℕ) (a : Around) → IsPlan g plan turn lo hi f a blocks → lo ≤ hi
 plan_ahead g done turn lo hi f a is = omega arith
-plan_ahead g (skip rest) turn lo hi f a (x, none, is) = omega arith
-plan_ahead g (one rest) turn lo hi f a (x, is_one, is) = omega arith
-plan_ahead g (arm t inner rest) turn lo hi f a (x, fresh, branch, none, is, is') = omega arith
-plan_ahead g (arms t u inner other_inner rest) turn lo hi f a (x, fresh, branch, other, is, is', is'') = omega arith
-plan_ahead g (loop l body rest) turn lo hi f a (opened, is, is') = let x : l < hi = opened.within in let y : lo ≤ l = opened.loop.ordered in omega arith
+plan_ahead g (skip rest) turn lo hi f a is = omega (arith, is.0)
+plan_ahead g (one rest) turn lo hi f a is = omega (arith, is.0)
+plan_ahead g (arm t d inner rest) turn lo hi f a is = omega (arith, is.0)
+plan_ahead g (arms t u d inner other rest) turn lo hi f a is = omega (arith, is.0)
+plan_ahead g (loop left l body rest) turn lo hi f a is = let x : l < hi = is.1.within in let y : lo ≤ l = is.1.loop.ordered in omega arith
+plan_ahead g (cases e inner rest) turn lo hi f a is = omega (arith, is.0)
+plan_ahead g (next d inner others) turn lo hi f a is = absurd is
 
-module _ (c : Chart) (g : Segment) (plan : Plan) (follow : Place) (next : ℕ) (ok : IsCharted c g)
+module _ (c : Chart) (g : Segment) (plan : Plan) (follow : Place) (local : ℕ) (ok : IsCharted c g)
     (steps : (i : ℕ) (n : StNode) → slice_get c.unit.nodes i ≡ Some n → AreSteps n.steps)
-    (is : IsPlan g plan false g.first g.past g.past no_loop) where
+    (is : IsPlan g plan false g.first g.past g.past no_loop blocks) where
   abbrev Whole : Region
   Whole = region_of c plan g.first g.past follow no_loop
 
@@ -44,7 +46,7 @@ module _ (c : Chart) (g : Segment) (plan : Plan) (follow : Place) (next : ℕ) (
   counted : (w : Weights) (h : ℕ → ℕ) → ((b : ℕ) → block_weight w c b ≤ h b) → weight w Whole + before h g.first ≤ before h g.past
   counted w h less =
       let l : weight w Whole + 0 + before (block_weight w c) g.first ≤ before (block_weight w c) g.past
-      = part_is_within w c g plan false g.first g.past g.past no_loop follow ok is
+      = part_is_within w c g plan false g.first g.past g.past no_loop blocks follow ok is tt
       (record { low = (omega arith); high = (omega arith); turned = λ e. absurd cc }) in
       let m = between (block_weight w c) h less g.first g.past (plan_ahead g plan false g.first g.past g.past no_loop is) in omega arith
 
@@ -74,6 +76,7 @@ module _ (c : Chart) (g : Segment) (plan : Plan) (follow : Place) (next : ℕ) (
       none : (y : StExit) → exit_weight of_whiles y ≡ 0
       none (exit.Branch e t) = refl
       none (exit.EndIf e) = refl
+      none (exit.Table e targets last) = refl
       none y = refl
 
       by : (o : Option StNode) → slice_get c.unit.nodes b ≡ o → node_weight of_whiles o ≡ 0
@@ -89,6 +92,7 @@ module _ (c : Chart) (g : Segment) (plan : Plan) (follow : Place) (next : ℕ) (
       tested : (y : StExit) → exit_weight of_statements y ≤ 1
       tested (exit.Branch e t) = omega arith
       tested (exit.EndIf e) = omega arith
+      tested (exit.Table e targets last) = omega arith
       tested y = omega arith
 
       by : (o : Option StNode) → node_weight of_statements o ≤ length (statements_in (steps_of o)) + 1
@@ -101,10 +105,10 @@ module _ (c : Chart) (g : Segment) (plan : Plan) (follow : Place) (next : ℕ) (
       head (arm_of k) = omega arith
 
 pub segment_is_short : SegmentIsShort
-segment_is_short c g plan follow next ok steps is =
+segment_is_short c g plan follow local ok steps is =
     let r = region_of c plan g.first g.past follow no_loop in
-    let (t, u, v) = text_weighs next r in
-    let t' = counted c g plan follow next ok steps is of_tests (block_tests c) (few_tests c g plan follow next ok steps is) in
-    let u' = counted c g plan follow next ok steps is of_whiles (block_whiles c) (few_whiles c g plan follow next ok steps is) in
-    let v' = counted c g plan follow next ok steps is of_statements (block_statements c) (few_statements c g plan follow next ok steps is) in
+    let (t, u, v) = text_weighs local r in
+    let t' = counted c g plan follow local ok steps is of_tests (block_tests c) (few_tests c g plan follow local ok steps is) in
+    let u' = counted c g plan follow local ok steps is of_whiles (block_whiles c) (few_whiles c g plan follow local ok steps is) in
+    let v' = counted c g plan follow local ok steps is of_statements (block_statements c) (few_statements c g plan follow local ok steps is) in
     record { tests = (omega arith); whiles = (omega arith); statements = (omega arith) }

@@ -16,7 +16,7 @@ use Rattle.st_tree.specs.declared.program.Stmt.TheOpen as S
 use Rattle.st_tree.specs.declared.program.Stmt.TheVariants as stmt
 use Rattle.st_tree.proofs.PartEquations.{gathered_append, gathered_first, inner_bodies, inner_rolled}
 use Rattle.graph_rules.specs.Plain.{ArePutBack, AreSettings, AreSteps, IsGuarded, IsStep}
-use Rattle.region_laws.specs.Regions.{Region, again, choice, cycle, ended, forever, fork, arms_with_labels, labels_from, leaves, node, off, quit, selector, table, text_of, turn_to}
+use Rattle.region_laws.specs.Regions.{Region, again, arms_of_nodes, choice, choose, cycle, ended, forever, fork, arms_with_labels, labels_from, leaves, node, off, quit, selector, table, text_of, turn_to}
 use Rattle.region_plans.specs.RegionCounts.{Weights, sum_of, weight}
 use Rattle.region_plans.specs.RegionLaws.{TextWeighs}
 use Rattle.region_plans.specs.TextCounts.{if_tests_in, of_statements, of_tests, of_whiles, test_step, while_step, while_tests_in}
@@ -98,6 +98,21 @@ module _ (A : Type 0) (step : Layer → List A) (w : Weights) (ok : Counts A ste
       let i = inside_append (flat_map (λ (arm : CaseArm). statements_in arm.body) arms) (statements_in other) in
       let h = arms_count bodies labels in omega arith
 
+  node_arms_count : (targets : List ℕ) (bodies : ℕ → List Stmt) (nodes : List ℕ)
+      → length (inside (flat_map (λ (arm : CaseArm). statements_in arm.body) (arms_of_nodes targets bodies nodes))) ≡ sum_of (λ j. count (bodies j)) nodes
+  node_arms_count targets bodies [] = refl
+  node_arms_count targets bodies (j ∷ nodes) =
+      let i = inside_append (statements_in (bodies j)) (flat_map (λ (arm : CaseArm). statements_in arm.body) (arms_of_nodes targets bodies nodes)) in
+      let h = node_arms_count targets bodies nodes in omega arith
+
+  list_counts : (e : Expr) (targets : List ℕ) (bodies : ℕ → List Stmt) (nodes : List ℕ) (other rest : List Stmt)
+      → count (stmt.Case e (arms_of_nodes targets bodies nodes) other ∷ rest) ≡ w.select + sum_of (λ j. count (bodies j)) nodes + count other + count rest
+  list_counts e targets bodies nodes other rest =
+      let arms = arms_of_nodes targets bodies nodes in
+      let f = count_first (S.Case e arms other) (stmt.Case e arms other) (stmt.rolls-Case e arms other) rest in let t = ok.select e arms other in
+      let i = inside_append (flat_map (λ (arm : CaseArm). statements_in arm.body) arms) (statements_in other) in
+      let h = node_arms_count targets bodies nodes in omega arith
+
   -- a statement with no others inside
   single_counts : (y : Layer) (x : Stmt) → roll-Stmt y ≡ x → inner_bodies y ≡ [] → (rest : List Stmt) → count (x ∷ rest) ≡ length (step y) + count rest
   single_counts y x e none rest =
@@ -127,6 +142,12 @@ module _ (A : Type 0) (step : Layer → List A) (w : Weights) (ok : Counts A ste
       let s = ok.steps steps in let b = case_counts e bodies (labels_from 0 n) (text_of next (arms n)) (text_of next rest) in
       let same = sum_same (λ k. count (text_of next (arms k))) (λ k. weight w (arms k)) (λ k. text_counts next (arms k)) (labels_from 0 n) in
       let h = text_counts next (arms n) in let j = text_counts next rest in omega arith
+  text_counts next (choose steps e targets nodes arms other join rest) =
+      let bodies : ℕ → List Stmt = λ j. text_of next (arms j) in
+      let a = count_append steps (stmt.Case e (arms_of_nodes targets bodies nodes) (text_of next other) ∷ text_of next rest) in
+      let s = ok.steps steps in let b = list_counts e targets bodies nodes (text_of next other) (text_of next rest) in
+      let same = sum_same (λ j. count (text_of next (arms j))) (λ j. weight w (arms j)) (λ j. text_counts next (arms j)) nodes in
+      let h = text_counts next other in let j = text_counts next rest in omega arith
   text_counts next (cycle body behind rest) =
       let b = forever_counts (text_of next body) (text_of next rest) in
       let h = text_counts next body in let j = text_counts next rest in omega arith

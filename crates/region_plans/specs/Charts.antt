@@ -1,9 +1,10 @@
 -- What is known of the chart of a unit and of the parts of a segment: which blocks are reached, where the next one is,
 -- and which blocks are heads of loops.
 -- Held against: this project's own segments.
-use Rattle.std.specs.Prelude.{◌≡◌, ◌⊎◌, ◌↔◌, ℕ, suc, ◌<◌, ◌≤◌, Bool, true, false, length, slice_get, Some}
+use Rattle.std.specs.Prelude.{◌≡◌, ◌≢◌, ◌⊎◌, ◌↔◌, ℕ, suc, ◌<◌, ◌≤◌, Bool, true, false, List, [], length, slice_get, Some}
 use Rattle.st_tree.specs.declared.graph.StExit.TheVariants as exit
 use Rattle.st_tree.specs.declared.graph.StNode.{StNode}
+use Rattle.stl_tree.specs.Blocks.{one_of}
 use Rattle.stl_tree.specs.Segments.{IsReached}
 use Rattle.stl_tree.specs.Flows.{IsEndBlock, IsLoop, Segment, blocks_of}
 use Rattle.graph_rules.specs.Flow.{flow_of}
@@ -41,6 +42,9 @@ pub record IsCharted (c : Chart) (g : Segment) : Type 0 where
   pub within : g.past ≤ length c.unit.nodes
   pub reached : (b : ℕ) → (c.unit.reached b ≡ true) ↔ IsReached (blocks_of g.flow) b
   pub there : (b : ℕ) → c.unit.reached b ≡ true → b < length c.unit.nodes
+  -- a jump list has entries, and its label is right behind it
+  pub lists : (b : ℕ) (targets : List ℕ) (label : ℕ) → slice_get g.flow.ways b ≡ Some (one_of targets label)
+      → (targets ≢ []) × (label ≡ suc b)
   pub nexts : (b : ℕ) → b < length c.unit.nodes → IsNext c b
   pub heads : (h : ℕ) → g.first ≤ h → h < g.past → IsHeaded c g h
   -- the block of the end word alone, where a block of the segment leads there
@@ -48,11 +52,13 @@ pub record IsCharted (c : Chart) (g : Segment) : Type 0 where
   pub settings : AreSettings c.end_steps
   pub few : length c.end_steps ≤ 4
 
--- a chart as it is drawn from the blocks of the body of a segment: what is reached, what is next, which blocks of the
--- segment are heads, and what the block of the end word alone is
+-- a chart as it is drawn from the blocks of the body of a segment, where each jump list has entries: what is reached,
+-- what is next, which blocks of the segment are heads, and what the block of the end word alone is
 pub record IsDrawn (c : Chart) (g : Segment) : Type 0 where
   pub flow : g.flow ≡ flow_of c.unit.nodes
   pub reached : (b : ℕ) → (c.unit.reached b ≡ true) ↔ IsReached (blocks_of g.flow) b
+  pub entries : (b : ℕ) (targets : List ℕ) (label : ℕ) → slice_get g.flow.ways b ≡ Some (one_of targets label)
+      → targets ≢ []
   pub nexts : (b : ℕ) → b < length c.unit.nodes → IsNext c b
   pub heads : (h : ℕ) → g.first ≤ h → h < g.past → IsHeaded c g h
   pub end_is : (t : ℕ) (n : StNode) → IsEndBlock g.flow t → slice_get c.unit.nodes t ≡ Some n → n.steps ≡ c.end_steps
@@ -78,12 +84,13 @@ IsEmpty c lo hi = (q : ℕ) → lo ≤ q → q < hi → c.unit.reached q ≡ fal
 abbrev pub IsPlaceOf : Chart → ℕ → Place → Type 0
 IsPlaceOf c f p = c.unit.reached f ≡ true → p ≡ at f
 
--- the loop around a part, by its blocks and by its places
+-- the loop around a part, by its blocks and by its places. The place behind it is that of a block where it may be left
 abbrev pub IsAround : Chart → Around → regions.Around → Type 0
 IsAround c no_loop regions.no_loop = Unit {0}
 IsAround c no_loop (regions.inside head behind) = ⊥
-IsAround c (inside h l) regions.no_loop = ⊥
-IsAround c (inside h l) (regions.inside head behind) = (head ≡ at h) × IsPlaceOf c (suc l) behind
+IsAround c (inside left h l) regions.no_loop = ⊥
+IsAround c (inside left h l) (regions.inside head behind) =
+    (head ≡ at h) × (left ≡ true → IsPlaceOf c (suc l) behind)
 
 -- the place to which a part leads when it falls off its end is that of a block, and so are those of the loop around it
 pub record IsPlaced (c : Chart) (f : ℕ) (a : Around) (follow : Place) (around : regions.Around) : Type 0 where

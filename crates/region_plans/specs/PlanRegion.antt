@@ -1,14 +1,14 @@
 -- The region of a part of a unit, by its plan. It is made from the first block of the part on, and looks at one block
 -- at a time.
 -- Held against: this project's own segments.
-use Rattle.std.specs.Prelude.{ℕ, suc, ◌==◌, nat_le, nat_lt, Bool, true, false, ◌&&◌, if◌then◌else◌, List, length, slice_get, Option, Some, None}
+use Rattle.std.specs.Prelude.{ℕ, suc, ◌==◌, nat_le, nat_lt, Bool, true, false, ◌&&◌, if◌then◌else◌, List, [], ◌∷◌, ◌++◌, length, slice_get, Option, Some, None}
 use Rattle.st_tree.specs.declared.graph.StExit.{StExit}
 use Rattle.st_tree.specs.declared.graph.StExit.TheVariants as exit
 use Rattle.st_tree.specs.declared.graph.StNode.{StNode}
 use Rattle.st_tree.specs.declared.program.Stmt.{Stmt}
 use Rattle.graph_rules.specs.Flow.{flow_of}
-use Rattle.nesting_laws.specs.Plans.{Around, Plan, arm, arms, done, inside, loop, no_loop, one, skip}
-use Rattle.region_laws.specs.Regions.{Marked, Place, Region, again, at, cycle, ended, fork, leaves, node, off, out, quit, selected}
+use Rattle.nesting_laws.specs.Plans.{Around, Plan, arm, arms, cases, done, inside, loop, next, no_loop, one, skip}
+use Rattle.region_laws.specs.Regions.{Marked, Place, Region, again, at, choose, cycle, ended, fork, is_among, leaves, node, off, out, quit, selected}
 
 -- what regions are made from: the nodes of a unit, those that are reached and what each is besides; the first block
 -- behind each that is reached, or how many blocks there are; and the steps of the block of the end word alone
@@ -27,10 +27,11 @@ is_end c t = (flow_of c.unit.nodes).ends_alone && (suc t == length c.unit.nodes)
 abbrev pub end_of : Chart → ℕ → Region
 end_of c t = if is_end c t then node c.end_steps ended else off
 
--- to a block, out of the loop around: CONTINUE, EXIT, or as above
+-- to a block, out of the loop around: CONTINUE, EXIT where the loop may be left, or as above
 abbrev pub way_to : Chart → Around → ℕ → Region
 way_to c no_loop t = end_of c t
-way_to c (inside head last) t = if t == head then again else if t == suc last then leaves else end_of c t
+way_to c (inside left head last) t =
+    if t == head then again else if left && (t == suc last) then leaves else end_of c t
 
 -- a place is that of a block
 abbrev pub is_at : Place → ℕ → Bool
@@ -88,26 +89,70 @@ abbrev pub fork_region : Region → Region → Place → Region → Option StNod
 fork_region there behind join rest None = off
 fork_region there behind join rest (Some n) = test_region there behind join rest n.steps n.exit
 
--- a loop, by its last block, and the rest. Where no path leads to the block behind it, there is no rest
+-- a loop, by its last block, and the rest. Where no path leads from the loop to the block behind it, there is no rest
 abbrev pub loop_region : Bool → Region → ℕ → Place → Region → Region
 loop_region true body l follow rest = cycle body (at (suc l)) rest
 loop_region false body l follow rest = cycle body follow off
 
+-- Jump lists
+
+-- where the arms of a jump list begin, from the one that begins at a block on
+abbrev pub starts_from : Plan → ℕ → List ℕ
+starts_from (next d inner others) lo = lo ∷ starts_from others d
+starts_from other lo = []
+
+-- where those after the first one begin
+abbrev pub later_starts : Plan → List ℕ
+later_starts (next d inner others) = starts_from others d
+later_starts other = []
+
+-- the nodes with an arm of their own: where arms begin after that of the label, and where all arms end, if entries lead
+-- there
+abbrev pub nodes_of : Plan → ℕ → List ℕ → List ℕ
+nodes_of inner e targets = later_starts inner ++ (if is_among e targets then e ∷ [] else [])
+
+-- a block with a jump list, by the arms of its nodes, that of its label, where all arms end, and what stands from there
+-- on
+abbrev pub list_region : Plan → ℕ → (ℕ → Region) → Region → Region → List Stmt → StExit → Region
+list_region inner e by_node other rest steps (exit.Table test targets last) =
+    choose steps test targets (nodes_of inner e targets) by_node other (at e) rest
+list_region inner e by_node other rest steps other_exit = off
+
+abbrev pub cases_region : Plan → ℕ → (ℕ → Region) → Region → Region → Option StNode → Region
+cases_region inner e by_node other rest None = off
+cases_region inner e by_node other rest (Some n) = list_region inner e by_node other rest n.steps n.exit
+
+-- from the block where all arms of a jump list end: the rest of the part; or, where the part ends too, nothing if it
+-- leads there when it falls off its end, else a way out
+abbrev pub rest_from : Chart → ℕ → ℕ → Place → Around → Region → Region
+rest_from c e hi follow a rest = if nat_lt e hi then rest else if is_at follow e then off else way_to c a e
+
 -- Parts
 
--- the region of the blocks from one up to, and not including, another; by the place where it leads when it falls off
--- its end, and by the loop around
-abbrev pub region_of : Chart → Plan → ℕ → ℕ → Place → Around → Region
-region_of c done lo hi follow a = off
-region_of c (skip rest) lo hi follow a = region_of c rest (suc lo) hi follow a
-region_of c (one rest) lo hi follow a =
-    one_region c lo hi follow a (region_of c rest (suc lo) hi follow a) (slice_get c.unit.nodes lo)
-region_of c (arm t inner rest) lo hi follow a =
-    fork_region off (region_of c inner (suc lo) t (at t) a) (at t) (region_of c rest t hi follow a)
-    (slice_get c.unit.nodes lo)
-region_of c (arms t u first second rest) lo hi follow a =
-    fork_region (region_of c second t u (at u) a) (region_of c first (suc lo) t (at u) a) (at u)
-    (region_of c rest u hi follow a) (slice_get c.unit.nodes lo)
-region_of c (loop l body rest) lo hi follow a =
-    loop_region (c.unit.reached (suc l)) (region_of c body lo (suc l) (at lo) (inside lo l)) l follow
-    (region_of c rest (suc l) hi follow a)
+abbrev mutual
+  -- the region of the blocks from one up to, and not including, another; by the place where it leads when it falls off
+  -- its end, and by the loop around
+  pub region_of : Chart → Plan → ℕ → ℕ → Place → Around → Region
+  region_of c done lo hi follow a = off
+  region_of c (skip rest) lo hi follow a = region_of c rest (suc lo) hi follow a
+  region_of c (one rest) lo hi follow a =
+      one_region c lo hi follow a (region_of c rest (suc lo) hi follow a) (slice_get c.unit.nodes lo)
+  region_of c (arm t d inner rest) lo hi follow a =
+      fork_region off (region_of c inner (suc lo) d (at t) a) (at t) (region_of c rest d hi follow a)
+      (slice_get c.unit.nodes lo)
+  region_of c (arms t u d first second rest) lo hi follow a =
+      fork_region (region_of c second t d (at u) a) (region_of c first (suc lo) t (at u) a) (at u)
+      (region_of c rest d hi follow a) (slice_get c.unit.nodes lo)
+  region_of c (loop left l body rest) lo hi follow a =
+      loop_region (left && c.unit.reached (suc l)) (region_of c body lo (suc l) (at lo) (inside left lo l)) l follow
+      (region_of c rest (suc l) hi follow a)
+  region_of c (cases e inner rest) lo hi follow a =
+      cases_region inner e (arm_from c inner (suc lo) e a) (arm_from c inner (suc lo) e a (suc lo))
+      (rest_from c e hi follow a (region_of c rest e hi follow a)) (slice_get c.unit.nodes lo)
+  region_of c (next d inner others) lo hi follow a = off
+
+  -- of the arms of a jump list from one block up to another, the one that begins at a block
+  pub arm_from : Chart → Plan → ℕ → ℕ → Around → ℕ → Region
+  arm_from c (next d inner others) lo e a j =
+      if j == lo then region_of c inner lo d (at e) a else arm_from c others d e a j
+  arm_from c other lo e a j = off

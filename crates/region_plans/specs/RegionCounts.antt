@@ -5,7 +5,7 @@ use Rattle.st_tree.specs.declared.graph.StExit.{StExit}
 use Rattle.st_tree.specs.declared.graph.StExit.TheVariants as exit
 use Rattle.st_tree.specs.declared.graph.StNode.{StNode}
 use Rattle.st_tree.specs.declared.program.Stmt.{Stmt}
-use Rattle.region_laws.specs.Regions.{Mark, Region, again, arm_of, cycle, ended, fork, labels_from, leaves, loop_head, node, off, quit, selector, table, turn_to, unmarked}
+use Rattle.region_laws.specs.Regions.{Mark, Region, again, arm_of, choose, cycle, ended, fork, labels_from, leaves, loop_head, node, off, quit, selector, table, turn_to, unmarked}
 use Rattle.region_plans.specs.PlanRegion.{Chart}
 
 -- Regions
@@ -38,12 +38,14 @@ weight w (quit steps e rest) = w.steps steps + (w.test + w.leave + weight w rest
 weight w (table steps e count arms join rest) =
     w.steps steps
     + (w.select + sum_of (λ n. weight w (arms n)) (labels_from 0 count) + weight w (arms count) + weight w rest)
+weight w (choose steps e targets nodes arms other join rest) =
+    w.steps steps + (w.select + sum_of (λ j. weight w (arms j)) nodes + weight w other + weight w rest)
 weight w (cycle body behind rest) = w.turn + weight w body + weight w rest
 weight w (turn_to j rest) = w.set + weight w rest
 weight w (selector labels arms behind rest) =
     w.turn + w.select + sum_of (λ n. weight w (arms n)) labels + weight w rest
 
--- no CASE and no `NEXT`
+-- no CASE with an arm for each entry of a table, no dispatch loop and no `NEXT`
 abbrev pub IsSimple : Region → Type 0
 IsSimple off = Unit {0}
 IsSimple leaves = Unit {0}
@@ -53,6 +55,8 @@ IsSimple (node steps rest) = IsSimple rest
 IsSimple (fork steps e there behind join rest) = IsSimple there × IsSimple behind × IsSimple rest
 IsSimple (quit steps e rest) = IsSimple rest
 IsSimple (table steps e count arms join rest) = ⊥
+IsSimple (choose steps e targets nodes arms other join rest) =
+    ((j : ℕ) → IsSimple (arms j)) × IsSimple other × IsSimple rest
 IsSimple (cycle body behind rest) = IsSimple body × IsSimple rest
 IsSimple (turn_to j rest) = ⊥
 IsSimple (selector labels arms behind rest) = ⊥
@@ -64,16 +68,16 @@ abbrev pub before : (ℕ → ℕ) → ℕ → ℕ
 before weight zero = 0
 before weight (suc n) = before weight n + weight n
 
--- the test of an exit, where an IF has it
+-- the IF or the CASE of an exit
 abbrev pub exit_weight : Weights → StExit → ℕ
 exit_weight w exit.Fall = 0
 exit_weight w (exit.Jump j) = 0
 exit_weight w (exit.Branch e j) = w.test
 exit_weight w (exit.EndIf e) = w.test
-exit_weight w (exit.Table e targets last) = 0
+exit_weight w (exit.Table e targets last) = w.select
 exit_weight w exit.End = 0
 
--- the steps and the test of a node
+-- the steps of a node, and what is made of its exit
 abbrev pub node_weight : Weights → Option StNode → ℕ
 node_weight w None = 0
 node_weight w (Some n) = w.steps n.steps + exit_weight w n.exit

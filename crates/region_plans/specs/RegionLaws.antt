@@ -7,7 +7,7 @@ use Rattle.st_tree.specs.declared.graph.StNode.{StNode}
 use Rattle.stl_tree.specs.Flows.{IsSegment, Segment}
 use Rattle.graph_rules.specs.Plain.{AreSteps}
 use Rattle.nesting_laws.specs.PlanLaws.{IsFlow}
-use Rattle.nesting_laws.specs.Plans.{Around, IsPlan, IsPlanOf, Plan, levels, no_loop}
+use Rattle.nesting_laws.specs.Plans.{Around, IsPlan, IsPlanOf, IsRow, Kind, Plan, levels, no_loop}
 use Rattle.region_laws.specs.RegionDepth.{depth}
 use Rattle.region_laws.specs.Regions as regions
 use Rattle.region_laws.specs.Regions.{Fits, Place, Region, at, off, text_of}
@@ -24,20 +24,21 @@ DrawnIsCharted = (c : Chart) (g : Segment) → IsFlow g.flow → IsSegment g →
 
 -- the region of a part fits from the first block on that is reached
 abbrev pub PartFits : Type 0
-PartFits = (c : Chart) (g : Segment) (plan : Plan) (turn : Bool) (lo hi f : ℕ) (a : Around) (follow : Place)
-    (around : regions.Around) → IsCharted c g → IsPlan g plan turn lo hi f a
+PartFits = (c : Chart) (g : Segment) (plan : Plan) (turn : Bool) (lo hi f : ℕ) (a : Around) (k : Kind)
+    (follow : Place) (around : regions.Around) → IsCharted c g → IsPlan g plan turn lo hi f a k → IsRow k
     → IsPart c g turn lo hi → IsPlaced c f a follow around → (p : ℕ) → IsFirst c lo hi p
     → Fits c.unit turn (region_of c plan lo hi follow a) (at p) follow around
 
 -- the region of a part of which no block is reached is nothing
 abbrev pub EmptyIsOff : Type 0
-EmptyIsOff = (c : Chart) (g : Segment) (plan : Plan) (turn : Bool) (lo hi f : ℕ) (a : Around) (follow : Place)
-    → IsCharted c g → IsPlan g plan turn lo hi f a → IsEmpty c lo hi → region_of c plan lo hi follow a ≡ off
+EmptyIsOff = (c : Chart) (g : Segment) (plan : Plan) (turn : Bool) (lo hi f : ℕ) (a : Around) (k : Kind)
+    (follow : Place) → IsCharted c g → IsPlan g plan turn lo hi f a k → IsEmpty c lo hi
+    → region_of c plan lo hi follow a ≡ off
 
 -- the region of a part weighs no more than its blocks, whatever is counted
 abbrev pub PartIsWithin : Type 0
 PartIsWithin = (w : Weights) (c : Chart) (g : Segment) (plan : Plan) (turn : Bool) (lo hi f : ℕ) (a : Around)
-    (follow : Place) → IsCharted c g → IsPlan g plan turn lo hi f a → IsPart c g turn lo hi
+    (k : Kind) (follow : Place) → IsCharted c g → IsPlan g plan turn lo hi f a k → IsRow k → IsPart c g turn lo hi
     → IsWithin w c turn lo hi (region_of c plan lo hi follow a)
 
 -- the region of a part is simple, and as deep as the plan lets it be

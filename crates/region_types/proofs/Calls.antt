@@ -5,7 +5,7 @@ use Rattle.std.specs.Prelude.{All, Contains}
 use Rattle.std.proofs.lemmas.List.Elements.{All-append, All-contains_itself, All-nil}
 use Rattle.graph_rules.specs.Plain.{node_statements}
 use Rattle.region_laws.specs.NextLocal.{set_next}
-use Rattle.region_laws.specs.Regions.{Region, again, choice, cycle, ended, forever, fork, arms_with_labels, labels_from, leaves, node, off, quit, selector, table, text_of, turn_to}
+use Rattle.region_laws.specs.Regions.{Region, again, choice, choose, cycle, ended, forever, fork, arms_of_nodes, arms_with_labels, labels_from, leaves, node, off, quit, selector, table, text_of, turn_to}
 use Rattle.region_types.proofs.Labels.{each_from, each_label}
 use Rattle.region_types.proofs.Lists.{all_parts}
 use Rattle.region_types.proofs.Made.{IsMade, each_node, parts_of}
@@ -62,15 +62,23 @@ module _ (P : Call → Type 0) where
       both_calls (statements_in (bodies n)) (flat_map (λ (arm : CaseArm). statements_in arm.body) (arms_with_labels bodies labels)) h.0
       (labelled_calls bodies labels h.1)
 
+  node_calls : (targets : List ℕ) (bodies : ℕ → List Stmt) (nodes : List ℕ) → AllByRecursion (λ n. Calls (bodies n)) nodes
+      → All P (calls_of (flat_map (λ (arm : CaseArm). statements_in arm.body) (arms_of_nodes targets bodies nodes)))
+  node_calls targets bodies [] h = All-nil P
+  node_calls targets bodies (n ∷ nodes) h =
+      both_calls (statements_in (bodies n)) (flat_map (λ (arm : CaseArm). statements_in arm.body) (arms_of_nodes targets bodies nodes)) h.0
+      (node_calls targets bodies nodes h.1)
+
+  arms_call : (e : Expr) (arms : List CaseArm) (other : List Stmt)
+      → All P (calls_of (flat_map (λ (arm : CaseArm). statements_in arm.body) arms)) → Calls other → Calls (stmt.Case e arms other ∷ [])
+  arms_call e arms other h k =
+      subst (All P) (sym (gathered_first call_step (S.Case e arms other) (stmt.rolls-Case e arms other) []))
+      (All-append P (calls_of (flat_map (λ (arm : CaseArm). statements_in arm.body) arms ++ statements_in other)) []
+      (both_calls (flat_map (λ (arm : CaseArm). statements_in arm.body) arms) (statements_in other) h k) (All-nil P))
+
   case_calls : (e : Expr) (bodies : ℕ → List Stmt) (labels : List ℕ) (other : List Stmt) → AllByRecursion (λ n. Calls (bodies n)) labels → Calls other
       → Calls (stmt.Case e (arms_with_labels bodies labels) other ∷ [])
-  case_calls e bodies labels other h k =
-      subst (All P)
-      (sym (gathered_first call_step (S.Case e (arms_with_labels bodies labels) other) (stmt.rolls-Case e (arms_with_labels bodies labels) other) []))
-      (All-append P (calls_of (flat_map (λ (arm : CaseArm). statements_in arm.body) (arms_with_labels bodies labels) ++ statements_in other)) []
-      (both_calls (flat_map (λ (arm : CaseArm). statements_in arm.body) (arms_with_labels bodies labels)) (statements_in other)
-      (labelled_calls bodies labels h) k)
-      (All-nil P))
+  case_calls e bodies labels other h k = arms_call e (arms_with_labels bodies labels) other (labelled_calls bodies labels h) k
 
   forever_calls : (body : List Stmt) → Calls body → Calls (forever body ∷ [])
   forever_calls body h =
@@ -112,6 +120,14 @@ module _ (P : Call → Type 0) where
       (each_from (λ n. Calls (text_of next (arms n))) 0 count (λ n l. region_calls next many inside (arms n) (h.3 n (omega arith))))
       (region_calls next many inside (arms count) (h.3 count (omega arith))))
       (region_calls next many inside rest h.4))
+  region_calls next many inside (choose steps e targets nodes arms other join rest) h =
+      append_calls steps (stmt.Case e (arms_of_nodes targets (λ j. text_of next (arms j)) nodes) (text_of next other) ∷ text_of next rest) h.0
+      (first_calls (stmt.Case e (arms_of_nodes targets (λ j. text_of next (arms j)) nodes) (text_of next other)) (text_of next rest)
+      (arms_call e (arms_of_nodes targets (λ j. text_of next (arms j)) nodes) (text_of next other)
+      (node_calls targets (λ j. text_of next (arms j)) nodes
+      (each_label (λ j. Calls (text_of next (arms j))) nodes (λ j l. region_calls next many inside (arms j) (h.4 j l).1)))
+      (region_calls next many inside other h.5))
+      (region_calls next many inside rest h.6))
   region_calls next many inside (cycle body behind rest) h =
       first_calls (forever (text_of next body)) (text_of next rest) (forever_calls (text_of next body) (region_calls next many true body h.0))
       (region_calls next many inside rest h.1)

@@ -1,10 +1,10 @@
 -- What a region that fits is made of: parts of the nodes of its unit.
-use Rattle.std.proofs.Common.{◌≡◌, ℕ, zero, suc, ◌<◌, ◌≤◌, ◌==◌, Bool, true, false, List, [], ◌∷◌, ◌++◌, length, Some, refl, sym, ap, ◌∙◌, subst, eqb-true}
+use Rattle.std.proofs.Common.{◌≡◌, ◌≢◌, ℕ, zero, suc, ◌<◌, ◌≤◌, ◌==◌, Bool, true, false, List, [], ◌∷◌, ◌++◌, length, Some, refl, sym, ap, ◌∙◌, subst, eqb-true}
 use Rattle.std.specs.Prelude.{slice_get}
 use Rattle.std.specs.List.{list_any}
 use Rattle.std.proofs.lemmas.Option.{slice_get_within}
 use Rattle.graph_rules.specs.Plain.{node_statements, test_of}
-use Rattle.region_laws.specs.Regions.{Around, Fits, IsNode, Mark, Marked, Place, Region, again, arm_of, at, cycle, ended, fork, inside, is_arm, leaves, loop_head, no_loop, node, off, quit, selected, selector, table, turn_to, unmarked}
+use Rattle.region_laws.specs.Regions.{Around, Fits, IsNode, Mark, Marked, Place, Region, again, arm_of, at, choose, cycle, ended, fork, inside, is_among, is_arm, leaves, loop_head, no_loop, node, off, quit, selected, selector, table, turn_to, unmarked}
 use Rattle.region_types.specs.TextLaws.{is_inside}
 use Rattle.st_tree.specs.GraphRun.{entry_or}
 use Rattle.st_tree.specs.declared.expr.Expr.{Expr}
@@ -41,6 +41,9 @@ module _ (Q : List Stmt → Type 0) (R : ℕ → Type 0) (many : ℕ) where
   IsMade within (quit steps e rest) = Q steps × Q (test_of (exit.EndIf e)) × IsMade within rest
   IsMade within (table steps e count arms join rest) =
       Q steps × Q (test_of (exit.Table e [] 0)) × R count × ((n : ℕ) → n ≤ count → IsMade within (arms n)) × IsMade within rest
+  IsMade within (choose steps e targets nodes arms other join rest) =
+      Q steps × Q (test_of (exit.Table e [] 0)) × R (length targets) × (nodes ≢ [])
+      × ((j : ℕ) → is_among j nodes ≡ true → (is_among j targets ≡ true) × IsMade within (arms j)) × IsMade within other × IsMade within rest
   IsMade within (cycle body behind rest) = IsMade true body × IsMade within rest
   IsMade within (turn_to j rest) = IsMade within rest
   IsMade within (selector labels arms behind rest) =
@@ -73,6 +76,8 @@ module _ (unit : Marked) where
   begins (fork steps e there behind join rest) n follow a (i, j, p, h, one, two, more) = in_unit true n i steps (exit.Branch e j) p h
   begins (quit steps e rest) n follow a (i, p, h, more) = in_unit true n i steps (exit.EndIf e) p h
   begins (table steps e count arms join rest) n follow a (i, targets, last, p, h, same, each, more) = in_unit true n i steps (exit.Table e targets last) p h
+  begins (choose steps e targets nodes arms other join rest) n follow a (i, last, p, h, have, each, else, more) =
+      in_unit true n i steps (exit.Table e targets last) p h
   begins (cycle body behind rest) n follow a (i, e, p, mark, one, more) = cc
   begins (turn_to j rest) n follow a (k, e, p, mark, more) = cc
   begins (selector labels arms behind rest) n follow a (k, e, p, marks, each, more) = cc
@@ -108,6 +113,16 @@ module _ (unit : Marked) where
           own.1,
           table_has turn i steps e targets last count h same,
           (λ n l. parts_of false (arms n) (at (entry_or (slice_get targets n) last)) join a (each n l)),
+          parts_of false rest join follow a more,
+        )
+    parts_of turn (choose steps e targets nodes arms other join rest) p follow a (i, last, q, h, have, each, else, more) =
+        let own = node_has turn i steps (exit.Table e targets last) h in (
+          own.0,
+          own.1,
+          table_has turn i steps e targets last (length targets) h refl,
+          have.any,
+          (λ j l. (have.some j l, parts_of false (arms j) (at j) join a (each j l))),
+          parts_of false other (at last) join a else,
           parts_of false rest join follow a more,
         )
     parts_of turn (cycle body behind rest) p follow a (i, e, q, head, one, more) =

@@ -3,7 +3,7 @@ use Rattle.std.proofs.Common.{◌≡◌, ℕ, zero, suc, ◌+◌, ◌≤◌, pos
 use Rattle.std.specs.List.{AllByRecursion}
 use Rattle.graph_rules.specs.Plain.{node_statements, test_of}
 use Rattle.region_laws.specs.NextLocal.{arm_with_label, set_next}
-use Rattle.region_laws.specs.Regions.{Region, again, choice, cycle, ended, forever, fork, arms_with_labels, labels_from, leaves, node, off, quit, selector, table, text_of, turn_to}
+use Rattle.region_laws.specs.Regions.{Region, again, choice, choose, cycle, ended, forever, fork, arms_of_nodes, arms_with_labels, labels_from, leaves, positions_of, node, off, quit, selector, table, text_of, turn_to}
 use Rattle.region_types.proofs.Labels.{each_from, each_label}
 use Rattle.region_types.proofs.Made.{IsMade, each_node, parts_of}
 use Rattle.region_laws.specs.RegionDepth.{depth, most_of}
@@ -75,6 +75,17 @@ labelled_nests w bodies deep (n ∷ labels) h =
     let rest : greatest (map case_nesting (arms_with_labels bodies labels)) ≤ suc (most_of deep labels + w) = labelled_nests w bodies deep labels h.1 in
     omega arith
 
+listed_nests : (w : ℕ) (targets : List ℕ) (bodies : ℕ → List Stmt) (deep : ℕ → ℕ) (nodes : List ℕ)
+    → AllByRecursion (λ n. body_nesting (bodies n) ≤ suc (deep n + w)) nodes
+    → greatest (map case_nesting (arms_of_nodes targets bodies nodes)) ≤ suc (most_of deep nodes + w)
+listed_nests w targets bodies deep [] h = omega arith
+listed_nests w targets bodies deep (n ∷ nodes) h =
+    let arm : case_nesting (record { labels = positions_of n 0 targets; body = bodies n }) ≡ body_nesting (bodies n) =
+    nesting_case_arm (record { labels = positions_of n 0 targets; body = bodies n }) in
+    let own : body_nesting (bodies n) ≤ suc (deep n + w) = h.0 in
+    let rest : greatest (map case_nesting (arms_of_nodes targets bodies nodes)) ≤ suc (most_of deep nodes + w) = listed_nests w targets bodies deep nodes h.1 in
+    omega arith
+
 -- the last of some labels, and those before it
 record IsLast (deep : ℕ → ℕ) (before all : List ℕ) (last : ℕ) : Type 0 where
   more : most_of deep before ≤ most_of deep all
@@ -144,6 +155,21 @@ module _ (next many w : ℕ) where
       (first_nests (suc (most_of (λ n. depth (arms n)) (labels_from 0 (suc count)))) (depth rest)
       (stmt.Case e (arms_with_labels (λ n. text_of next (arms n)) (labels_from 0 count)) (text_of next (arms count))) (text_of next rest) (omega arith)
       (region_nests inside rest h.4))
+  region_nests inside (choose steps e targets nodes arms other join rest) h =
+      let test : suc (expression_nesting e) ≤ w = subst (λ (n : ℕ). n ≤ w) (value_nests e) h.1 in
+      let each : greatest (map case_nesting (arms_of_nodes targets (λ j. text_of next (arms j)) nodes)) ≤ suc (most_of (λ j. depth (arms j)) nodes + w) =
+      listed_nests w targets (λ j. text_of next (arms j)) (λ j. depth (arms j)) nodes
+      (each_label (λ j. body_nesting (text_of next (arms j)) ≤ suc (depth (arms j) + w)) nodes (λ j l. region_nests inside (arms j) (h.4 j l).1)) in
+      let last : body_nesting (text_of next other) ≤ suc (depth other + w) = region_nests inside other h.5 in
+      let is : nesting (stmt.Case e (arms_of_nodes targets (λ j. text_of next (arms j)) nodes) (text_of next other))
+      ≡ suc (max (expression_nesting e) (max (greatest (map case_nesting (arms_of_nodes targets (λ j. text_of next (arms j)) nodes)))
+      (body_nesting (text_of next other)))) =
+      nesting_case e (arms_of_nodes targets (λ j. text_of next (arms j)) nodes) (text_of next other) in
+      behind_steps (depth (choose steps e targets nodes arms other join rest)) steps
+      (stmt.Case e (arms_of_nodes targets (λ j. text_of next (arms j)) nodes) (text_of next other) ∷ text_of next rest) h.0
+      (first_nests (suc (max (most_of (λ j. depth (arms j)) nodes) (depth other))) (depth rest)
+      (stmt.Case e (arms_of_nodes targets (λ j. text_of next (arms j)) nodes) (text_of next other)) (text_of next rest) (omega arith)
+      (region_nests inside rest h.6))
   region_nests inside (cycle body behind rest) h =
       let one : body_nesting (text_of next body) ≤ suc (depth body + w) = region_nests true body h.0 in
       first_nests (suc (depth body)) (depth rest) (forever (text_of next body)) (text_of next rest) (omega (arith, forever_nests (text_of next body)))

@@ -1,13 +1,13 @@
 -- The text of a region that fits is well typed.
-use Rattle.std.proofs.Common.{◌≡◌, ◌≢◌, ℕ, zero, suc, ◌^◌, ◌<◌, ◌≤◌, ◌==◌, pos, Bool, true, false, List, [], ◌∷◌, ◌++◌, length, map, Option, Some, refl, ap, ◌∙◌, subst, arith}
-use Rattle.std.specs.List.{AllByRecursion, list_any}
+use Rattle.std.proofs.Common.{◌≡◌, ◌≢◌, ℕ, zero, suc, ◌+◌, ◌^◌, ◌<◌, ◌≤◌, ◌==◌, pos, Bool, true, false, ◌||◌, if◌then◌else◌, List, [], ◌∷◌, ◌++◌, length, map, Option, Some, refl, ap, ◌∙◌, subst, arith}
+use Rattle.std.specs.List.{AllByRecursion, list_all, list_any}
 use Rattle.std.specs.Prelude.{slice_get}
 use Rattle.std.proofs.lemmas.Int.{ints}
 use Rattle.graph_rules.specs.Plain.{LeadsInside, test_of}
 use Rattle.region_laws.proofs.Tests.{Selects, has_type_of_test, tests_type}
 use Rattle.region_laws.proofs.Typed.{both_typed}
 use Rattle.region_laws.specs.NextLocal.{arm_with_label, set_next}
-use Rattle.region_laws.specs.Regions.{Region, again, choice, cycle, ended, forever, fork, arms_with_labels, labels_from, leaves, node, off, quit, selector, table, text_of, turn_to}
+use Rattle.region_laws.specs.Regions.{Region, again, choice, choose, cycle, ended, forever, fork, arms_of_nodes, arms_with_labels, is_among, labels_from, leaves, node, off, positions_of, quit, selector, table, text_of, turn_to}
 use Rattle.region_types.proofs.Labels.{each_from, each_label}
 use Rattle.region_types.proofs.Made.{IsMade, each_node, parts_of}
 use Rattle.region_types.proofs.Still.{both_true, has, still_typed}
@@ -51,6 +51,32 @@ some_from : (label count : ℕ) → 1 ≤ count → labels_from label count ≢ 
 some_from label zero h = absurd (omega arith)
 some_from label (suc count) h = λ e. cc
 
+-- the positions of the entries that lead to a node: there is one, and the selector may have each
+
+some_nodes : {A : Type 0} (f : CaseArm → A) (targets : List ℕ) (bodies : ℕ → List Stmt) (nodes : List ℕ) → nodes ≢ []
+    → is_some_of (map f (arms_of_nodes targets bodies nodes)) ≡ true
+some_nodes f targets bodies [] h = absurd (h refl)
+some_nodes f targets bodies (j ∷ nodes) h = refl
+
+some_positions : (j b : ℕ) (targets : List ℕ) → is_among j targets ≡ true → is_some_of (positions_of j b targets) ≡ true
+some_positions j b [] h = cc
+some_positions j b (t ∷ targets) h = by (t == j) (is_among j targets) (some_positions j (suc b) targets) h
+  where
+    by : (c d : Bool) → (d ≡ true → is_some_of (positions_of j (suc b) targets) ≡ true) → (c || d) ≡ true
+        → is_some_of (if c then pos b ∷ positions_of j (suc b) targets else positions_of j (suc b) targets) ≡ true
+    by true d more e = refl
+    by false d more e = more e
+
+positions_typed : (ty : StType) → is_selector ty ≡ true → (j b : ℕ) (targets : List ℕ) → b + length targets ≤ 255
+    → list_all (is_value ty) (positions_of j b targets) ≡ true
+positions_typed ty s j b [] few = refl
+positions_typed ty s j b (t ∷ targets) few = by (t == j) (positions_typed ty s j (suc b) targets (omega arith))
+  where
+    by : (c : Bool) → list_all (is_value ty) (positions_of j (suc b) targets) ≡ true
+        → list_all (is_value ty) (if c then pos b ∷ positions_of j (suc b) targets else positions_of j (suc b) targets) ≡ true
+    by true more = both_true _ _ (selector_value ty s b (omega arith)) more
+    by false more = more
+
 module _ (sight : UnitScope) where
   -- Statements in two parts, and choices
 
@@ -89,6 +115,29 @@ module _ (sight : UnitScope) where
       (each_from (λ n. (is_value by.type (pos n) ≡ true) × (are_well_typed sight inside (bodies n) ≡ true)) 0 count
       (λ n l. (selector_value by.type by.selects n (omega arith), each n (omega arith))))))
       (each count (omega arith))
+
+  nodes_typed : (ty : StType) → is_selector ty ≡ true → (inside : Bool) (targets : List ℕ) → length targets ≤ 255 → (bodies : ℕ → List Stmt)
+      (nodes : List ℕ) → AllByRecursion (λ j. (is_among j targets ≡ true) × (are_well_typed sight inside (bodies j) ≡ true)) nodes
+      → each_case ty inside (map (is_case_arm sight) (arms_of_nodes targets bodies nodes)) ≡ true
+  nodes_typed ty s inside targets few bodies [] h = refl
+  nodes_typed ty s inside targets few bodies (j ∷ nodes) h =
+      both_true _ _
+      (good_case_arm sight inside (record { labels = positions_of j 0 targets; body = bodies j }) ty
+      ∙ both_true _ _ (both_true _ _ (some_positions j 0 targets h.0.0) (positions_typed ty s j 0 targets (omega arith))) h.0.1)
+      (nodes_typed ty s inside targets few bodies nodes h.1)
+
+  list_typed : (inside : Bool) (e : Expr) (targets : List ℕ) → length targets ≤ 255 → Selects (expression_type sight e) → (bodies : ℕ → List Stmt)
+      (nodes : List ℕ) (other : List Stmt) → nodes ≢ []
+      → ((j : ℕ) → is_among j nodes ≡ true → (is_among j targets ≡ true) × (are_well_typed sight inside (bodies j) ≡ true))
+      → are_well_typed sight inside other ≡ true → is_well_typed sight (stmt.Case e (arms_of_nodes targets bodies nodes) other) inside ≡ true
+  list_typed inside e targets few by bodies nodes other some each last =
+      good_case sight inside e (arms_of_nodes targets bodies nodes) other
+      ∙ both_true _ _
+      (ap (λ (o : Option StType). are_cases o inside (map (is_case_arm sight) (arms_of_nodes targets bodies nodes))) by.has
+      ∙ both_true _ _ (both_true _ _ by.selects (some_nodes (is_case_arm sight) targets bodies nodes some))
+      (nodes_typed by.type by.selects inside targets few bodies nodes
+      (each_label (λ j. (is_among j targets ≡ true) × (are_well_typed sight inside (bodies j) ≡ true)) nodes each)))
+      last
 
   -- Loops
 
@@ -162,6 +211,13 @@ module _ (small large : UnitScope) (wider : IsWider small large) (has_next : Boo
         (table_typed large inside e count (λ n. text_of next (arms n)) h.2.0 h.2.1 (selects e h.1)
         (λ n l. region_typed inside (arms n) (h.3 n l) (u.0 n l)))
         (region_typed inside rest h.4 u.1))
+    region_typed inside (choose steps e targets nodes arms other join rest) h u =
+        append_typed large inside steps
+        (stmt.Case e (arms_of_nodes targets (λ j. text_of next (arms j)) nodes) (text_of next other) ∷ text_of next rest) (keeps_types inside steps h.0)
+        (both_true _ _
+        (list_typed large inside e targets h.2.1 (selects e h.1) (λ j. text_of next (arms j)) nodes (text_of next other) h.3
+        (λ j l. let own = h.4 j l in (own.0, region_typed inside (arms j) own.1 (u.0 j l))) (region_typed inside other h.5 u.1))
+        (region_typed inside rest h.6 u.2))
     region_typed inside (cycle body behind rest) h u =
         both_true _ _ (loop_typed large inside (text_of next body) (region_typed true body h.0 u.0)) (region_typed inside rest h.1 u.1)
     region_typed inside (turn_to j rest) h u =

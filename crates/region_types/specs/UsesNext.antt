@@ -2,7 +2,7 @@
 -- Held against: this project's own names.
 use Rattle.std.specs.Prelude.{◌≡◌, ◌≢◌, ℕ, ◌<◌, ◌≤◌, ◌==◌, Bool, true, []}
 use Rattle.std.specs.List.{list_any}
-use Rattle.region_laws.specs.Regions.{Region, again, cycle, ended, fork, leaves, node, off, quit, selector, table, turn_to}
+use Rattle.region_laws.specs.Regions.{Region, again, choose, cycle, ended, fork, is_among, leaves, node, off, quit, selector, table, turn_to}
 
 -- where a unit has `NEXT`, or has it not, and so many nodes: `NEXT` is set and read only where the unit has it, to
 -- positions of nodes, and each dispatch loop has a node
@@ -17,6 +17,9 @@ UsesNext has_next many (fork steps e there behind join rest) =
 UsesNext has_next many (quit steps e rest) = UsesNext has_next many rest
 UsesNext has_next many (table steps e count arms join rest) =
     ((n : ℕ) → n ≤ count → UsesNext has_next many (arms n)) × UsesNext has_next many rest
+UsesNext has_next many (choose steps e targets nodes arms other join rest) =
+    ((j : ℕ) → is_among j nodes ≡ true → UsesNext has_next many (arms j)) × UsesNext has_next many other
+    × UsesNext has_next many rest
 UsesNext has_next many (cycle body behind rest) = UsesNext has_next many body × UsesNext has_next many rest
 UsesNext has_next many (turn_to j rest) = (has_next ≡ true) × (j < many) × UsesNext has_next many rest
 UsesNext has_next many (selector labels arms behind rest) =

@@ -7,10 +7,10 @@ use Rattle.std.proofs.lemmas.Result.{IfOk-weaker}
 use Rattle.st_tree.specs.declared.graph.StNode.{StNode}
 use Rattle.st_tree.specs.declared.program.Stmt.{Stmt}
 use Rattle.stl_tree.specs.Flows.{IsSegment}
-use Rattle.nesting_rules.specs.NestedJumps.{IsWellNested}
 use Rattle.graph_rules.specs.Flow.{flow_of}
 use Rattle.graph_rules.specs.Plain.{AreSettings}
 use Rattle.nesting_laws.specs.Plans.{IsPlanOf, Plan, levels}
+use Rattle.nesting_laws.specs.Splitting.{MaySplit}
 use Rattle.region_laws.specs.Regions.{text_of}
 use Rattle.segment_plans.specs.Counts.{is_reached, last_of}
 use Rattle.segment_plans.specs.Known.{AreKnown}
@@ -19,7 +19,7 @@ use Rattle.unit_regions.specs.MadeCharts.{ending_of, text_between}
 use Rattle.unit_regions.specs.UnitCharts.{blocks_between}
 use Rattle.unit_regions.specs.UnitCounts.{one_without}
 use Rattle.unit_regions.specs.UnitRegion.{dispatch_region, place_of, region_by}
-use Rattle.nesting_laws.proofs.Plannings.{well_nested_is_planned}
+use Rattle.nesting_laws.proofs.Plannings.{nested_by_paths_is_planned}
 use Rattle.unit_regions.proofs.Flowing.{is_flow}
 use Rattle.unit_regions.proofs.Texts.{text_ends, text_goes_on, text_stops}
 use Rattle.dispatch_loops.specs.Charted.{chart_in}
@@ -47,23 +47,23 @@ known_settings all blocks ending unit = subst AreSettings (sym unit.last) (are_s
 
 -- One segment
 
--- a segment that is well nested is written by its plan
+-- a segment that may be split is written by its plan
 pub by_plan : {E : Type 0} (all : List StNode) (blocks : Blocks) (ending : List Stmt) (selector first past : ℕ) (old new : Structured) (left : List StNode)
     (r : Result Bool E) → new.selectors ≡ old.selectors → IsKnownUnit all blocks ending → IsSegment (blocks_between all first past)
-    → IsWellNested (blocks_between all first past)
+    → MaySplit (blocks_between all first past)
     → ((plan : Plan) → length all ≤ 32769 → AreKnown (flow_of all) blocks → ending ≡ ending_of all → past ≤ length all
     → IsSegment (blocks_between all first past) → IsPlanOf (blocks_between all first past) plan → levels plan ≤ 64
     → (next : ℕ) → IfOk r (IsWritten all past next (region_by (chart_in all blocks) first past (Some plan)) left old.body new.body))
     → IfOk r (λ falls. (left ≡ drop past all) × IsNext all blocks selector first past old new falls)
-by_plan all blocks ending selector first past old new left r count unit segment nested written =
-    let (plan, is, low) = well_nested_is_planned (blocks_between all first past) (is_flow all unit.plain.plain) segment nested in
+by_plan all blocks ending selector first past old new left r count unit segment split written =
+    let (plan, is, low) = nested_by_paths_is_planned (blocks_between all first past) (is_flow all unit.plain.plain) segment split.0 in
     IfOk-weaker r (IsWritten all past selector (region_by (chart_in all blocks) first past (Some plan)) left old.body new.body)
     (λ falls. (left ≡ drop past all) × IsNext all blocks selector first past old new falls)
     (λ falls w. (
       w.nodes,
       record {
         plan = Some plan;
-        planned = (nested, is);
+        planned = (split, is);
         body = w.text;
         selectors = omega (arith, count);
         off = w.falls;
@@ -73,7 +73,7 @@ by_plan all blocks ending selector first past old new left r count unit segment 
 
 -- any other is a loop over the selector
 pub by_turns : (all : List StNode) (blocks : Blocks) (selector first past : ℕ) (old new : Structured)
-    → (IsWellNested (blocks_between all first past) → ⊥)
+    → (MaySplit (blocks_between all first past) → ⊥)
     → new.body ≡ old.body ++ text_of selector (dispatch_region (chart_in all blocks) first past (place_of (chart_in all blocks) past))
     → new.selectors ≡ old.selectors + 1 → IsNext all blocks selector first past old new true
 by_turns all blocks selector first past old new other body count = record {

@@ -17,7 +17,7 @@ use dispatch_loops::{Turns, push_turns, settings};
 use flow_graph::cuts;
 use plan_texts::push_planned;
 use s7_base::{List, NoMemory, rest_after};
-use segment_plans::{Blocks, blocks_of, is_well_nested};
+use segment_plans::{Blocks, blocks_of, may_split};
 use st_tree::{StGraph, StNode, Stmt};
 use std::alloc::Global;
 use std::collections::VecDeque;
@@ -65,7 +65,7 @@ fn push_segment(
         → IfOk result (λ falls. (nodes.new.items ≡ drop past all)
         × IsNext all unit.entry.blocks.now unit.entry.selector first past made.old made.new falls) }
 {
-    if is_well_nested(unit.alloc, unit.blocks, first, past)? {
+    if may_split(unit.alloc, unit.blocks, first, past)? {
         return push_planned(
             unit.alloc,
             unit.blocks,

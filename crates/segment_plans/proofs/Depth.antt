@@ -1,4 +1,4 @@
--- How many loops and plain jumps a block lies in, as it is counted and as it is defined.
+-- How many loops, plain jumps and jump lists a block lies in, as it is counted and as it is defined.
 use Rattle.std.proofs.Common.{◌≡◌, ◌⊎◌, ℕ, zero, suc, ◌+◌, ◌-◌, ◌<◌, ◌≤◌, Bool, true, false, ◌==◌, List, [], ◌∷◌, ◌++◌, Option, Some, None, get_or, length, replicate, slice_set, inl, inr, refl, sym, ap, subst, ◌∙◌, arith, length-set}
 use Rattle.std.specs.Bool.{Decides}
 use Rattle.std.specs.Prelude.{nat_le, option_to_list}
@@ -6,10 +6,10 @@ use Rattle.std.proofs.lemmas.Bool.Decides.{Decides-eqb}
 use Rattle.std.proofs.lemmas.List.{get_or-replicate, get_or-set_other, get_or-set_same, length-replicate}
 use Rattle.segment_plans.specs.declared.blocks.Blocks.{Blocks}
 use Rattle.segment_plans.specs.Counts.{last_of}
-use Rattle.segment_plans.specs.inner.Spans.{innermost, leave, note_end, plain_jump, with_loop}
-use Rattle.segment_plans.proofs.Plain.{plain}
+use Rattle.segment_plans.specs.inner.Spans.{inner_at, inner_loops, note_end, span_end}
+use Rattle.segment_plans.proofs.Plain.{span}
 use Rattle.segment_plans.proofs.Site.{decides_le, told}
-use Rattle.segment_plans.proofs.Stack.{stack}
+use Rattle.segment_plans.proofs.Stack.{inner_is}
 
 -- Counts of ends
 
@@ -103,17 +103,17 @@ length_noted first ends (Some e) = length-set ends (e - first) (get_or ends (e -
 
 -- Blocks one after another
 
--- the ends of the loop and of the plain jump that begin at a block
+-- the ends of the loop, and of the plain jump or the jump list, that begin at a block
 abbrev pub spans : Blocks → ℕ → ℕ → List ℕ
-spans blocks first at = option_to_list (last_of blocks at) ++ option_to_list (plain blocks first at)
+spans blocks first at = option_to_list (last_of blocks at) ++ option_to_list (span blocks first at)
 
 abbrev pub opened : Blocks → ℕ → ℕ → List ℕ
 opened blocks first zero = []
 opened blocks first (suc i) = opened blocks first i ++ spans blocks first (first + i)
 
--- each loop ends behind its head, and each plain jump leads forward
+-- each loop ends behind its head, and each plain jump and each list lead forward
 abbrev pub AreForward : Blocks → ℕ → ℕ → Type 0
-AreForward blocks first past = (at : ℕ) → first ≤ at → at < past → EndsFrom at (last_of blocks at) × EndsFrom at (plain blocks first at)
+AreForward blocks first past = (at : ℕ) → first ≤ at → at < past → EndsFrom at (last_of blocks at) × EndsFrom at (span blocks first at)
 
 -- what is counted before a block
 pub record IsCounted (blocks : Blocks) (first at : ℕ) (ends : List ℕ) (depth : ℕ) : Type 0 where
@@ -134,14 +134,14 @@ next_opened blocks first at h =
 -- how many are around a block, when those that begin there are counted
 pub depth_at : (blocks : Blocks) (first past at : ℕ) (ends : List ℕ) (depth : ℕ) → AreForward blocks first past → first ≤ at → at < past
     → IsCounted blocks first at ends depth
-    → depth + length (option_to_list (last_of blocks at)) + length (option_to_list (plain blocks first at))
+    → depth + length (option_to_list (last_of blocks at)) + length (option_to_list (span blocks first at))
     ≡ live at (opened blocks first (at - first) ++ spans blocks first at)
 depth_at blocks first past at ends depth forward low high counted =
     let f = forward at low high in
     let a : live at (option_to_list (last_of blocks at)) ≡ length (option_to_list (last_of blocks at)) = all_live at (last_of blocks at) f.0 in
-    let b : live at (option_to_list (plain blocks first at)) ≡ length (option_to_list (plain blocks first at)) = all_live at (plain blocks first at) f.1 in
-    let c : live at (spans blocks first at) ≡ live at (option_to_list (last_of blocks at)) + live at (option_to_list (plain blocks first at)) =
-    live_append at (option_to_list (last_of blocks at)) (option_to_list (plain blocks first at)) in
+    let b : live at (option_to_list (span blocks first at)) ≡ length (option_to_list (span blocks first at)) = all_live at (span blocks first at) f.1 in
+    let c : live at (spans blocks first at) ≡ live at (option_to_list (last_of blocks at)) + live at (option_to_list (span blocks first at)) =
+    live_append at (option_to_list (last_of blocks at)) (option_to_list (span blocks first at)) in
     let d : live at (opened blocks first (at - first) ++ spans blocks first at) ≡ live at (opened blocks first (at - first)) + live at (spans blocks first at) =
     live_append at (opened blocks first (at - first)) (spans blocks first at) in
     let e : depth ≡ live at (opened blocks first (at - first)) = counted.depth_is in
@@ -150,8 +150,8 @@ depth_at blocks first past at ends depth forward low high counted =
 -- what is counted before the next block
 pub counts_on : (blocks : Blocks) (first past at : ℕ) (ends new : List ℕ) (depth all : ℕ) → AreForward blocks first past → first ≤ at → at < past
     → length ends ≡ past - first + 1 → IsCounted blocks first at ends depth
-    → new ≡ note_end first (note_end first ends (last_of blocks at)) (plain blocks first at)
-    → all ≡ depth + length (option_to_list (last_of blocks at)) + length (option_to_list (plain blocks first at)) → all ≤ 64
+    → new ≡ note_end first (note_end first ends (last_of blocks at)) (span blocks first at)
+    → all ≡ depth + length (option_to_list (last_of blocks at)) + length (option_to_list (span blocks first at)) → all ≤ 64
     → IsCounted blocks first (suc at) new (all - get_or new (at - first) 0)
 counts_on blocks first past at ends new depth all forward low high size counted is sum few = record {
   ends_are = λ k inside. new_end k (subst (λ n. k < n) new_size inside) ∙ ap (same (first + k)) (sym (next_opened blocks first at low));
@@ -159,7 +159,7 @@ counts_on blocks first past at ends new depth all forward low high size counted 
   low = λ i h. shallow i h (told (i == at - first) (Decides-eqb i (at - first)));
 }
   where
-    f : EndsFrom at (last_of blocks at) × EndsFrom at (plain blocks first at)
+    f : EndsFrom at (last_of blocks at) × EndsFrom at (span blocks first at)
     f = forward at low high
 
     one : List ℕ
@@ -167,7 +167,7 @@ counts_on blocks first past at ends new depth all forward low high size counted 
 
     new_size : length new ≡ length ends
     new_size =
-        ap length is ∙ length_noted first (note_end first ends (last_of blocks at)) (plain blocks first at) ∙ length_noted first ends (last_of blocks at)
+        ap length is ∙ length_noted first (note_end first ends (last_of blocks at)) (span blocks first at) ∙ length_noted first ends (last_of blocks at)
 
     whole : List ℕ
     whole = opened blocks first (at - first) ++ spans blocks first at
@@ -176,18 +176,18 @@ counts_on blocks first past at ends new depth all forward low high size counted 
     new_end k inside =
         let a : get_or (note_end first ends (last_of blocks at)) k 0 ≡ get_or ends k 0 + same (first + k) (option_to_list (last_of blocks at)) =
         noted first ends (last_of blocks at) k (weaken first at (last_of blocks at) low f.0) inside in
-        let b : get_or (note_end first (note_end first ends (last_of blocks at)) (plain blocks first at)) k 0
-        ≡ get_or (note_end first ends (last_of blocks at)) k 0 + same (first + k) (option_to_list (plain blocks first at)) =
-        noted first (note_end first ends (last_of blocks at)) (plain blocks first at) k (weaken first at (plain blocks first at) low f.1)
+        let b : get_or (note_end first (note_end first ends (last_of blocks at)) (span blocks first at)) k 0
+        ≡ get_or (note_end first ends (last_of blocks at)) k 0 + same (first + k) (option_to_list (span blocks first at)) =
+        noted first (note_end first ends (last_of blocks at)) (span blocks first at) k (weaken first at (span blocks first at) low f.1)
         (subst (λ n. k < n) (sym (length_noted first ends (last_of blocks at))) inside) in
         let c : get_or ends k 0 ≡ same (first + k) (opened blocks first (at - first)) = counted.ends_are k inside in
         let d : same (first + k) (spans blocks first at)
-        ≡ same (first + k) (option_to_list (last_of blocks at)) + same (first + k) (option_to_list (plain blocks first at)) =
-        same_append (first + k) (option_to_list (last_of blocks at)) (option_to_list (plain blocks first at)) in
+        ≡ same (first + k) (option_to_list (last_of blocks at)) + same (first + k) (option_to_list (span blocks first at)) =
+        same_append (first + k) (option_to_list (last_of blocks at)) (option_to_list (span blocks first at)) in
         let e : same (first + k) (opened blocks first (at - first) ++ spans blocks first at)
         ≡ same (first + k) (opened blocks first (at - first)) + same (first + k) (spans blocks first at) =
         same_append (first + k) (opened blocks first (at - first)) (spans blocks first at) in
-        let g : get_or new k 0 ≡ get_or (note_end first (note_end first ends (last_of blocks at)) (plain blocks first at)) k 0 =
+        let g : get_or new k 0 ≡ get_or (note_end first (note_end first ends (last_of blocks at)) (span blocks first at)) k 0 =
         ap (λ (xs : List ℕ). get_or xs k 0) is in
         omega (arith, a, b, c, d, e, g)
 
@@ -238,57 +238,49 @@ none_counted blocks first n ends e =
 
 -- What the code finds
 
-pub next_stack : (blocks : Blocks) (first at : ℕ) (loops : List ℕ) → first ≤ at
-    → loops ≡ with_loop (last_of blocks at) (leave at (stack blocks first (at - first))) → loops ≡ stack blocks first (at + 1 - first)
-next_stack blocks first at loops h e =
-    let a : first + (at - first) ≡ at = omega (arith, h) in
-    let b : suc (at - first) ≡ at + 1 - first = omega (arith, h) in
-    e ∙ ap (λ n. with_loop (last_of blocks n) (leave n (stack blocks first (at - first)))) (sym a) ∙ ap (stack blocks first) b
-
-is_plain_of : (blocks : Blocks) (first at : ℕ) (loops : List ℕ) (to : Option ℕ) → first ≤ at → loops ≡ stack blocks first (at + 1 - first)
-    → to ≡ plain_jump blocks (innermost loops) at → to ≡ plain blocks first at
-is_plain_of blocks first at loops to h e f =
-    let b : at + 1 - first ≡ suc (at - first) = omega (arith, h) in
-    f ∙ ap (λ (ls : List ℕ). plain_jump blocks (innermost ls) at) (e ∙ ap (stack blocks first) b)
+-- the span that is found is the one of the block
+pub span_found : (blocks : Blocks) (first past at : ℕ) (inner : List (Option ℕ)) (to : Option ℕ) → first ≤ at → at < past
+    → inner ≡ inner_loops blocks first (past - first) → to ≡ span_end blocks (inner_at inner (at - first)) at → to ≡ span blocks first at
+span_found blocks first past at inner to low high e f =
+    f ∙ ap (λ (o : Option ℕ). span_end blocks o at)
+    (ap (λ (xs : List (Option ℕ)). inner_at xs (at - first)) e ∙ inner_is blocks first (past - first) (at - first) (omega (arith, low, high)))
 
 -- what is found at a block
-pub record IsFound (blocks : Blocks) (first past at : ℕ) (ends : List ℕ) (depth : ℕ) (loops : List ℕ) (last to : Option ℕ) (all : ℕ) : Type 0 where
+pub record IsFound (blocks : Blocks) (first past at : ℕ) (ends : List ℕ) (depth : ℕ) (last to : Option ℕ) (all : ℕ) : Type 0 where
   pub low : first ≤ at
   pub high : at < past
   pub counted : AreForward blocks first past → IsCounted blocks first at ends depth
   pub last_is : last ≡ last_of blocks at
-  pub loops_are : loops ≡ stack blocks first (at + 1 - first)
-  pub to_is : to ≡ plain_jump blocks (innermost loops) at
+  pub to_is : to ≡ span blocks first at
   pub all_is : all ≡ depth + length (option_to_list last) + length (option_to_list to)
 
-all_of : (blocks : Blocks) (first past at : ℕ) (ends : List ℕ) (depth : ℕ) (loops : List ℕ) (last to : Option ℕ) (all : ℕ)
-    → IsFound blocks first past at ends depth loops last to all
-    → all ≡ depth + length (option_to_list (last_of blocks at)) + length (option_to_list (plain blocks first at))
-all_of blocks first past at ends depth loops last to all f =
+all_of : (blocks : Blocks) (first past at : ℕ) (ends : List ℕ) (depth : ℕ) (last to : Option ℕ) (all : ℕ)
+    → IsFound blocks first past at ends depth last to all
+    → all ≡ depth + length (option_to_list (last_of blocks at)) + length (option_to_list (span blocks first at))
+all_of blocks first past at ends depth last to all f =
     f.all_is ∙ ap (λ (o : Option ℕ). depth + length (option_to_list o) + length (option_to_list to)) f.last_is
-    ∙ ap (λ (o : Option ℕ). depth + length (option_to_list (last_of blocks at)) + length (option_to_list o))
-    (is_plain_of blocks first at loops to f.low f.loops_are f.to_is)
+    ∙ ap (λ (o : Option ℕ). depth + length (option_to_list (last_of blocks at)) + length (option_to_list o)) f.to_is
 
-pub keeps : (blocks : Blocks) (first past at : ℕ) (ends new : List ℕ) (depth : ℕ) (loops : List ℕ) (last to : Option ℕ) (all : ℕ)
-    → IsFound blocks first past at ends depth loops last to all → length ends ≡ past - first + 1
+pub keeps : (blocks : Blocks) (first past at : ℕ) (ends new : List ℕ) (depth : ℕ) (last to : Option ℕ) (all : ℕ)
+    → IsFound blocks first past at ends depth last to all → length ends ≡ past - first + 1
     → new ≡ note_end first (note_end first ends last) to → all ≤ 64 → (rest : ℕ) → rest ≡ all - get_or new (at - first) 0
     → AreForward blocks first past → IsCounted blocks first (at + 1) new rest
-keeps blocks first past at ends new depth loops last to all f size is few rest e forward =
+keeps blocks first past at ends new depth last to all f size is few rest e forward =
     let a : suc at ≡ at + 1 = omega arith in
-    let is_new : new ≡ note_end first (note_end first ends (last_of blocks at)) (plain blocks first at) =
+    let is_new : new ≡ note_end first (note_end first ends (last_of blocks at)) (span blocks first at) =
     is ∙ ap (λ (o : Option ℕ). note_end first (note_end first ends o) to) f.last_is
-    ∙ ap (note_end first (note_end first ends (last_of blocks at))) (is_plain_of blocks first at loops to f.low f.loops_are f.to_is) in
+    ∙ ap (note_end first (note_end first ends (last_of blocks at))) f.to_is in
     subst (IsCounted blocks first (at + 1) new) (sym e) (subst (λ n. IsCounted blocks first n new (all - get_or new (at - first) 0)) a
     (counts_on blocks first past at ends new depth all forward f.low f.high size (f.counted forward) is_new
-    (all_of blocks first past at ends depth loops last to all f) few))
+    (all_of blocks first past at ends depth last to all f) few))
 
-pub many : (blocks : Blocks) (first past at : ℕ) (ends : List ℕ) (depth : ℕ) (loops : List ℕ) (last to : Option ℕ) (all : ℕ)
-    → IsFound blocks first past at ends depth loops last to all → 64 < all → AreForward blocks first past
+pub many : (blocks : Blocks) (first past at : ℕ) (ends : List ℕ) (depth : ℕ) (last to : Option ℕ) (all : ℕ)
+    → IsFound blocks first past at ends depth last to all → 64 < all → AreForward blocks first past
     → 64 < live at (opened blocks first (at - first) ++ spans blocks first at)
-many blocks first past at ends depth loops last to all f more forward =
-    let a : all ≡ depth + length (option_to_list (last_of blocks at)) + length (option_to_list (plain blocks first at)) =
-    all_of blocks first past at ends depth loops last to all f in
-    let b : depth + length (option_to_list (last_of blocks at)) + length (option_to_list (plain blocks first at))
+many blocks first past at ends depth last to all f more forward =
+    let a : all ≡ depth + length (option_to_list (last_of blocks at)) + length (option_to_list (span blocks first at)) =
+    all_of blocks first past at ends depth last to all f in
+    let b : depth + length (option_to_list (last_of blocks at)) + length (option_to_list (span blocks first at))
     ≡ live at (opened blocks first (at - first) ++ spans blocks first at) =
     depth_at blocks first past at ends depth forward f.low f.high (f.counted forward) in
     omega (arith, a, b, more)

@@ -1,17 +1,17 @@
--- A segment is shallow exactly where few loops and plain jumps are counted at each of its blocks.
+-- A segment is shallow exactly where few loops, plain jumps and jump lists are counted at each of its blocks.
 use Rattle.std.proofs.Common.{◌≡◌, ◌⊎◌, ℕ, zero, suc, ◌+◌, ◌-◌, ◌<◌, ◌≤◌, Bool, true, false, ◌==◌, List, [], ◌∷◌, ◌++◌, Option, Some, None, cond, length, inl, inr, refl, sym, ap, subst, ◌∙◌, arith, add-zero}
 use Rattle.std.specs.Bool.{Decides}
 use Rattle.std.specs.Prelude.{nat_le, option_to_list}
 use Rattle.std.proofs.lemmas.Bool.Decides.{Decides-eqb, Decides-like}
 use Rattle.stl_tree.specs.Segments.{AreAscending, AreAscendingAfter, IsOneOf}
-use Rattle.stl_tree.specs.Flows.{AreHeadsAround, IsInLoop, IsPlainJump, IsSegment, Segment}
-use Rattle.nesting_rules.specs.NestedJumps.{AreSourcesOver, IsShallow}
+use Rattle.stl_tree.specs.Flows.{AreHeadsAround, IsInLoop, IsSegment, Segment}
+use Rattle.stl_tree.specs.WellNested.{AreSpansOver, IsShallow, IsSpan}
+use Rattle.nesting_laws.specs.PlanLaws.{IsFlow, IsNested}
 use Rattle.segment_plans.specs.Known.{AreKnown}
-use Rattle.segment_plans.specs.Planned.{HasNestedLoops}
 use Rattle.segment_plans.specs.declared.blocks.Blocks.{Blocks}
 use Rattle.segment_plans.specs.Counts.{last_of}
 use Rattle.segment_plans.proofs.Depth.{AreForward, EndsFrom, IsCounted, bit, live, live_append, opened, spans}
-use Rattle.segment_plans.proofs.Plain.{AnswersPlain, answers_plain, one_plain, plain}
+use Rattle.segment_plans.proofs.Plain.{AnswersSpan, answers_span, one_span, span, span_forward, span_in}
 use Rattle.segment_plans.proofs.Site.{EndsAt, IsSite, decides_le, site_of, told}
 use Rattle.segment_plans.proofs.Stack.{no_head_before, one_last}
 
@@ -111,7 +111,7 @@ at_most : (q : ℕ → Bool) (from n : ℕ) (xs : List ℕ) → AreAscending xs 
 at_most q from n [] a all = omega arith
 at_most q from n (x ∷ xs) a all = bounded q from n x xs a (all x (inl refl)).low (λ y o. let i = all y o in (i.high, i.met))
 
--- Loops and jumps around a block
+-- Loops, jumps and lists around a block
 
 abbrev hit : ℕ → Option ℕ → Bool
 hit b None = false
@@ -124,27 +124,27 @@ hit_live b (Some e) = add-zero (bit (nat_le b e))
 abbrev head_hits : Blocks → ℕ → ℕ → Bool
 head_hits blocks b s = hit b (last_of blocks s)
 
-abbrev jump_hits : Blocks → ℕ → ℕ → ℕ → Bool
-jump_hits blocks first b s = hit b (plain blocks first s)
+abbrev span_hits : Blocks → ℕ → ℕ → ℕ → Bool
+span_hits blocks first b s = hit b (span blocks first s)
 
 live_is : (blocks : Blocks) (first b n : ℕ)
-    → live b (opened blocks first n) ≡ number (head_hits blocks b) first n + number (jump_hits blocks first b) first n
+    → live b (opened blocks first n) ≡ number (head_hits blocks b) first n + number (span_hits blocks first b) first n
 live_is blocks first b zero = refl
 live_is blocks first b (suc n) =
     let at : ℕ = first + n in
     let a : live b (opened blocks first n ++ spans blocks first (first + n)) ≡ live b (opened blocks first n) + live b (spans blocks first (first + n)) =
     live_append b (opened blocks first n) (spans blocks first (first + n)) in
     let c : live b (spans blocks first (first + n))
-    ≡ live b (option_to_list (last_of blocks (first + n))) + live b (option_to_list (plain blocks first (first + n))) =
-    live_append b (option_to_list (last_of blocks (first + n))) (option_to_list (plain blocks first (first + n))) in
+    ≡ live b (option_to_list (last_of blocks (first + n))) + live b (option_to_list (span blocks first (first + n))) =
+    live_append b (option_to_list (last_of blocks (first + n))) (option_to_list (span blocks first (first + n))) in
     let d : live b (option_to_list (last_of blocks (first + n))) ≡ bit (head_hits blocks b (first + n)) = hit_live b (last_of blocks (first + n)) in
-    let e : live b (option_to_list (plain blocks first (first + n))) ≡ bit (jump_hits blocks first b (first + n)) =
-    hit_live b (plain blocks first (first + n)) in
-    let f : live b (opened blocks first n) ≡ number (head_hits blocks b) first n + number (jump_hits blocks first b) first n = live_is blocks first b n in
+    let e : live b (option_to_list (span blocks first (first + n))) ≡ bit (span_hits blocks first b (first + n)) =
+    hit_live b (span blocks first (first + n)) in
+    let f : live b (opened blocks first n) ≡ number (head_hits blocks b) first n + number (span_hits blocks first b) first n = live_is blocks first b n in
     let g : number (head_hits blocks b) first (suc n) ≡ number (head_hits blocks b) first n + bit (head_hits blocks b (first + n)) =
     number_last (head_hits blocks b) first n in
-    let h : number (jump_hits blocks first b) first (suc n) ≡ number (jump_hits blocks first b) first n + bit (jump_hits blocks first b (first + n)) =
-    number_last (jump_hits blocks first b) first n in
+    let h : number (span_hits blocks first b) first (suc n) ≡ number (span_hits blocks first b) first n + bit (span_hits blocks first b (first + n)) =
+    number_last (span_hits blocks first b) first n in
     omega (arith, a, c, d, e, f, g, h)
 
 head_decides : (g : Segment) (blocks : Blocks) → IsSite g blocks → (s b : ℕ) → g.first ≤ s → s < g.past → s ≤ b
@@ -163,18 +163,18 @@ head_decides g blocks site s b low high before = by (last_of blocks s) (site.las
         Decides-like (nat_le b l) (λ h. (l, record { loop = loop; low = before; high = h }))
         (λ p. let e : p.0 ≡ l = one_last g s p.0 l p.1.loop loop in let h : b ≤ p.0 = p.1.high in omega (arith, e, h)) (decides_le b l)
 
-abbrev JumpsOver : Segment → ℕ → ℕ → Type 0
-JumpsOver g b s = (t : ℕ) × IsPlainJump g s t × (s ≤ b) × (b ≤ t)
+abbrev SpansOver : Segment → ℕ → ℕ → Type 0
+SpansOver g b s = (t : ℕ) × IsSpan g s t × (s ≤ b) × (b ≤ t)
 
-jump_decides : (g : Segment) (blocks : Blocks) → IsSegment g → IsSite g blocks → HasNestedLoops g → (s b : ℕ) → g.first ≤ s → s < g.past → s ≤ b
-    → Decides (jump_hits blocks g.first b s) (JumpsOver g b s)
-jump_decides g blocks seg site nested s b low high before = by (plain blocks g.first s) (answers_plain g blocks seg site nested s low high)
+span_decides : (g : Segment) (blocks : Blocks) → IsFlow g.flow → IsSegment g → IsSite g blocks → IsNested g → (s b : ℕ) → g.first ≤ s → s < g.past → s ≤ b
+    → Decides (span_hits blocks g.first b s) (SpansOver g b s)
+span_decides g blocks flow seg site nested s b low high before = by (span blocks g.first s) (answers_span g blocks flow seg site nested s low high)
   where
-    by : (o : Option ℕ) → AnswersPlain g s o → Decides (hit b o) (JumpsOver g b s)
+    by : (o : Option ℕ) → AnswersSpan g s o → Decides (hit b o) (SpansOver g b s)
     by None n = (λ e. absurd cc, λ p. absurd (n p.0 p.1))
     by (Some t) j =
         Decides-like (nat_le b t) (λ h. (t, j, before, h))
-        (λ p. let e : p.0 ≡ t = one_plain g s p.0 t p.1 j in let h : b ≤ p.0 = p.3 in omega (arith, e, h)) (decides_le b t)
+        (λ p. let e : p.0 ≡ t = one_span g s p.0 t p.1 j in let h : b ≤ p.0 = p.3 in omega (arith, e, h)) (decides_le b t)
 
 are_heads : (g : Segment) (b : ℕ) (xs : List ℕ) → ((y : ℕ) → IsOneOf y xs → (l : ℕ) × IsInLoop g y l b) → AreHeadsAround g b xs
 are_heads g b [] h = tt
@@ -185,39 +185,39 @@ of_heads g b [] h y o = absurd o
 of_heads g b (x ∷ xs) h y (inl e) = subst (λ k. (l : ℕ) × IsInLoop g k l b) (sym e) h.0
 of_heads g b (x ∷ xs) h y (inr o) = of_heads g b xs h.1 y o
 
-are_sources : (g : Segment) (b : ℕ) (xs : List ℕ) → ((y : ℕ) → IsOneOf y xs → JumpsOver g b y) → AreSourcesOver g b xs
+are_sources : (g : Segment) (b : ℕ) (xs : List ℕ) → ((y : ℕ) → IsOneOf y xs → SpansOver g b y) → AreSpansOver g b xs
 are_sources g b [] h = tt
 are_sources g b (x ∷ xs) h = (h x (inl refl), are_sources g b xs (λ y o. h y (inr o)))
 
-of_sources : (g : Segment) (b : ℕ) (xs : List ℕ) → AreSourcesOver g b xs → (y : ℕ) → IsOneOf y xs → JumpsOver g b y
+of_sources : (g : Segment) (b : ℕ) (xs : List ℕ) → AreSpansOver g b xs → (y : ℕ) → IsOneOf y xs → SpansOver g b y
 of_sources g b [] h y o = absurd o
-of_sources g b (x ∷ xs) h y (inl e) = subst (JumpsOver g b) (sym e) h.0
+of_sources g b (x ∷ xs) h y (inl e) = subst (SpansOver g b) (sym e) h.0
 of_sources g b (x ∷ xs) h y (inr o) = of_sources g b xs h.1 y o
 
 -- The segment
 
 -- where more are counted at a block, the segment is not shallow
-deep : (g : Segment) (blocks : Blocks) → IsSegment g → IsSite g blocks → HasNestedLoops g → (i : ℕ) → g.first + i < g.past
+deep : (g : Segment) (blocks : Blocks) → IsFlow g.flow → IsSegment g → IsSite g blocks → IsNested g → (i : ℕ) → g.first + i < g.past
     → 64 < live (g.first + i) (opened blocks g.first (suc i)) → IsShallow g → ⊥
-deep g blocks seg site nested i high many shallow =
+deep g blocks flow seg site nested i high many shallow =
     let b : ℕ = g.first + i in
     let heads : List ℕ = listed (head_hits blocks (g.first + i)) g.first (suc i) in
-    let sources : List ℕ = listed (jump_hits blocks g.first (g.first + i)) g.first (suc i) in
+    let sources : List ℕ = listed (span_hits blocks g.first (g.first + i)) g.first (suc i) in
     let few : length (listed (head_hits blocks (g.first + i)) g.first (suc i))
-    + length (listed (jump_hits blocks g.first (g.first + i)) g.first (suc i)) ≤ 64 =
-    shallow (g.first + i) (listed (head_hits blocks (g.first + i)) g.first (suc i)) (listed (jump_hits blocks g.first (g.first + i)) g.first (suc i))
+    + length (listed (span_hits blocks g.first (g.first + i)) g.first (suc i)) ≤ 64 =
+    shallow (g.first + i) (listed (head_hits blocks (g.first + i)) g.first (suc i)) (listed (span_hits blocks g.first (g.first + i)) g.first (suc i))
     (listed_ascend (head_hits blocks (g.first + i)) g.first (suc i))
     (are_heads g (g.first + i) (listed (head_hits blocks (g.first + i)) g.first (suc i))
     (λ y o. head y (listed_in (head_hits blocks (g.first + i)) g.first (suc i) y o)))
-    (listed_ascend (jump_hits blocks g.first (g.first + i)) g.first (suc i))
-    (are_sources g (g.first + i) (listed (jump_hits blocks g.first (g.first + i)) g.first (suc i))
-    (λ y o. source y (listed_in (jump_hits blocks g.first (g.first + i)) g.first (suc i) y o))) in
+    (listed_ascend (span_hits blocks g.first (g.first + i)) g.first (suc i))
+    (are_sources g (g.first + i) (listed (span_hits blocks g.first (g.first + i)) g.first (suc i))
+    (λ y o. source y (listed_in (span_hits blocks g.first (g.first + i)) g.first (suc i) y o))) in
     let x : length (listed (head_hits blocks (g.first + i)) g.first (suc i)) ≡ number (head_hits blocks (g.first + i)) g.first (suc i) =
     listed_size (head_hits blocks (g.first + i)) g.first (suc i) in
-    let y : length (listed (jump_hits blocks g.first (g.first + i)) g.first (suc i)) ≡ number (jump_hits blocks g.first (g.first + i)) g.first (suc i) =
-    listed_size (jump_hits blocks g.first (g.first + i)) g.first (suc i) in
+    let y : length (listed (span_hits blocks g.first (g.first + i)) g.first (suc i)) ≡ number (span_hits blocks g.first (g.first + i)) g.first (suc i) =
+    listed_size (span_hits blocks g.first (g.first + i)) g.first (suc i) in
     let z : live (g.first + i) (opened blocks g.first (suc i))
-    ≡ number (head_hits blocks (g.first + i)) g.first (suc i) + number (jump_hits blocks g.first (g.first + i)) g.first (suc i) =
+    ≡ number (head_hits blocks (g.first + i)) g.first (suc i) + number (span_hits blocks g.first (g.first + i)) g.first (suc i) =
     live_is blocks g.first (g.first + i) (suc i) in
     omega (arith, few, x, y, z, many)
   where
@@ -226,22 +226,22 @@ deep g blocks seg site nested i high many shallow =
         let a : y < g.first + suc i = m.high in
         (head_decides g blocks site y (g.first + i) m.low (omega (arith, a, high)) (omega (arith, a))).0 m.met
 
-    source : (y : ℕ) → IsListed (jump_hits blocks g.first (g.first + i)) g.first (suc i) y → JumpsOver g (g.first + i) y
+    source : (y : ℕ) → IsListed (span_hits blocks g.first (g.first + i)) g.first (suc i) y → SpansOver g (g.first + i) y
     source y m =
         let a : y < g.first + suc i = m.high in
-        (jump_decides g blocks seg site nested y (g.first + i) m.low (omega (arith, a, high)) (omega (arith, a))).0 m.met
+        (span_decides g blocks flow seg site nested y (g.first + i) m.low (omega (arith, a, high)) (omega (arith, a))).0 m.met
 
 -- where few are counted at each block, it is
-few_at : (g : Segment) (blocks : Blocks) → IsSegment g → IsSite g blocks → HasNestedLoops g → (i : ℕ) → g.first + i < g.past
+few_at : (g : Segment) (blocks : Blocks) → IsFlow g.flow → IsSegment g → IsSite g blocks → IsNested g → (i : ℕ) → g.first + i < g.past
     → live (g.first + i) (opened blocks g.first (suc i)) ≤ 64 → (heads sources : List ℕ) → AreAscending heads → AreHeadsAround g (g.first + i) heads
-    → AreAscending sources → AreSourcesOver g (g.first + i) sources → length heads + length sources ≤ 64
-few_at g blocks seg site nested i high few heads sources up around rise over =
+    → AreAscending sources → AreSpansOver g (g.first + i) sources → length heads + length sources ≤ 64
+few_at g blocks flow seg site nested i high few heads sources up around rise over =
     let x : length heads ≤ number (head_hits blocks (g.first + i)) g.first (suc i) =
     at_most (head_hits blocks (g.first + i)) g.first (suc i) heads up (λ y o. head y (of_heads g (g.first + i) heads around y o)) in
-    let y : length sources ≤ number (jump_hits blocks g.first (g.first + i)) g.first (suc i) =
-    at_most (jump_hits blocks g.first (g.first + i)) g.first (suc i) sources rise (λ y o. source y (of_sources g (g.first + i) sources over y o)) in
+    let y : length sources ≤ number (span_hits blocks g.first (g.first + i)) g.first (suc i) =
+    at_most (span_hits blocks g.first (g.first + i)) g.first (suc i) sources rise (λ y o. source y (of_sources g (g.first + i) sources over y o)) in
     let z : live (g.first + i) (opened blocks g.first (suc i))
-    ≡ number (head_hits blocks (g.first + i)) g.first (suc i) + number (jump_hits blocks g.first (g.first + i)) g.first (suc i) =
+    ≡ number (head_hits blocks (g.first + i)) g.first (suc i) + number (span_hits blocks g.first (g.first + i)) g.first (suc i) =
     live_is blocks g.first (g.first + i) (suc i) in
     omega (arith, x, y, z, few)
   where
@@ -262,19 +262,19 @@ few_at g blocks seg site nested i high few heads sources up around rise over =
             no_less (inl h) = h
             no_less (inr n) = absurd (no_head_before g seg y p.0 p.1.loop (omega (arith, n)))
 
-    source : (y : ℕ) → JumpsOver g (g.first + i) y → IsListed (jump_hits blocks g.first (g.first + i)) g.first (suc i) y
+    source : (y : ℕ) → SpansOver g (g.first + i) y → IsListed (span_hits blocks g.first (g.first + i)) g.first (suc i) y
     source y p =
         let a : y ≤ g.first + i = p.2 in
-        let low : g.first ≤ y = p.1.jump.1.0.low in
+        let low : g.first ≤ y = (span_in g y p.0 p.1).low in
         record {
           low = low;
           high = omega (arith, a);
-          met = (jump_decides g blocks seg site nested y (g.first + i) low (omega (arith, a, high)) a).1 p;
+          met = (span_decides g blocks flow seg site nested y (g.first + i) low (omega (arith, a, high)) a).1 p;
         }
 
-all_shallow : (g : Segment) (blocks : Blocks) → IsSegment g → IsSite g blocks → HasNestedLoops g
+all_shallow : (g : Segment) (blocks : Blocks) → IsFlow g.flow → IsSegment g → IsSite g blocks → IsNested g
     → ((i : ℕ) → g.first + i < g.past → live (g.first + i) (opened blocks g.first (suc i)) ≤ 64) → IsShallow g
-all_shallow g blocks seg site nested few b heads sources up around rise over =
+all_shallow g blocks flow seg site nested few b heads sources up around rise over =
     by (told (nat_le g.first b) (decides_le g.first b)) (told (nat_le g.past b) (decides_le g.past b))
   where
     some : g.first < g.past
@@ -284,7 +284,7 @@ all_shallow g blocks seg site nested few b heads sources up around rise over =
     no_heads [] a n = refl
     no_heads (h ∷ hs) a n = absurd (n h a.0.0 a.0.1)
 
-    no_sources : (ss : List ℕ) → AreSourcesOver g b ss → ((s : ℕ) → JumpsOver g b s → ⊥) → length ss ≡ 0
+    no_sources : (ss : List ℕ) → AreSpansOver g b ss → ((s : ℕ) → SpansOver g b s → ⊥) → length ss ≡ 0
     no_sources [] a n = refl
     no_sources (s ∷ ss) a n = absurd (n s a.0)
 
@@ -294,10 +294,10 @@ all_shallow g blocks seg site nested few b heads sources up around rise over =
     from_first : (h l : ℕ) → IsInLoop g h l b → (g.first ≤ b → ⊥) → ⊥
     from_first h l a n = let x : h ≤ b = a.low in no_head_before g seg h l a.loop (omega (arith, x, n))
 
-    before_last : (ss : List ℕ) → AreSourcesOver g b ss → g.past ≤ b → AreSourcesOver g (g.past - 1) ss
+    before_last : (ss : List ℕ) → AreSpansOver g b ss → g.past ≤ b → AreSpansOver g (g.past - 1) ss
     before_last [] a h = tt
     before_last (s ∷ ss) a h =
-        let x : s < g.past = a.0.1.jump.1.0.high in
+        let x : s < g.past = (span_in g s a.0.0 a.0.1).high in
         let y : b ≤ a.0.0 = a.0.3 in
         ((a.0.0, a.0.1, omega (arith, x), omega (arith, y, h)), before_last ss a.1 h)
 
@@ -305,57 +305,58 @@ all_shallow g blocks seg site nested few b heads sources up around rise over =
     by (inr n) p =
         let x : length heads ≡ 0 = no_heads heads around (λ h l a. from_first h l a n) in
         let y : length sources ≡ 0 =
-        no_sources sources over (λ s a. let u : s ≤ b = a.2 in let v : g.first ≤ s = a.1.jump.1.0.low in absurd (omega (arith, u, v, n))) in
+        no_sources sources over (λ s a. let u : s ≤ b = a.2 in let v : g.first ≤ s = (span_in g s a.0 a.1).low in absurd (omega (arith, u, v, n))) in
         omega (arith, x, y)
     by (inl low) (inr n) =
         let i : ℕ = b - g.first in
         let e : g.first + (b - g.first) ≡ b = omega (arith, low) in
         let high : g.first + (b - g.first) < g.past = omega (arith, e, n) in
-        few_at g blocks seg site nested (b - g.first) high (few (b - g.first) high) heads sources up
-        (subst (λ k. AreHeadsAround g k heads) (sym e) around) rise (subst (λ k. AreSourcesOver g k sources) (sym e) over)
+        few_at g blocks flow seg site nested (b - g.first) high (few (b - g.first) high) heads sources up
+        (subst (λ k. AreHeadsAround g k heads) (sym e) around) rise (subst (λ k. AreSpansOver g k sources) (sym e) over)
     by (inl low) (inl p) =
         let x : length heads ≡ 0 = no_heads heads around (λ h l a. let u : b < g.past = inside h l a in absurd (omega (arith, u, p))) in
         let i : ℕ = g.past - 1 - g.first in
         let e : g.first + (g.past - 1 - g.first) ≡ g.past - 1 = omega (arith, some) in
         let high : g.first + (g.past - 1 - g.first) < g.past = omega (arith, e, some) in
         let y : 0 + length sources ≤ 64 =
-        few_at g blocks seg site nested (g.past - 1 - g.first) high (few (g.past - 1 - g.first) high) [] sources tt tt rise
-        (subst (λ k. AreSourcesOver g k sources) (sym e) (before_last sources over p)) in
+        few_at g blocks flow seg site nested (g.past - 1 - g.first) high (few (g.past - 1 - g.first) high) [] sources tt tt rise
+        (subst (λ k. AreSpansOver g k sources) (sym e) (before_last sources over p)) in
         omega (arith, x, y)
 
 -- What the code keeps
 
 abbrev pub ForNested : Blocks → ℕ → ℕ → (Segment → Type 0) → Type 0
-ForNested blocks first past P = (g : Segment) → g.first ≡ first → g.past ≡ past → IsSegment g → AreKnown g.flow blocks → HasNestedLoops g → P g
+ForNested blocks first past P = (g : Segment) → g.first ≡ first → g.past ≡ past → IsFlow g.flow → IsSegment g → AreKnown g.flow blocks
+    → IsNested g → P g
 
-forward : (g : Segment) (blocks : Blocks) → IsSegment g → IsSite g blocks → HasNestedLoops g → AreForward blocks g.first g.past
-forward g blocks seg site nested = λ at low high.
-    (loops at (last_of blocks at) (site.lasts at low high), jumps at (plain blocks g.first at) (answers_plain g blocks seg site nested at low high))
+forward : (g : Segment) (blocks : Blocks) → IsFlow g.flow → IsSegment g → IsSite g blocks → IsNested g → AreForward blocks g.first g.past
+forward g blocks flow seg site nested = λ at low high.
+    (loops at (last_of blocks at) (site.lasts at low high), jumps at (span blocks g.first at) (answers_span g blocks flow seg site nested at low high))
   where
     loops : (at : ℕ) (o : Option ℕ) → EndsAt g at o → EndsFrom at o
     loops at None h = tt
     loops at (Some l) h = h.ordered
 
-    jumps : (at : ℕ) (o : Option ℕ) → AnswersPlain g at o → EndsFrom at o
+    jumps : (at : ℕ) (o : Option ℕ) → AnswersSpan g at o → EndsFrom at o
     jumps at None h = tt
-    jumps at (Some t) h = let x : at < t = h.forward in omega (arith, x)
+    jumps at (Some t) h = let x : at < t = span_forward g blocks site at t h in omega (arith, x)
 
--- each loop and jump of the segment leads forward, where it is a segment with nested loops
+-- each loop, jump and list of the segment leads forward, where it is a nested segment
 pub forward_in : (blocks : Blocks) (first past : ℕ) → ForNested blocks first past (λ g. AreForward blocks first past)
-forward_in blocks first past g a b seg known nested =
-    let f = forward g blocks seg (site_of g blocks seg known) nested in
+forward_in blocks first past g a b flow seg known nested =
+    let f = forward g blocks flow seg (site_of g blocks seg known) nested in
     subst (λ n. AreForward blocks n past) a (subst (λ n. AreForward blocks g.first n) b f)
 
 pub too_deep : (blocks : Blocks) (first past at : ℕ) → first ≤ at → at < past
     → (AreForward blocks first past → 64 < live at (opened blocks first (at - first) ++ spans blocks first at))
     → ForNested blocks first past (λ g. Decides false (IsShallow g))
-too_deep blocks first past at low high many g a b seg known nested =
-    (λ e. absurd cc, λ shallow. absurd (deep g blocks seg (site_of g blocks seg known) nested (at - first) (omega (arith, a, b, low, high)) more shallow))
+too_deep blocks first past at low high many g a b flow seg known nested =
+    (λ e. absurd cc, λ shallow. absurd (deep g blocks flow seg (site_of g blocks seg known) nested (at - first) (omega (arith, a, b, low, high)) more shallow))
   where
     more : 64 < live (g.first + (at - first)) (opened blocks g.first (suc (at - first)))
     more =
         let e : first + (at - first) ≡ at = omega (arith, low) in
-        let x : 64 < live at (opened blocks first (at - first) ++ spans blocks first at) = many (forward_in blocks first past g a b seg known nested) in
+        let x : 64 < live at (opened blocks first (at - first) ++ spans blocks first at) = many (forward_in blocks first past g a b flow seg known nested) in
         let y : live (first + (at - first)) (opened blocks first (suc (at - first))) ≡ live at (opened blocks first (at - first) ++ spans blocks first at) =
         ap (λ n. live n (opened blocks first (suc (at - first)))) e ∙ ap (λ n. live at (opened blocks first (at - first) ++ spans blocks first n)) e in
         subst (λ n. 64 < live (n + (at - first)) (opened blocks n (suc (at - first)))) (sym a) (omega (arith, x, y))
@@ -363,10 +364,10 @@ too_deep blocks first past at low high many g a b seg known nested =
 pub not_deep : (blocks : Blocks) (first past at : ℕ) (ends : List ℕ) (depth : ℕ) → past ≤ at
     → (AreForward blocks first past → IsCounted blocks first at ends depth)
     → ForNested blocks first past (λ g. Decides true (IsShallow g))
-not_deep blocks first past at ends depth up counted g a b seg known nested =
-    (λ e. all_shallow g blocks seg (site_of g blocks seg known) nested few, λ s. refl)
+not_deep blocks first past at ends depth up counted g a b flow seg known nested =
+    (λ e. all_shallow g blocks flow seg (site_of g blocks seg known) nested few, λ s. refl)
   where
     few : (i : ℕ) → g.first + i < g.past → live (g.first + i) (opened blocks g.first (suc i)) ≤ 64
     few i h =
-        let c = counted (forward_in blocks first past g a b seg known nested) in
+        let c = counted (forward_in blocks first past g a b flow seg known nested) in
         subst (λ n. live (n + i) (opened blocks n (suc i)) ≤ 64) (sym a) (c.low i (omega (arith, h, a, b, up)))

@@ -24,6 +24,9 @@ pub told : {P : Type 0} (r : Bool) → Decides r P → P ⊎ (P → ⊥)
 told true d = inl (d.0 refl)
 told false d = inr (λ p. let e : false ≡ true = d.1 p in absurd cc)
 
+pub is_set : (b : Bool) → Decides b (b ≡ true)
+is_set b = (λ e. e, λ e. e)
+
 -- a second test that decides where the first one is met
 pub decides_then : {P Q : Type 0} (x y : Bool) → Decides x P → (P → Decides y Q) → Decides (x && y) (P × Q)
 decides_then true true d e = (λ g. (d.0 refl, (e (d.0 refl)).0 refl), λ p. refl)

@@ -1,14 +1,18 @@
 -- The loops that are kept are those around a block, and the first one is the innermost.
-use Rattle.std.proofs.Common.{◌≡◌, ◌⊎◌, ℕ, zero, suc, ◌+◌, ◌<◌, ◌≤◌, Bool, true, false, List, [], ◌∷◌, Option, Some, None, cond, inl, inr, refl, subst, arith}
+use Rattle.std.proofs.Common.{◌≡◌, ◌⊎◌, ℕ, zero, suc, ◌+◌, ◌-◌, ◌<◌, ◌≤◌, Bool, true, false, List, [], ◌∷◌, Option, Some, None, ◌++◌, cond, length, length-append, inl, inr, refl, sym, ap, subst, ◌∙◌, arith}
 use Rattle.std.specs.Prelude.{nat_lt}
-use Rattle.std.proofs.lemmas.Bool.{ltb-false, ltb-true}
+use Rattle.std.proofs.lemmas.Bool.{cases_lt, ltb-false, ltb-true}
+use Rattle.std.proofs.lemmas.List.{get_or_append_left, get_or_push}
 use Rattle.std.proofs.lemmas.Bool.Decides.{Decides-ltb}
 use Rattle.stl_tree.specs.Flows.{AreNested, IsInLoop, IsInnermost, IsJump, IsLoop, IsSegment, Segment}
-use Rattle.segment_plans.specs.Planned.{HasNestedLoops}
 use Rattle.segment_plans.specs.declared.blocks.Blocks.{Blocks}
 use Rattle.segment_plans.specs.Counts.{last_of}
-use Rattle.segment_plans.specs.inner.Spans.{leave, with_loop}
+use Rattle.segment_plans.specs.inner.Spans.{inner_at, inner_loops, innermost, leave, stack, with_loop}
 use Rattle.segment_plans.proofs.Site.{EndsAt, IsSite, jump_reached, told}
+
+-- any two loops of a segment are disjoint, or one lies inside the other
+abbrev pub HasNestedLoops : Segment → Type 0
+HasNestedLoops g = (h l k m : ℕ) → IsLoop g h l → IsLoop g k m → AreNested h l k m
 
 -- a list has the last blocks of the loops with a head before one that end at another or behind it, the greatest head first
 abbrev pub IsStack : Segment → ℕ → ℕ → List ℕ → Type 0
@@ -102,11 +106,6 @@ entered g n None loops fresh s = raise g n n (suc n) loops s (omega arith) (λ k
     none k m loop e = fresh m (subst (λ j. IsJump g m j) e loop.back)
 entered g n (Some l) loops loop s = (n, loop, omega arith, loop.ordered, (λ k m other a b. absurd (omega (arith, a, b))), s)
 
--- the loops around each block from the first one on
-abbrev pub stack : Blocks → ℕ → ℕ → List ℕ
-stack blocks first zero = []
-stack blocks first (suc i) = with_loop (last_of blocks (first + i)) (leave (first + i) (stack blocks first i))
-
 -- no loop begins before the segment
 pub no_head_before : (g : Segment) → IsSegment g → (h l : ℕ) → IsLoop g h l → h < g.first → ⊥
 no_head_before g seg h l loop low =
@@ -162,3 +161,54 @@ none_around g n h m s inner =
     let x : m < n = s h m inner.around.loop (omega (arith, low)) in
     let y : n ≤ m = inner.around.high in
     omega (arith, x, y)
+
+-- The innermost loops as they are kept
+
+inner_size : (blocks : Blocks) (first n : ℕ) → length (inner_loops blocks first n) ≡ n
+inner_size blocks first zero = refl
+inner_size blocks first (suc n) =
+    let e : length (inner_loops blocks first n) ≡ n = inner_size blocks first n in
+    length-append (inner_loops blocks first n) (innermost (stack blocks first (suc n)) ∷ [])
+    ∙ (let f : length (inner_loops blocks first n) + 1 ≡ suc n = omega (arith, e) in f)
+
+pub inner_is : (blocks : Blocks) (first n i : ℕ) → i < n → inner_at (inner_loops blocks first n) i ≡ innermost (stack blocks first (suc i))
+inner_is blocks first zero i h = absurd (omega (arith, h))
+inner_is blocks first (suc n) i h = by (λ x. inner_is blocks first n i x) (cases_lt i n)
+  where
+    size : length (inner_loops blocks first n) ≡ n
+    size = inner_size blocks first n
+
+    by : (i < n → inner_at (inner_loops blocks first n) i ≡ innermost (stack blocks first (suc i))) → (i < n) ⊎ (n ≤ i)
+        → inner_at (inner_loops blocks first (suc n)) i ≡ innermost (stack blocks first (suc i))
+    by before (inl x) = let e = size in
+        get_or_append_left (inner_loops blocks first n) (innermost (stack blocks first (suc n)) ∷ []) None i (omega arith) ∙ before x
+    by before (inr x) =
+        let e : i ≡ n = omega (arith, h, x) in
+        get_or_push (inner_loops blocks first n) (innermost (stack blocks first (suc n))) None i (size ∙ sym e)
+        ∙ ap (λ k. innermost (stack blocks first (suc k))) (sym e)
+
+-- What the code keeps
+
+pub next_stack : (blocks : Blocks) (first at : ℕ) (loops : List ℕ) → first ≤ at
+    → loops ≡ with_loop (last_of blocks at) (leave at (stack blocks first (at - first))) → loops ≡ stack blocks first (at + 1 - first)
+next_stack blocks first at loops h e =
+    let a : first + (at - first) ≡ at = omega (arith, h) in
+    let b : suc (at - first) ≡ at + 1 - first = omega (arith, h) in
+    e ∙ ap (λ n. with_loop (last_of blocks n) (leave n (stack blocks first (at - first)))) (sym a) ∙ ap (stack blocks first) b
+
+pub next_inner : (blocks : Blocks) (first at : ℕ) (old new : List (Option ℕ)) (x : Option ℕ) (loops : List ℕ) → first ≤ at
+    → old ≡ inner_loops blocks first (at - first) → new ≡ old ++ x ∷ [] → x ≡ innermost loops → loops ≡ stack blocks first (at + 1 - first)
+    → new ≡ inner_loops blocks first (at + 1 - first)
+next_inner blocks first at old new x loops h was is one e =
+    let b : at + 1 - first ≡ suc (at - first) = omega (arith, h) in
+    let f : x ≡ innermost (stack blocks first (suc (at - first))) = one ∙ ap innermost (e ∙ ap (stack blocks first) b) in
+    is ∙ ap (λ (xs : List (Option ℕ)). xs ++ x ∷ []) was ∙ ap (λ (o : Option ℕ). inner_loops blocks first (at - first) ++ o ∷ []) f
+    ∙ ap (inner_loops blocks first) (sym b)
+
+pub inner_end : (blocks : Blocks) (first past at : ℕ) (items : List (Option ℕ)) → first ≤ at → (first ≤ past → at ≤ past) → (past < first → at ≤ first)
+    → past ≤ at → items ≡ inner_loops blocks first (at - first) → items ≡ inner_loops blocks first (past - first)
+inner_end blocks first past at items low up late high e = e ∙ ap (inner_loops blocks first) (by (cases_lt past first))
+  where
+    by : (past < first) ⊎ (first ≤ past) → at - first ≡ past - first
+    by (inl x) = let y : at ≤ first = late x in omega (arith, x, y)
+    by (inr x) = let y : at ≤ past = up x in omega (arith, y, high)

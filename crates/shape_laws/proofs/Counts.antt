@@ -1,8 +1,7 @@
 -- What is counted of CASE statements in the text of a region that fits, where the steps of its nodes have none.
-use Rattle.std.proofs.Common.{◌≡◌, ℕ, suc, ◌+◌, ◌<◌, ◌==◌, pos, Bool, true, false, List, [], ◌∷◌, ◌++◌, slice_get, Some, refl, sym, ap, ◌∙◌, subst, arith}
-use Rattle.std.specs.List.{flat_map, list_any}
+use Rattle.std.proofs.Common.{◌≡◌, ℕ, suc, ◌+◌, ◌<◌, pos, Bool, true, false, List, [], ◌∷◌, ◌++◌, slice_get, Some, refl, sym, ap, ◌∙◌, subst, arith}
+use Rattle.std.specs.List.{flat_map}
 use Rattle.std.specs.Prelude.{All}
-use Rattle.std.proofs.lemmas.Bool.{eq-eqb, or_left, or_right}
 use Rattle.std.proofs.lemmas.List.Elements.{All-head}
 use Rattle.std.proofs.lemmas.List.Sums.{sum_by-append}
 use Rattle.s7_base.specs.declared.register.Reg.TheVariants as reg
@@ -21,8 +20,9 @@ use Rattle.st_tree.specs.declared.program.Stmt.TheOpen as S
 use Rattle.st_tree.specs.declared.program.Stmt.TheVariants as stmt
 use Rattle.st_tree.proofs.PartEquations.{inner_bodies}
 use Rattle.graph_rules.specs.Plain.{ArePutBack, AreSteps, IsGuarded, IsStep, tests_of}
-use Rattle.region_laws.specs.Regions.{Around, Fits, IsNode, Marked, Place, Region, again, arms_with_labels, at, choice, cycle, ended, forever, fork, inside, labels_from, leaves, node, off, quit, selected, selector, table, text_of, turn_to}
+use Rattle.region_laws.specs.Regions.{Around, Fits, IsNode, Marked, Place, Region, again, arms_of_nodes, arms_with_labels, at, choice, choose, cycle, ended, forever, fork, inside, labels_from, leaves, node, off, quit, selected, selector, table, text_of, turn_to}
 use Rattle.region_plans.specs.RegionCounts.{sum_of}
+use Rattle.region_plans.proofs.Counting.{sum_where}
 use Rattle.text_shapes.specs.Shape.{count_in}
 use Rattle.text_shapes.proofs.Counting.{Layer, count_append, count_first, own_sum}
 use Rattle.shape_laws.proofs.Texts.{arm_mark, label_before}
@@ -96,6 +96,8 @@ pub record Measures (M : Region → ℕ) (one : ℕ) (f : List ℕ → ℕ) : Ty
   pub quit : (steps : List Stmt) (e : Expr) (rest : Region) → M (quit steps e rest) ≡ M rest
   pub table : (steps : List Stmt) (e : Expr) (n : ℕ) (arms : ℕ → Region) (join : Place) (rest : Region)
       → M (table steps e n arms join rest) ≡ one + sum_of (λ k. M (arms k)) (labels_from 0 n) + M (arms n) + M rest
+  pub choose : (steps : List Stmt) (e : Expr) (targets listed : List ℕ) (arms : ℕ → Region) (other : Region) (join : Place) (rest : Region)
+      → M (choose steps e targets listed arms other join rest) ≡ one + sum_of (λ j. M (arms j)) listed + M other + M rest
   pub cycle : (body : Region) (behind : Place) (rest : Region) → M (cycle body behind rest) ≡ M body + M rest
   pub turn_to : (j : ℕ) (rest : Region) → M (turn_to j rest) ≡ M rest
   pub selector : (labels : List ℕ) (arms : ℕ → Region) (behind : Place) (rest : Region)
@@ -107,13 +109,6 @@ pub record CountsCases (count : Layer → ℕ) (Good : Expr → Type 0) (next on
   pub choose : (e : Expr) → Good e → (arms : List CaseArm) (other : List Stmt) → count (S.Case e arms other) ≡ one
   pub select : (bodies : ℕ → List Stmt) (labels : List ℕ)
       → count (S.Case (expr.Read (var.Local next)) (arms_with_labels bodies labels) []) ≡ f labels
-
-sum_where : (f g : ℕ → ℕ) (labels : List ℕ) → ((n : ℕ) → list_any (λ label. label == n) labels ≡ true → f n ≡ g n)
-    → sum_of f labels ≡ sum_of g labels
-sum_where f g [] same = refl
-sum_where f g (n ∷ labels) same =
-    let e = same n (or_left (n == n) (list_any (λ label. label == n) labels) (eq-eqb n n refl)) in
-    let h = sum_where f g labels (λ m e. same m (or_right (n == m) (list_any (λ label. label == m) labels) e)) in omega arith
 
 module _ (count : Layer → ℕ) (Good : Expr → Type 0) (next one : ℕ) (f : List ℕ → ℕ) (ok : CountsCases count Good next one f)
     (M : Region → ℕ) (is_measure : Measures M one f) (unit : Marked)
@@ -156,14 +151,27 @@ module _ (count : Layer → ℕ) (Good : Expr → Type 0) (next one : ℕ) (f : 
       (flat_map (λ (arm : CaseArm). statements_in arm.body) (arms_with_labels bodies labels)) in
       let h = arms_count bodies labels in omega arith
 
+  listed_count : (targets : List ℕ) (bodies : ℕ → List Stmt) (listed : List ℕ)
+      → own_sum count (flat_map (λ (arm : CaseArm). statements_in arm.body) (arms_of_nodes targets bodies listed)) ≡ sum_of (λ n. counted (bodies n)) listed
+  listed_count targets bodies [] = refl
+  listed_count targets bodies (n ∷ listed) =
+      let i = sum_by-append (λ (x : Stmt). count (out-Stmt x)) (statements_in (bodies n))
+      (flat_map (λ (arm : CaseArm). statements_in arm.body) (arms_of_nodes targets bodies listed)) in
+      let h = listed_count targets bodies listed in omega arith
+
+  whole_counts : (e : Expr) (arms : List CaseArm) (other rest : List Stmt)
+      → counted (stmt.Case e arms other ∷ rest)
+      ≡ count (S.Case e arms other) + own_sum count (flat_map (λ (arm : CaseArm). statements_in arm.body) arms) + counted other + counted rest
+  whole_counts e arms other rest =
+      let g = count_first count (S.Case e arms other) (stmt.Case e arms other) (stmt.rolls-Case e arms other) rest in
+      let i = sum_by-append (λ (x : Stmt). count (out-Stmt x)) (flat_map (λ (arm : CaseArm). statements_in arm.body) arms) (statements_in other) in
+      omega arith
+
   case_counts : (e : Expr) (bodies : ℕ → List Stmt) (labels : List ℕ) (other rest : List Stmt)
       → counted (stmt.Case e (arms_with_labels bodies labels) other ∷ rest)
       ≡ count (S.Case e (arms_with_labels bodies labels) other) + sum_of (λ n. counted (bodies n)) labels + counted other + counted rest
   case_counts e bodies labels other rest =
-      let arms = arms_with_labels bodies labels in
-      let g = count_first count (S.Case e arms other) (stmt.Case e arms other) (stmt.rolls-Case e arms other) rest in
-      let i = sum_by-append (λ (x : Stmt). count (out-Stmt x)) (flat_map (λ (arm : CaseArm). statements_in arm.body) arms) (statements_in other) in
-      let h = arms_count bodies labels in omega arith
+      let g = whole_counts e (arms_with_labels bodies labels) other rest in let h = arms_count bodies labels in omega arith
 
   pub counts : (r : Region) (turn : Bool) (p follow : Place) (a : Around) → Fits unit turn r p follow a → counted (text_of next r) ≡ M r
   counts off turn p follow a fit = sym is_measure.off
@@ -201,6 +209,18 @@ module _ (count : Layer → ℕ) (Good : Expr → Type 0) (next one : ℕ) (f : 
       (λ k g. let b : k < 0 + n = label_before 0 n k g in counts (arms k) false _ join a (each k (omega arith))) in
       let h = counts (arms n) false _ join a (each n (omega arith)) in
       let h' = counts rest false join follow a fits in let m = is_measure.table steps e n arms join rest in omega arith
+  counts (choose steps e targets listed arms other join rest) turn p follow a (i, last, q, is, have, each, fit, fits) =
+      let s = steps_free turn i steps (exit.Table e targets last) is in
+      let good = test_good turn i steps (exit.Table e targets last) e refl is in
+      let bodies : ℕ → List Stmt = λ j. text_of next (arms j) in
+      let d = count_append count steps (stmt.Case e (arms_of_nodes targets bodies listed) (text_of next other) ∷ text_of next rest) in
+      let c = whole_counts e (arms_of_nodes targets bodies listed) (text_of next other) (text_of next rest) in
+      let b = listed_count targets bodies listed in
+      let o = ok.choose e good (arms_of_nodes targets bodies listed) (text_of next other) in
+      let same = sum_where (λ j. counted (text_of next (arms j))) (λ j. M (arms j)) listed
+      (λ j g. counts (arms j) false (at j) join a (each j g)) in
+      let h = counts other false (at last) join a fit in
+      let h' = counts rest false join follow a fits in let m = is_measure.choose steps e targets listed arms other join rest in omega arith
   counts (cycle body behind rest) turn p follow a (h, t, e, mark, fit, fits) =
       let g = forever_counts (text_of next body) (text_of next rest) in
       let i = counts body true (at h) (at h) (inside (at h) behind) fit in

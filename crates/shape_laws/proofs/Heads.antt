@@ -3,6 +3,7 @@ use Rattle.std.proofs.Common.{◌≡◌, inl, inr, ⊎_elim, ℕ, zero, suc, ◌
 use Rattle.std.proofs.lemmas.Bool.{cases_eq, cases_lt, cond_both}
 use Rattle.stl_tree.specs.Segments.{AreAscending, AreAscendingAfter, IsOneOf}
 use Rattle.stl_tree.specs.Flows.{AreHeads, IsLoop, IsSegment, Segment}
+use Rattle.nesting_laws.specs.Splitting.{HasOneLoop}
 use Rattle.region_laws.specs.Regions.{Mark, arm_of, loop_head, unmarked}
 use Rattle.region_plans.specs.Charts.{IsHeaded}
 use Rattle.region_plans.specs.PlanRegion.{Chart}
@@ -25,6 +26,14 @@ head_weight : (m : Mark) → mark_weight of_whiles m ≡ (if is_head m then 1 el
 head_weight unmarked = refl
 head_weight loop_head = refl
 head_weight (arm_of k) = refl
+
+-- where there is at most one loop, there is at most one head
+pub one_head : (g : Segment) (heads : List ℕ) → AreHeads g heads → HasOneLoop g → length heads ≤ 1
+one_head g [] are one = omega arith
+one_head g (h ∷ []) are one = omega arith
+one_head g (h ∷ k ∷ rest) are one =
+    let (l, loop) = are.each h (inl refl) in let (m, loop') = are.each k (inr (inl refl)) in
+    let same : h ≡ k = one h l k m loop loop' in let x : h < k = are.ascending.0 in absurd (omega arith)
 
 module _ (c : Chart) where
   -- of so many blocks from one on those that are marked as heads

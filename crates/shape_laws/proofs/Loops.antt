@@ -25,13 +25,13 @@ use Rattle.region_plans.proofs.Texts.{steps_turn, text_weighs}
 use Rattle.text_shapes.specs.Allowed.{Judgement, loops_allowed}
 use Rattle.text_shapes.specs.Shape.{count_in, loops, tests}
 use Rattle.text_shapes.proofs.Counting.{Layer, count_append}
+use Rattle.unit_regions.specs.MadeCharts.{IsPlannedBy}
 use Rattle.unit_regions.specs.UnitCharts.{IsCutUp, IsWrittenBy, segment_of}
 use Rattle.unit_regions.specs.UnitRegion.{Section, arm_region, dispatch_region, falls_off, lead_to, node_region, place_of, reached_from, region_by, section_region, unit_region}
 use Rattle.unit_regions.proofs.Counting.{none_of}
 use Rattle.unit_regions.proofs.Following.{followed_by_text}
-use Rattle.unit_regions.proofs.Rows.{IsAmong}
-use Rattle.shape_laws.proofs.Heads.{heads_are, heads_from}
-use Rattle.shape_laws.proofs.Judging.{judgement_of, judgements_of}
+use Rattle.shape_laws.proofs.Heads.{are_heads, heads_are, heads_from, one_head}
+use Rattle.shape_laws.proofs.Judging.{AreKnown, judgement_of, judgements_of}
 
 -- What is counted as a number, and as the length of a list
 
@@ -97,11 +97,10 @@ module _ (c : Chart) (next : ℕ) (steps : (i : ℕ) (n : StNode) → slice_get 
       omega arith
 
   module _ (cuts : List ℕ) (ok : IsCutUp c.unit.nodes c.unit.reached cuts) where
-    region_loops : (first past : ℕ) (plan : Option Plan) (more : List Judgement) → IsSegment (segment_of c first past)
-        → IsWrittenBy c first past plan
-        → count_in loops (text_of next (region_by c first past plan)) + loops_allowed more ≤ loops_allowed (judgement_of c first past plan ∷ more)
-    region_loops first past None more is written = let e = dispatch_whiles first past (place_of c past) in omega arith
-    region_loops first past (Some plan) more is (charted, planned) =
+    -- no more WHILE than heads
+    plan_loops : (first past : ℕ) (plan : Plan) → IsSegment (segment_of c first past) → IsWrittenBy c first past (Some plan)
+        → count_in loops (text_of next (region_of c plan first past (place_of c past) no_loop)) ≤ length (heads_from c first (past - first))
+    plan_loops first past plan is (charted, planned) =
         let short = segment_is_short c (segment_of c first past) plan (place_of c past) next charted steps planned in
         let l : length (while_tests_in (text_of next (region_of c plan first past (place_of c past) no_loop))) + before (block_whiles c) first
         ≤ before (block_whiles c) past = short.whiles in
@@ -112,14 +111,26 @@ module _ (c : Chart) (next : ℕ) (steps : (i : ℕ) (n : StNode) → slice_get 
         = heads_are c cuts ok first past is (λ h x y. charted.heads h x y) in
         omega arith
 
-    pub unit_whiles : (sections : List Section)
-        → ((s : Section) → IsAmong s sections → IsSegment (segment_of c s.first s.past) × IsWrittenBy c s.first s.past s.plan)
-        → count_in loops (text_of next (unit_region c sections)) ≤ loops_allowed (judgements_of c sections)
+    region_loops : (first past : ℕ) (plan : Option Plan) (more : List Judgement) → IsSegment (segment_of c first past)
+        → (planned : IsPlannedBy c.unit.nodes first past plan) → IsWrittenBy c first past plan
+        → count_in loops (text_of next (region_by c first past plan)) + loops_allowed more
+        ≤ loops_allowed (judgement_of c first past plan planned ∷ more)
+    region_loops first past None more is planned written = let e = dispatch_whiles first past (place_of c past) in omega arith
+    region_loops first past (Some plan) more is ((by_paths, inl closed), planned) written =
+        let l = plan_loops first past plan is written in omega arith
+    region_loops first past (Some plan) more is ((by_paths, inr other), planned) written =
+        let l = plan_loops first past plan is written in
+        let few = one_head (segment_of c first past) (heads_from c first (past - first))
+        (are_heads c cuts ok first past is (λ h x y. written.0.heads h x y)) other.1 in
+        omega arith
+
+    pub unit_whiles : (sections : List Section) (known : AreKnown c sections)
+        → count_in loops (text_of next (unit_region c sections)) ≤ loops_allowed (judgements_of c sections known)
     unit_whiles [] known = omega arith
     unit_whiles (s ∷ rest) known =
         let own = known s (inl refl) in
         let r = section_region c s in let more = unit_region c rest in
-        let l = region_loops s.first s.past s.plan (judgements_of c rest) own.0 own.1 in
+        let l = region_loops s.first s.past s.plan (judgements_of c rest (λ q among. known q (inr among))) own.0 own.1 own.2 in
         let h = unit_whiles rest (λ q among. known q (inr among)) in
         let f : count_in loops (text_of next (unit_region c (s ∷ rest)))
         ≡ count_in loops (text_of next r ++ (if falls_off r then text_of next more else []))

@@ -23,9 +23,9 @@ use Rattle.unit_regions.proofs.Cutting.{blocks_are}
 use Rattle.unit_regions.proofs.Joining.{begins_first, unit_fits}
 use Rattle.unit_regions.proofs.Made.{chart_is_right}
 use Rattle.unit_regions.proofs.Markless.{marks_are_left_out}
-use Rattle.unit_regions.proofs.Rows.{IsAmong, each}
+use Rattle.unit_regions.proofs.Rows.{each}
 use Rattle.shape_laws.specs.MadeShape.{MadeHasShape}
-use Rattle.shape_laws.proofs.Judging.{IsKnown, are_judged, arms_are, judgements_of, selectors_are}
+use Rattle.shape_laws.proofs.Judging.{AreKnown, are_judged, arms_are, judgements_of, selectors_are}
 use Rattle.shape_laws.proofs.Loops.{unit_whiles}
 use Rattle.shape_laws.proofs.Segments.{are_among, are_segments, segments_from, written_of}
 use Rattle.shape_laws.proofs.Selecting.{any_case, cases_split, kept_without, none_without, text_arms, text_cases, text_keeps, text_selectors}
@@ -59,7 +59,7 @@ module _ (nodes : List StNode) (next : ℕ) (reached : ℕ → Bool) (lasts : �
   fits : Fits C.unit false (unit_region C sections) (at 0) out no_loop
   fits = unit_fits C (cut ∷ cuts) sections found.whole (chart_is_right nodes reached lasts (cut ∷ cuts) sections plain found row).each
 
-  known : (s : Section) → IsAmong s sections → IsKnown C (cut ∷ cuts) found.whole s
+  known : AreKnown C sections
   known s among =
       let own = holds nodes reached lasts cut cuts sections plain found row s among in
       let written = each (IsWrittenBy C) C [] cut cuts sections found.whole.points
@@ -78,11 +78,11 @@ module _ (nodes : List StNode) (next : ℕ) (reached : ℕ → Bool) (lasts : �
       subst (λ b. AreAmong (written_of C sections) (segments_from C b cuts)) at_first
       (are_among C (IsWrittenBy C) cut cuts sections (chart_is_right nodes reached lasts (cut ∷ cuts) sections plain found row).each)
 
-  judged : AreJudged (written_of C sections) (judgements_of C sections)
+  judged : AreJudged (written_of C sections) (judgements_of C sections known)
   judged = are_judged C (cut ∷ cuts) found.whole sections known
 
-  whiles : count_in loops Text ≤ loops_allowed (judgements_of C sections)
-  whiles = unit_whiles C next (steps_of_plain nodes plain) (cut ∷ cuts) found.whole sections (λ s in_row. let own = known s in_row in (own.0, own.2))
+  whiles : count_in loops Text ≤ loops_allowed (judgements_of C sections known)
+  whiles = unit_whiles C next (steps_of_plain nodes plain) (cut ∷ cuts) found.whole sections known
 
   few_tests : count_in tests Text ≤ conditionals_of nodes
   few_tests =
@@ -103,11 +103,11 @@ module _ (nodes : List StNode) (next : ℕ) (reached : ℕ → Bool) (lasts : �
 
   pub shape_with : 1 ≤ loops_of sections → IsShaped (flow_of nodes) (conditionals_of nodes) (lists_of nodes) (Some next) Text
   shape_with x =
-      let e = selectors_are C sections in let f = over_selector in let s = cases_split (Some next) Text in let c = all_cases in
+      let e = selectors_are C sections known in let f = over_selector in let s = cases_split (Some next) Text in let c = all_cases in
       record {
         segments = segments_from C 0 cuts;
         written = written_of C sections;
-        judgements = judgements_of C sections;
+        judgements = judgements_of C sections known;
         all = all;
         some = among;
         judged = judged;
@@ -117,7 +117,7 @@ module _ (nodes : List StNode) (next : ℕ) (reached : ℕ → Bool) (lasts : �
         arms =
             (let g = text_arms next C.unit (steps_of_plain nodes plain) off (unit_region C sections) (at 0) out no_loop fits in
             let l = arms_are_few C (cut ∷ cuts) sections (chart_is_right nodes reached lasts (cut ∷ cuts) sections plain found row).each in
-            let h = arms_are C sections in omega arith);
+            let h = arms_are C sections known in omega arith);
         cases = (omega arith);
         loops = whiles;
         tests = few_tests;
@@ -129,7 +129,7 @@ module _ (nodes : List StNode) (next : ℕ) (reached : ℕ → Bool) (lasts : �
       record {
         segments = segments_from C 0 cuts;
         written = written_of C sections;
-        judgements = judgements_of C sections;
+        judgements = judgements_of C sections known;
         all = all;
         some = among;
         judged = judged;

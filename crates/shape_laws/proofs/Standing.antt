@@ -12,7 +12,8 @@ use Rattle.st_tree.specs.declared.program.Stmt.{Stmt}
 use Rattle.stl_tree.specs.Segments.{IsOneOf, IsReached, Ways, fall, first, jump}
 use Rattle.stl_tree.specs.Flows.{blocks_of, falls_by, jumps_of, ways_by}
 use Rattle.graph_rules.specs.Flow.{flow_of, way_by}
-use Rattle.region_laws.specs.Regions.{Around, Fits, IsNode, Leaves, LeadsTo, Mark, Marked, Place, Region, Repeats, again, arm_of, at, cycle, ended, fork, inside, is_arm, labels_from, leaves, no_loop, node, off, out, quit, selected, selector, table, turn_to}
+use Rattle.region_laws.specs.Regions.{Around, Fits, IsNode, Leaves, LeadsTo, Mark, Marked, Place, Region, Repeats, again, arm_of, at, choose, cycle, ended, fork, inside, is_arm, labels_from, leaves, no_loop, node, off, out, quit, selected, selector, table, turn_to}
+use Rattle.region_plans.proofs.Counting.{sum_append}
 use Rattle.region_plans.specs.RegionCounts.{Weights, before, sum_of, weight}
 use Rattle.shape_laws.proofs.Texts.{arm_mark}
 
@@ -26,10 +27,6 @@ left_one b (x ∷ xs) ys (inr o) = inr (left_one b xs ys o)
 right_one : (b : ℕ) (xs ys : List ℕ) → IsOneOf b ys → IsOneOf b (xs ++ ys)
 right_one b [] ys o = o
 right_one b (x ∷ xs) ys o = inr (right_one b xs ys o)
-
-sum_append : (f : ℕ → ℕ) (xs ys : List ℕ) → sum_of f (xs ++ ys) ≡ sum_of f xs + sum_of f ys
-sum_append f [] ys = omega arith
-sum_append f (x ∷ xs) ys = let h = sum_append f xs ys in omega arith
 
 found_one : (b : ℕ) (xs : List ℕ) → list_any (λ x. x == b) xs ≡ true → IsOneOf b xs
 found_one b [] e = absurd cc
@@ -344,6 +341,35 @@ module _ (unit : Marked) where
             → IsOneOf last whole
         to_last whole targets last count many o =
             subst (λ (t : Option ℕ). IsOneOf (entry_or t last) whole) (ap (λ (n : ℕ). slice_get targets n) many ∙ past_end targets) o
+    stands (choose steps e targets listed arms other join rest) turn p follow a (i, last, same, is, have, each, fit, fits) =
+        let some = arm_stand arms (λ j. at j) false join a listed
+        (λ j o. stands (arms j) false (at j) join a (each j (one_found j listed o))) in
+        let default = stands other false (at last) join a fit in
+        let more = stands rest false join follow a fits in
+        record {
+          list = i ∷ (some.list ++ (default.list ++ more.list));
+          begins = begins_so turn p i (some.list ++ (default.list ++ more.list)) same;
+          closed = λ whole in_whole s around.
+              let behind_i : Among whole (some.list ++ (default.list ++ more.list)) = λ b o. in_whole b (inr o) in
+              let behind_some = among_right whole some.list (default.list ++ more.list) behind_i in
+              let after = more.closed whole (among_right whole default.list more.list behind_some) s around in
+              let first = some.closed whole (among_left whole some.list (default.list ++ more.list) behind_i) after.0 around in
+              let second = default.closed whole (among_left whole default.list more.list behind_some) after.0 around in
+              let to_last : (t : ℕ) → t ≡ last → IsOneOf t whole = λ t f. subst (λ t. IsOneOf t whole) (sym f) second.0 in (
+                subst (Served whole) (sym same) (in_whole i (inl refl)),
+                closed_first whole turn i steps (exit.Table e targets last) (some.list ++ (default.list ++ more.list)) is
+                    (record {
+                      jumps = λ t o. ⊎_elim (λ f. to_last t f)
+                          (λ o. ⊎_elim (λ g. first.0 t (found_one t listed g)) (λ f. to_last t f) (have.all t (one_found t targets o))) o;
+                      falls = λ f. absurd cc;
+                    })
+                    (closed_append whole some.list (default.list ++ more.list) first.1 (closed_append whole default.list more.list second.1 after.1)),
+              );
+          weighs = (
+              let o = own_is turn i steps (exit.Table e targets last) is in let l = some.weighs in let m = default.weighs in let n = more.weighs in
+              let f = sum_append own some.list (default.list ++ more.list) in let g = sum_append own default.list more.list in
+              omega (arith, o, l, m, n, f, g));
+        }
     stands (cycle body behind rest) turn p follow a (h, t, e, m, fit, fits) =
         let one = stands body true (at h) (at h) (inside (at h) behind) fit in let more = stands rest false behind follow a fits in
         record {

@@ -19,7 +19,7 @@ use Rattle.st_tree.specs.declared.program.Stmt.TheOpen as S
 use Rattle.st_tree.specs.declared.program.Stmt.TheVariants as stmt
 use Rattle.st_tree.proofs.PartEquations.{inner_bodies, inner_rolled}
 use Rattle.graph_rules.specs.Plain.{tests_of}
-use Rattle.region_laws.specs.Regions.{Around, Fits, IsNode, Mark, Marked, Place, Region, again, arm_of, arms_with_labels, at, choice, cycle, ended, forever, fork, inside, is_arm, labels_from, leaves, loop_head, node, off, quit, selected, selector, table, text_of, turn_to, unmarked}
+use Rattle.region_laws.specs.Regions.{Around, Fits, IsNode, Mark, Marked, Place, Region, again, arm_of, arms_of_nodes, arms_with_labels, at, choice, choose, cycle, ended, forever, fork, inside, is_among, is_arm, labels_from, leaves, loop_head, node, off, quit, selected, selector, table, text_of, turn_to, unmarked}
 use Rattle.text_shapes.proofs.Counting.{Layer}
 
 -- Labels
@@ -70,6 +70,14 @@ module _ (P : Layer → Type 0) where
       (each n (or_left (n == n) (list_any (λ label. label == n) labels) (eq-eqb n n refl)))
       (each_arm bodies labels (λ m e. each m (or_right (n == m) (list_any (λ label. label == m) labels) e)))
 
+  each_listed : (targets : List ℕ) (bodies : ℕ → List Stmt) (nodes : List ℕ) → ((j : ℕ) → is_among j nodes ≡ true → EachOf (bodies j))
+      → All Own (flat_map (λ (arm : CaseArm). statements_in arm.body) (arms_of_nodes targets bodies nodes))
+  each_listed targets bodies [] each = All-nil Own
+  each_listed targets bodies (n ∷ nodes) each =
+      All-append Own (statements_in (bodies n)) (flat_map (λ (arm : CaseArm). statements_in arm.body) (arms_of_nodes targets bodies nodes))
+      (each n (or_left (n == n) (is_among n nodes) (eq-eqb n n refl)))
+      (each_listed targets bodies nodes (λ m e. each m (or_right (n == m) (is_among m nodes) e)))
+
 -- Regions
 
 -- what holds of the statements that regions have besides steps, where tests are good
@@ -105,14 +113,19 @@ module _ (P : Layer → Type 0) (Good : Expr → Type 0) (next : ℕ) (ok : Hold
       each_first P (S.While (expr.Literal type.Bool (pos 1)) body) (forever body) (stmt.rolls-While (expr.Literal type.Bool (pos 1)) body) rest
       (ok.turn body) h more
 
+  arms_hold : (e : Expr) (arms : List CaseArm) (other rest : List Stmt) → P (S.Case e arms other)
+      → All (Own P) (flat_map (λ (arm : CaseArm). statements_in arm.body) arms) → EachOf P other → EachOf P rest
+      → EachOf P (stmt.Case e arms other ∷ rest)
+  arms_hold e arms other rest own each h more =
+      each_first P (S.Case e arms other) (stmt.Case e arms other) (stmt.rolls-Case e arms other) rest own
+      (All-append (Own P) (flat_map (λ (arm : CaseArm). statements_in arm.body) arms) (statements_in other) each h) more
+
   case_holds : (e : Expr) (bodies : ℕ → List Stmt) (labels : List ℕ) (other rest : List Stmt)
       → P (S.Case e (arms_with_labels bodies labels) other)
       → ((n : ℕ) → list_any (λ label. label == n) labels ≡ true → EachOf P (bodies n)) → EachOf P other → EachOf P rest
       → EachOf P (stmt.Case e (arms_with_labels bodies labels) other ∷ rest)
   case_holds e bodies labels other rest own each h more =
-      let arms = arms_with_labels bodies labels in
-      each_first P (S.Case e arms other) (stmt.Case e arms other) (stmt.rolls-Case e arms other) rest own
-      (All-append (Own P) (flat_map (λ (arm : CaseArm). statements_in arm.body) arms) (statements_in other) (each_arm P bodies labels each) h) more
+      arms_hold e (arms_with_labels bodies labels) other rest own (each_arm P bodies labels each) h more
 
   pub holds : (r : Region) (turn : Bool) (p follow : Place) (a : Around) → Fits unit turn r p follow a → EachOf P (text_of next r)
   holds off turn p follow a fit = All-nil (Own P)
@@ -141,6 +154,15 @@ module _ (P : Layer → Type 0) (Good : Expr → Type 0) (next : ℕ) (ok : Hold
       (ok.choose e good (arms_with_labels bodies (labels_from 0 count)) (text_of next (arms count)))
       (λ m f. let b : m < 0 + count = label_before 0 count m f in holds (arms m) false _ join a (each m (omega arith)))
       (holds (arms count) false _ join a (each count (omega arith))) (holds rest false join follow a fits))
+  holds (choose steps e targets listed arms other join rest) turn p follow a (i, last, q, is, have, each, fit, fits) =
+      let good = test_good turn i steps (exit.Table e targets last) e refl is in
+      let bodies : ℕ → List Stmt = λ j. text_of next (arms j) in
+      each_append P steps (stmt.Case e (arms_of_nodes targets bodies listed) (text_of next other) ∷ text_of next rest)
+      (steps_hold turn i steps (exit.Table e targets last) is)
+      (arms_hold e (arms_of_nodes targets bodies listed) (text_of next other) (text_of next rest)
+      (ok.choose e good (arms_of_nodes targets bodies listed) (text_of next other))
+      (each_listed P targets bodies listed (λ j f. holds (arms j) false (at j) join a (each j f)))
+      (holds other false (at last) join a fit) (holds rest false join follow a fits))
   holds (cycle body behind rest) turn p follow a (h, t, e, m, fit, fits) =
       forever_holds (text_of next body) (text_of next rest)
       (holds body true (at h) (at h) (inside (at h) behind) fit) (holds rest false behind follow a fits)

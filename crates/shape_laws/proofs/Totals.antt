@@ -73,14 +73,15 @@ module _ (c : Chart) where
   few_cases : (b : ℕ) → unit_block_weight of_cases c b ≤ list_at (slice_get c.unit.nodes b)
   few_cases b = by (c.unit.marks b)
     where
-      none : (x : StExit) → exit_weight of_cases x ≡ 0
-      none (exit.Branch e j) = refl
-      none (exit.EndIf e) = refl
-      none x = refl
+      one : (x : StExit) → exit_weight of_cases x ≡ one_if_list x
+      one (exit.Branch e j) = refl
+      one (exit.EndIf e) = refl
+      one (exit.Table e targets last) = refl
+      one x = refl
 
-      own : (o : Option StNode) → node_weight of_cases o ≡ 0
+      own : (o : Option StNode) → node_weight of_cases o ≡ list_at o
       own None = refl
-      own (Some n) = let e = none n.exit in omega arith
+      own (Some n) = let e = one n.exit in omega arith
 
       free : (m : Mark) → mark_weight of_cases m ≡ 0
       free unmarked = refl

@@ -14,7 +14,7 @@ use Rattle.st_tree.specs.declared.program.Stmt.TheOpen as S
 use Rattle.st_tree.specs.declared.program.Stmt.TheVariants as stmt
 use Rattle.st_tree.proofs.PartEquations.{inner_bodies}
 use Rattle.graph_rules.specs.Plain.{AreSettings}
-use Rattle.region_laws.specs.Regions.{Region, again, arms_with_labels, choice, cycle, ended, forever, fork, labels_from, leaves, node, off, quit, selector, table, text_of, turn_to}
+use Rattle.region_laws.specs.Regions.{Region, again, arms_of_nodes, arms_with_labels, choice, choose, cycle, ended, forever, fork, labels_from, leaves, node, off, quit, selector, table, text_of, turn_to}
 use Rattle.region_plans.specs.RegionCounts.{Weights, sum_of, weight}
 use Rattle.text_shapes.specs.Shape.{count_in}
 use Rattle.text_shapes.proofs.Counting.{Layer, count_append, count_first, own_sum}
@@ -64,15 +64,28 @@ module _ (count : Layer → ℕ) (ok : CountsWork count) where
       (flat_map (λ (arm : CaseArm). statements_in arm.body) (arms_with_labels bodies labels)) in
       let h = arms_count bodies labels in omega arith
 
+  listed_count : (targets : List ℕ) (bodies : ℕ → List Stmt) (listed : List ℕ)
+      → own_sum count (flat_map (λ (arm : CaseArm). statements_in arm.body) (arms_of_nodes targets bodies listed)) ≡ sum_of (λ n. counted (bodies n)) listed
+  listed_count targets bodies [] = refl
+  listed_count targets bodies (n ∷ listed) =
+      let i = sum_by-append (λ (x : Stmt). count (out-Stmt x)) (statements_in (bodies n))
+      (flat_map (λ (arm : CaseArm). statements_in arm.body) (arms_of_nodes targets bodies listed)) in
+      let h = listed_count targets bodies listed in omega arith
+
+  whole_counts : (e : Expr) (arms : List CaseArm) (other rest : List Stmt)
+      → counted (stmt.Case e arms other ∷ rest)
+      ≡ own_sum count (flat_map (λ (arm : CaseArm). statements_in arm.body) arms) + counted other + counted rest
+  whole_counts e arms other rest =
+      let g = count_first count (S.Case e arms other) (stmt.Case e arms other) (stmt.rolls-Case e arms other) rest in
+      let t = ok.select e arms other in
+      let i = sum_by-append (λ (x : Stmt). count (out-Stmt x)) (flat_map (λ (arm : CaseArm). statements_in arm.body) arms) (statements_in other) in
+      omega arith
+
   case_counts : (e : Expr) (bodies : ℕ → List Stmt) (labels : List ℕ) (other rest : List Stmt)
       → counted (stmt.Case e (arms_with_labels bodies labels) other ∷ rest)
       ≡ sum_of (λ n. counted (bodies n)) labels + counted other + counted rest
   case_counts e bodies labels other rest =
-      let arms = arms_with_labels bodies labels in
-      let g = count_first count (S.Case e arms other) (stmt.Case e arms other) (stmt.rolls-Case e arms other) rest in
-      let t = ok.select e arms other in
-      let i = sum_by-append (λ (x : Stmt). count (out-Stmt x)) (flat_map (λ (arm : CaseArm). statements_in arm.body) arms) (statements_in other) in
-      let h = arms_count bodies labels in omega arith
+      let g = whole_counts e (arms_with_labels bodies labels) other rest in let h = arms_count bodies labels in omega arith
 
   pub text_counts : (next : ℕ) (r : Region) → counted (text_of next r) ≡ weight (of_work count) r
   text_counts next off = refl
@@ -95,6 +108,13 @@ module _ (count : Layer → ℕ) (ok : CountsWork count) where
       let b = case_counts e bodies (labels_from 0 n) (text_of next (arms n)) (text_of next rest) in
       let same = sum_same (λ k. counted (text_of next (arms k))) (λ k. weight (of_work count) (arms k)) (λ k. text_counts next (arms k)) (labels_from 0 n) in
       let h = text_counts next (arms n) in let j = text_counts next rest in omega arith
+  text_counts next (choose steps e targets listed arms other join rest) =
+      let bodies : ℕ → List Stmt = λ j. text_of next (arms j) in
+      let a = count_append count steps (stmt.Case e (arms_of_nodes targets bodies listed) (text_of next other) ∷ text_of next rest) in
+      let b = whole_counts e (arms_of_nodes targets bodies listed) (text_of next other) (text_of next rest) in
+      let c = listed_count targets bodies listed in
+      let same = sum_same (λ j. counted (text_of next (arms j))) (λ j. weight (of_work count) (arms j)) (λ j. text_counts next (arms j)) listed in
+      let h = text_counts next other in let j = text_counts next rest in omega arith
   text_counts next (cycle body behind rest) =
       let b = forever_counts (text_of next body) (text_of next rest) in
       let h = text_counts next body in let j = text_counts next rest in omega arith

@@ -20,13 +20,16 @@ MadeHasShape = (nodes : List StNode) (next : ℕ) (body : List Stmt) (loops : �
     → IsShaped (flow_of nodes) (conditionals_of nodes) (lists_of nodes) (if loops == 0 then None else Some next) body
     × (count_in (selector_cases (Some next)) body ≡ loops)
 
--- A worked unit: one block, with a jump list that leads to it again. Its segment is not well nested
+-- A worked unit: a block with a jump list that leads to it again or to the next block, which jumps back. Its segment is
+-- not well nested
 
 abbrev pub worked_exit : StExit
-worked_exit = exit.Table (expr.Literal type.Int (pos 0)) (0 ∷ []) 0
+worked_exit = exit.Table (expr.Literal type.Int (pos 0)) (0 ∷ []) 1
 
 abbrev pub worked_nodes : List StNode
-worked_nodes = record { steps = []; exit = worked_exit; only_end = false } ∷ []
+worked_nodes =
+    record { steps = []; exit = worked_exit; only_end = false }
+    ∷ record { steps = []; exit = exit.Jump 0; only_end = false } ∷ []
 
 -- all that the law asks holds of it, with one dispatch loop
 pub record IsExample (nodes : List StNode) (next loops : ℕ) : Type 0 where

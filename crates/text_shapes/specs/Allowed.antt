@@ -4,7 +4,7 @@
 use Rattle.std.specs.Prelude.{◌≡◌, ◌⊎◌, ℕ, suc, ◌+◌, List, [], ◌∷◌, length}
 use Rattle.stl_tree.specs.Segments.{AreCuts}
 use Rattle.stl_tree.specs.Flows.{AreHeads, AreSegmentsFrom, Flow, Segment, blocks_of}
-use Rattle.nesting_rules.specs.NestedJumps.{IsWellNested}
+use Rattle.stl_tree.specs.WellNested.{IsWellNested}
 
 -- Segments
 

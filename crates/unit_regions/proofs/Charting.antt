@@ -8,7 +8,7 @@ use Rattle.st_tree.specs.declared.graph.StNode.{StNode}
 use Rattle.stl_tree.specs.Blocks.{Way, stops}
 use Rattle.stl_tree.specs.Segments.{IsOneOf, IsReached, JumpsTo, Ways}
 use Rattle.stl_tree.specs.Flows.{GoesOn, IsJump, IsList, IsSegment, Segment, blocks_of, jumps_of, ways_by}
-use Rattle.nesting_rules.specs.NestedJumps.{IsShallow, IsWellNested}
+use Rattle.stl_tree.specs.WellNested.{IsShallow, IsWellNested}
 use Rattle.graph_rules.specs.Flow.{flow_of, way_by}
 use Rattle.region_laws.specs.Regions.{Mark, arm_of}
 use Rattle.region_plans.specs.Charts.{IsHeaded}
@@ -85,18 +85,23 @@ module _ (nodes : List StNode) (first : ℕ) (last : slice_get (flow_of nodes).w
 
   shallow : IsShallow G
   shallow b [] [] ascends heads ascends' sources = omega arith
-  shallow b [] (s ∷ sources) ascends heads ascends' over = let (t, plain, x, y) = over.0 in absurd (no_jump s t plain.jump)
+  shallow b [] (s ∷ sources) ascends heads ascends' over =
+      let (t, span, x, y) = over.0 in
+      ⊎_elim (λ plain. absurd (no_jump s t plain.jump)) (λ ends. absurd (no_list s ends.list)) span
   shallow b (h ∷ heads) sources ascends around ascends' over = let (l, is) = around.0 in absurd (no_jump l h is.loop.back)
 
   pub well_nested_end : IsWellNested G
   well_nested_end =
       record {
-        loops = λ h l k m is is'. absurd (no_jump l h is.back);
-        entries = λ s t h l jump is. absurd (no_jump s t jump);
-        exits = λ s t h l jump is. absurd (no_jump s t jump);
-        crossings = λ s1 t1 s2 t2 plain plain' x y z. absurd (no_jump s1 t1 plain.jump);
-        no_list = no_list;
-        shallow = shallow;
+        by_paths = record {
+          loops = λ h l k m is is'. absurd (no_jump l h is.back);
+          entries = λ s t h l jump is. absurd (no_jump s t jump);
+          exits = λ s t h l jump is. absurd (no_jump s t jump);
+          crossings = λ s1 t1 c1 s2 t2 c2 plain counts plain' counts' x y z. absurd (no_jump s1 t1 plain.jump);
+          cases = λ x list. absurd (no_list x list);
+          shallow = shallow;
+        };
+        closed = λ x e b u t way ends target target' y next there. absurd (no_list x ends.list);
       }
 
 -- Marks

@@ -7,7 +7,7 @@ use Rattle.st_tree.specs.declared.graph.StExit.TheVariants as exit
 use Rattle.st_tree.specs.declared.graph.StNode.{StNode}
 use Rattle.st_tree.specs.declared.program.Stmt.{Stmt}
 use Rattle.nesting_laws.specs.Plans.{Plan, no_loop}
-use Rattle.region_laws.specs.Regions.{Place, Region, again, cycle, ended, fork, labels_from, leaves, node, off, quit, selector, table, turn_to}
+use Rattle.region_laws.specs.Regions.{Place, Region, again, choose, cycle, ended, fork, labels_from, leaves, node, off, quit, selector, table, turn_to}
 use Rattle.region_plans.specs.PlanRegion.{Chart, is_out}
 use Rattle.region_plans.specs.RegionCounts.{IsSimple, sum_of}
 use Rattle.region_plans.proofs.Counting.{part_is_flat}
@@ -34,11 +34,12 @@ module _ (count : List ℕ → ℕ) where
   followed_sum (fork steps e there behind join rest) more = let h = followed_sum rest more in omega arith
   followed_sum (quit steps e rest) more = followed_sum rest more
   followed_sum (table steps e n arms join rest) more = let h = followed_sum rest more in omega arith
+  followed_sum (choose steps e targets nodes arms other join rest) more = let h = followed_sum rest more in omega arith
   followed_sum (cycle body behind rest) more = let h = followed_sum rest more in omega arith
   followed_sum (turn_to j rest) more = followed_sum rest more
   followed_sum (selector labels arms behind rest) more = let h = followed_sum rest more in omega arith
 
-  -- a region without CASE has none
+  -- a region with no dispatch loop has none
   simple_none : (r : Region) → IsSimple r → loops_sum count r ≡ 0
   simple_none off h = refl
   simple_none leaves h = refl
@@ -49,6 +50,9 @@ module _ (count : List ℕ → ℕ) where
       let x = simple_none there h.0 in let y = simple_none behind h.1 in let z = simple_none rest h.2 in omega arith
   simple_none (quit steps e rest) h = simple_none rest h
   simple_none (table steps e n arms join rest) h = elim h [ ]
+  simple_none (choose steps e targets nodes arms other join rest) h =
+      let x = none_of (λ j. loops_sum count (arms j)) (λ j. simple_none (arms j) (h.0 j)) nodes in
+      let y = simple_none other h.1 in let z = simple_none rest h.2 in omega arith
   simple_none (cycle body behind rest) h = let x = simple_none body h.0 in let y = simple_none rest h.1 in omega arith
   simple_none (turn_to j rest) h = elim h [ ]
   simple_none (selector labels arms behind rest) h = elim h [ ]

@@ -13,7 +13,7 @@ use Rattle.st_tree.specs.declared.program.Stmt.TheOpen as S
 use Rattle.st_tree.specs.declared.program.Stmt.TheVariants as stmt
 use Rattle.graph_rules.specs.Plain.{AreSteps, IsStep}
 use Rattle.region_laws.specs.NextLocal.{set_next}
-use Rattle.region_laws.specs.Regions.{Fits, IsNode, Marked, Place, Region, again, at, choice, cycle, ended, forever, fork, arms_with_labels, labels_from, leaves, no_loop, node, off, quit, selected, selector, table, text_of, turn_to}
+use Rattle.region_laws.specs.Regions.{Fits, IsNode, Marked, Place, Region, again, arms_of_nodes, at, choice, choose, cycle, ended, forever, fork, arms_with_labels, labels_from, leaves, no_loop, node, off, quit, selected, selector, table, text_of, turn_to}
 use Rattle.unit_regions.specs.UnitLaws.{EndsByReturn}
 use Rattle.unit_regions.specs.UnitRegion.{ends_by_return, falls_off, is_return}
 
@@ -79,6 +79,10 @@ module _ (unit : Marked) (next : ℕ) (plain : (i : ℕ) (n : StNode) → slice_
       let cases = arms_with_labels (λ n. text_of next (arms n)) (labels_from 0 count) in
       behind_steps steps (own turn i steps _ is) (stmt.Case t cases (text_of next (arms count)) ∷ text_of next rest)
       ∙ behind_case t cases (text_of next (arms count)) (text_of next rest) ∙ ends rest false join follow f
+  ends (choose steps t targets nodes arms other join rest) turn p follow (i, last, e, is, have, inner, own_arm, f) =
+      let cases = arms_of_nodes targets (λ j. text_of next (arms j)) nodes in
+      behind_steps steps (own turn i steps _ is) (stmt.Case t cases (text_of next other) ∷ text_of next rest)
+      ∙ behind_case t cases (text_of next other) (text_of next rest) ∙ ends rest false join follow f
   ends (cycle body behind rest) turn p follow (h, d, e, head, inner, f) =
       behind_forever (text_of next body) (text_of next rest) ∙ ends rest false behind follow f
   ends (turn_to j rest) turn p follow (k, d, e, mark, f) = behind_setting next j (text_of next rest) ∙ ends rest false (selected k) follow f

@@ -5,7 +5,7 @@ use Rattle.st_tree.specs.declared.program.Stmt.TheVariants as stmt
 use Rattle.st_tree.specs.declared.expr.Expr.TheVariants as expr
 use Rattle.st_tree.specs.declared.expr.Var.TheVariants as var
 use Rattle.region_laws.specs.NextLocal.{set_next}
-use Rattle.region_laws.specs.Regions.{Around, Fits, Marked, Place, Region, again, at, choice, cycle, ended, forever, fork, arms_with_labels, labels_from, leaves, node, off, quit, selected, selector, table, text_of, turn_to}
+use Rattle.region_laws.specs.Regions.{Around, Fits, Marked, Place, Region, again, arms_of_nodes, at, choice, choose, cycle, ended, forever, fork, arms_with_labels, labels_from, leaves, node, off, quit, selected, selector, table, text_of, turn_to}
 use Rattle.unit_regions.specs.UnitLaws.{FollowedByAnyFits, FollowedByFits, FollowedByText}
 use Rattle.unit_regions.specs.UnitRegion.{falls_off, followed_by}
 
@@ -25,6 +25,8 @@ module _ (unit : Marked) (more : Region) (follow : Place) where
   fits (quit steps t rest) turn p q a (i, e, is, f) k = (i, e, is, fits rest false (at (suc i)) q a f k)
   fits (table steps t count arms join rest) turn p q a (i, targets, last, e, is, same, inner, f) k =
       (i, targets, last, e, is, same, inner, fits rest false join q a f k)
+  fits (choose steps t targets nodes arms other join rest) turn p q a (i, last, e, is, have, inner, own, f) k =
+      (i, last, e, is, have, inner, own, fits rest false join q a f k)
   fits (cycle body behind rest) turn p q a (h, d, e, head, inner, f) k = (h, d, e, head, inner, fits rest false behind q a f k)
   fits (turn_to j rest) turn p q a (n, d, e, mark, f) k = (n, d, e, mark, fits rest false (selected n) q a f k)
   fits (selector labels arms behind rest) turn p q a (n, d, e, same, inner, f) k =
@@ -42,6 +44,8 @@ module _ (unit : Marked) (more : Region) (follow : Place) where
   any_fits (quit steps t rest) turn p q a n (i, e, is, f) = (i, e, is, any_fits rest false (at (suc i)) q a n f)
   any_fits (table steps t count arms join rest) turn p q a n (i, targets, last, e, is, same, inner, f) =
       (i, targets, last, e, is, same, inner, any_fits rest false join q a n f)
+  any_fits (choose steps t targets nodes arms other join rest) turn p q a n (i, last, e, is, have, inner, own, f) =
+      (i, last, e, is, have, inner, own, any_fits rest false join q a n f)
   any_fits (cycle body behind rest) turn p q a n (h, d, e, head, inner, f) = (h, d, e, head, inner, any_fits rest false behind q a n f)
   any_fits (turn_to j rest) turn p q a n (k, d, e, mark, f) = (k, d, e, mark, any_fits rest false (selected k) q a n f)
   any_fits (selector labels arms behind rest) turn p q a n (k, d, e, same, inner, f) =
@@ -76,6 +80,9 @@ module _ (next : ℕ) (more : Region) where
       behind_steps steps (x ∷ text_of next rest) (x ∷ text_of next (followed_by rest more)) (Rest rest) (ap (λ ys. x ∷ ys) (text rest))
   text (table steps e count arms join rest) =
       let x = stmt.Case e (arms_with_labels (λ n. text_of next (arms n)) (labels_from 0 count)) (text_of next (arms count)) in
+      behind_steps steps (x ∷ text_of next rest) (x ∷ text_of next (followed_by rest more)) (Rest rest) (ap (λ ys. x ∷ ys) (text rest))
+  text (choose steps e targets nodes arms other join rest) =
+      let x = stmt.Case e (arms_of_nodes targets (λ j. text_of next (arms j)) nodes) (text_of next other) in
       behind_steps steps (x ∷ text_of next rest) (x ∷ text_of next (followed_by rest more)) (Rest rest) (ap (λ ys. x ∷ ys) (text rest))
   text (cycle body behind rest) = ap (λ ys. forever (text_of next body) ∷ ys) (text rest)
   text (turn_to j rest) = ap (λ ys. set_next next j ∷ ys) (text rest)

@@ -8,10 +8,10 @@ use Rattle.st_tree.specs.declared.program.Stmt.{Stmt}
 use Rattle.stl_tree.specs.Blocks.{stops}
 use Rattle.stl_tree.specs.Segments.{IsCut, IsOneOf, JumpsTo, Ways}
 use Rattle.stl_tree.specs.Flows.{IsEndBlock, IsSegment, blocks_of, ways_by}
-use Rattle.nesting_rules.specs.NestedJumps.{IsWellNested}
 use Rattle.graph_rules.specs.Flow.{flow_of, way_by}
 use Rattle.graph_rules.specs.Plain.{AreSettings, IsOnlyEnd}
 use Rattle.nesting_laws.specs.Plans.{LeadsTo, Plan}
+use Rattle.nesting_laws.specs.Splitting.{MaySplit}
 use Rattle.region_laws.specs.Regions.{unmarked}
 use Rattle.region_plans.specs.Charts.{IsCharted, IsEnd, IsNext}
 use Rattle.region_plans.specs.PlanRegion.{Chart}
@@ -21,6 +21,7 @@ use Rattle.unit_regions.specs.UnitCharts.{blocks_between, AreInRow, IsWrittenBy,
 use Rattle.unit_regions.specs.UnitRegion.{Section, falls_off}
 use Rattle.unit_regions.proofs.Charting.{any_only, is_dispatched, ending_is, ending_there, is_headed, holds, loop_is, mark_none, are_marked, next_is, past_within, well_nested_end}
 use Rattle.unit_regions.proofs.Cutting.{count_is, stay}
+use Rattle.unit_regions.proofs.Flowing.{has_entries, is_flow}
 use Rattle.unit_regions.proofs.Markless.{made_section_same}
 use Rattle.unit_regions.proofs.Rows.{IsAmong, sound}
 
@@ -93,10 +94,11 @@ module _ (nodes : List StNode) (reached : ℕ → Bool) (lasts : ℕ → Option 
             let here : IsCut Blocks t = ⊎_elim (λ f. absurd (omega arith)) (λ p. subst (λ b. IsCut Blocks b) e p) own.ends in
             let f : q.first ≡ t = ⊎_elim (λ z. absurd (is'.inside t z y here)) (λ z. let f : q.first ≡ t = omega arith in f) (cases_lt q.first t) in
             let g : q.past ≡ suc t = omega arith in
-            let single : IsWellNested (blocks_between nodes t (suc t)) = well_nested_end nodes t way_there in
+            let nested = well_nested_end nodes t way_there in
+            let single : MaySplit (blocks_between nodes t (suc t)) = (nested.by_paths, inl nested.closed) in
             subst (λ (plan : Option Plan). IsPlannedBy nodes q.first q.past plan) none holds'
-            (subst (λ past. IsWellNested (blocks_between nodes q.first past)) (sym g)
-            (subst (λ b. IsWellNested (blocks_between nodes b (suc t))) (sym f) single))
+            (subst (λ past. MaySplit (blocks_between nodes q.first past)) (sym g)
+            (subst (λ b. MaySplit (blocks_between nodes b (suc t))) (sym f) single))
 
     is_end : (s : Section) → IsAmong s sections → (b : ℕ) → LeadsTo (segment_of C s.first s.past) b t
         → ((i : ℕ) → s.first ≤ i → i < s.past → loop_around sections i ≡ None) → n.only_end ≡ true → IsEnd C t
@@ -134,6 +136,7 @@ module _ (nodes : List StNode) (reached : ℕ → Bool) (lasts : ℕ → Option 
         within = past_within nodes reached lasts cut cuts sections plain found row s.first s.past is;
         reached = found.whole.reaches;
         there = found.whole.there;
+        lists = λ b targets label e. (has_entries nodes plain b targets label e, (is_flow nodes plain).labels b targets label e);
         nexts = nexts;
         heads = λ h x y. is_headed nodes reached lasts cut cuts sections plain found row s.first s.past is h x y (outside h x y);
         ends = ends_at s among outside;

@@ -93,6 +93,7 @@ module _ (c : Chart) (steps : (i : ℕ) (n : StNode) → slice_get c.unit.nodes 
       none : (x : StExit) → exit_weight of_whiles x ≡ 0
       none (exit.Branch e t) = refl
       none (exit.EndIf e) = refl
+      none (exit.Table e targets last) = refl
       none x = refl
 
       turns : (n : StNode) → slice_get c.unit.nodes b ≡ Some n → length (while_tests_in n.steps) ≡ 0
@@ -128,6 +129,7 @@ module _ (c : Chart) (steps : (i : ℕ) (n : StNode) → slice_get c.unit.nodes 
       tested : (x : StExit) → exit_weight of_statements x ≤ 1
       tested (exit.Branch e t) = omega arith
       tested (exit.EndIf e) = omega arith
+      tested (exit.Table e targets last) = omega arith
       tested x = omega arith
 
       own : (o : Option StNode) → node_weight of_statements o ≤ length (statements_in (steps_of o)) + 1

@@ -13,7 +13,7 @@ use Rattle.stl_tree.specs.Flows.{blocks_of}
 use Rattle.graph_rules.specs.Flow.{flow_of}
 use Rattle.graph_rules.specs.Plain.{LeadsInside}
 use Rattle.nesting_laws.specs.Plans.{Plan, no_loop}
-use Rattle.region_laws.specs.Regions.{Place, Region, again, cycle, ended, fork, leaves, node, off, quit, selector, table, turn_to}
+use Rattle.region_laws.specs.Regions.{Place, Region, again, choose, cycle, ended, fork, leaves, node, off, quit, selector, table, turn_to}
 use Rattle.region_plans.specs.PlanRegion.{Chart, is_out}
 use Rattle.region_plans.specs.RegionCounts.{IsSimple}
 use Rattle.region_plans.proofs.Counting.{part_is_flat}
@@ -38,6 +38,8 @@ module _ (has_next : Bool) (many : ℕ) where
   simple_uses (fork steps e there behind join rest) is = (simple_uses there is.0, simple_uses behind is.1, simple_uses rest is.2)
   simple_uses (quit steps e rest) is = simple_uses rest is
   simple_uses (table steps e count arms join rest) is = absurd is
+  simple_uses (choose steps e targets nodes arms other join rest) is =
+      ((λ j l. simple_uses (arms j) (is.0 j)), simple_uses other is.1, simple_uses rest is.2)
   simple_uses (cycle body behind rest) is = (simple_uses body is.0, simple_uses rest is.1)
   simple_uses (turn_to j rest) is = absurd is
   simple_uses (selector labels arms behind rest) is = absurd is
@@ -51,6 +53,7 @@ module _ (has_next : Bool) (many : ℕ) where
   followed_uses (fork steps e there behind join rest) more u v = (u.0, u.1, followed_uses rest more u.2 v)
   followed_uses (quit steps e rest) more u v = followed_uses rest more u v
   followed_uses (table steps e count arms join rest) more u v = (u.0, followed_uses rest more u.1 v)
+  followed_uses (choose steps e targets nodes arms other join rest) more u v = (u.0, u.1, followed_uses rest more u.2 v)
   followed_uses (cycle body behind rest) more u v = (u.0, followed_uses rest more u.1 v)
   followed_uses (turn_to j rest) more u v = (u.0, u.1, followed_uses rest more u.2 v)
   followed_uses (selector labels arms behind rest) more u v = (u.0, u.1, u.2, followed_uses rest more u.3 v)
@@ -77,7 +80,7 @@ module _ (many : ℕ) (first past : ℕ) (follow : Place) where
   arm_uses i steps (exit.Branch e t) is = (lead_uses t is.1, lead_uses (suc i) is.0, tt)
   arm_uses i steps (exit.EndIf e) is = lead_uses (suc i) is
   arm_uses i steps (exit.Table e targets last) is =
-      ((λ n l. lead_uses (entry_or (slice_get targets n) last) (entry_inside many last is.3 targets is.2 n)), tt)
+      ((λ n l. lead_uses (entry_or (slice_get targets n) last) (entry_inside many last is.4 targets is.2 n)), tt)
   arm_uses i steps exit.End is = cond_both (is_out follow) leaves ended (λ r. UsesNext true many r) (λ e. tt) (λ e. tt)
 
   node_uses : (i : ℕ) (o : Option StNode) → ((n : StNode) → o ≡ Some n → LeadsInside many i n.exit)

@@ -9,8 +9,8 @@ use Rattle.st_tree.specs.declared.program.Stmt.{Stmt}
 use Rattle.stl_tree.specs.Segments.{AreCuts}
 use Rattle.stl_tree.specs.Flows.{blocks_of}
 use Rattle.graph_rules.specs.Flow.{flow_of}
-use Rattle.nesting_laws.specs.Plans.{Plan, no_loop}
-use Rattle.region_laws.specs.Regions.{Mark, Place, Region, again, arm_of, cycle, ended, fork, labels_from, leaves, loop_head, node, off, quit, selector, table, turn_to, unmarked}
+use Rattle.nesting_laws.specs.Plans.{Plan, blocks, no_loop}
+use Rattle.region_laws.specs.Regions.{Mark, Place, Region, again, arm_of, choose, cycle, ended, fork, labels_from, leaves, loop_head, node, off, quit, selector, table, turn_to, unmarked}
 use Rattle.region_plans.specs.PlanRegion.{Chart, is_out}
 use Rattle.region_plans.specs.RegionCounts.{Weights, before, block_weight, sum_of, weight}
 use Rattle.region_laws.specs.RegionDepth.{depth, most_of}
@@ -44,6 +44,7 @@ module _ (w : Weights) where
   followed_weight (fork steps e there behind join rest) more = let h = followed_weight rest more in omega arith
   followed_weight (quit steps e rest) more = let h = followed_weight rest more in omega arith
   followed_weight (table steps e n arms join rest) more = let h = followed_weight rest more in omega arith
+  followed_weight (choose steps e targets nodes arms other join rest) more = let h = followed_weight rest more in omega arith
   followed_weight (cycle body behind rest) more = let h = followed_weight rest more in omega arith
   followed_weight (turn_to j rest) more = let h = followed_weight rest more in omega arith
   followed_weight (selector labels arms behind rest) more = let h = followed_weight rest more in omega arith
@@ -119,7 +120,7 @@ module _ (w : Weights) where
     region_within first past (Some plan) some (charted, planned) =
         let r = region_by c first past (Some plan) in
         let l : weight w r + 0 + before (block_weight w c) first ≤ before (block_weight w c) past
-        = part_is_within w c (segment_of c first past) plan false first past past no_loop (place_of c past) charted planned
+        = part_is_within w c (segment_of c first past) plan false first past past no_loop blocks (place_of c past) charted planned tt
         (record { low = (omega arith); high = (omega arith); turned = λ e. absurd cc }) in
         let m = sum_between (block_weight w c) (unit_block_weight w c) first past
         (λ b x y. headed_weight b (⊎_elim (λ (l, lp, e). inl e) (λ (none, e). inr e) (charted.heads b x y))) (omega arith) in omega arith
@@ -171,6 +172,7 @@ followed_depth (node steps rest) more = followed_depth rest more
 followed_depth (fork steps e there behind join rest) more = let h = followed_depth rest more in omega arith
 followed_depth (quit steps e rest) more = let h = followed_depth rest more in omega arith
 followed_depth (table steps e n arms join rest) more = let h = followed_depth rest more in omega arith
+followed_depth (choose steps e targets nodes arms other join rest) more = let h = followed_depth rest more in omega arith
 followed_depth (cycle body behind rest) more = let h = followed_depth rest more in omega arith
 followed_depth (turn_to j rest) more = followed_depth rest more
 followed_depth (selector labels arms behind rest) more = let h = followed_depth rest more in omega arith

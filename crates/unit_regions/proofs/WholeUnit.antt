@@ -57,7 +57,7 @@ module _ (nodes : List StNode) (reached : ℕ → Bool) (lasts : ℕ → Option 
 
   is_low : (s : Section) → IsSegment (blocks_between nodes s.first s.past) → (plan : Option Plan) → IsPlannedBy nodes s.first s.past plan → IsLow plan
   is_low s segment None is = tt
-  is_low s segment (Some plan) is = plan_is_low (blocks_between nodes s.first s.past) plan (is_flow nodes plain) segment is.1 is.0.shallow
+  is_low s segment (Some plan) is = plan_is_low (blocks_between nodes s.first s.past) plan (is_flow nodes plain) segment is.1 is.0.0.shallow
 
   are_low : AreLow sections
   are_low = each_low sections

@@ -6,10 +6,10 @@ use Rattle.st_tree.specs.declared.graph.StNode.{StNode}
 use Rattle.st_tree.specs.declared.program.Stmt.{Stmt}
 use Rattle.stl_tree.specs.Segments.{IsReached, JumpsTo, Ways}
 use Rattle.stl_tree.specs.Flows.{blocks_of}
-use Rattle.nesting_rules.specs.NestedJumps.{IsWellNested}
 use Rattle.graph_rules.specs.Flow.{flow_of}
 use Rattle.graph_rules.specs.Plain.{IsPlainNode}
 use Rattle.nesting_laws.specs.Plans.{IsPlanOf, Plan}
+use Rattle.nesting_laws.specs.Splitting.{MaySplit}
 use Rattle.region_laws.specs.Regions.{Mark, arm_of, loop_head, text_of, unmarked}
 use Rattle.region_plans.specs.PlanRegion.{Chart}
 use Rattle.unit_regions.specs.UnitCharts.{AreInAll, AreInRow, IsCutUp, blocks_between}
@@ -88,11 +88,11 @@ pub record IsFound (nodes : List StNode) (reached : ℕ → Bool) (lasts : ℕ �
 abbrev pub ArePlain : List StNode → Type 0
 ArePlain nodes = (i : ℕ) (node : StNode) → slice_get nodes i ≡ Some node → IsPlainNode (length nodes) i node
 
--- a segment is well nested and has a plan, or is not well nested
+-- a segment may be written without the selector and has a plan, or may not
 abbrev pub IsPlannedBy : List StNode → ℕ → ℕ → Option Plan → Type 0
-IsPlannedBy nodes first past None = IsWellNested (blocks_between nodes first past) → ⊥
+IsPlannedBy nodes first past None = MaySplit (blocks_between nodes first past) → ⊥
 IsPlannedBy nodes first past (Some plan) =
-    IsWellNested (blocks_between nodes first past) × IsPlanOf (blocks_between nodes first past) plan
+    MaySplit (blocks_between nodes first past) × IsPlanOf (blocks_between nodes first past) plan
 
 -- the segments that are written, each with its plan, if it has one
 abbrev pub ArePlanned : List StNode → (ℕ → Bool) → (ℕ → Option ℕ) → List ℕ → List Section → Type 0

@@ -5,7 +5,7 @@ use Rattle.st_tree.specs.declared.graph.StExit.{StExit}
 use Rattle.st_tree.specs.declared.graph.StExit.TheVariants as exit
 use Rattle.st_tree.specs.declared.graph.StNode.{StNode}
 use Rattle.nesting_laws.specs.Plans.{Plan, levels}
-use Rattle.region_laws.specs.Regions.{Mark, Region, again, arm_of, cycle, ended, fork, labels_from, leaves, loop_head, node, off, quit, selector, table, turn_to, unmarked}
+use Rattle.region_laws.specs.Regions.{Mark, Region, again, arm_of, choose, cycle, ended, fork, labels_from, leaves, loop_head, node, off, quit, selector, table, turn_to, unmarked}
 use Rattle.region_plans.specs.PlanRegion.{Chart}
 use Rattle.region_plans.specs.RegionCounts.{Weights, block_weight, sum_of}
 use Rattle.region_plans.specs.TextCounts.{block_statements}
@@ -25,6 +25,8 @@ loops_sum count (fork steps e there behind join rest) =
 loops_sum count (quit steps e rest) = loops_sum count rest
 loops_sum count (table steps e n arms join rest) =
     sum_of (λ k. loops_sum count (arms k)) (labels_from 0 n) + loops_sum count (arms n) + loops_sum count rest
+loops_sum count (choose steps e targets nodes arms other join rest) =
+    sum_of (λ j. loops_sum count (arms j)) nodes + loops_sum count other + loops_sum count rest
 loops_sum count (cycle body behind rest) = loops_sum count body + loops_sum count rest
 loops_sum count (turn_to j rest) = loops_sum count rest
 loops_sum count (selector labels arms behind rest) =

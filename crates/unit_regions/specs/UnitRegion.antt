@@ -12,7 +12,7 @@ use Rattle.st_tree.specs.declared.program.Stmt.{Stmt, out-Stmt}
 use Rattle.st_tree.specs.declared.program.Stmt.TheOpen as S
 use Rattle.nesting_laws.specs.Plans.{Plan, no_loop}
 use Rattle.region_laws.specs.NextLocal.{arm_with_label}
-use Rattle.region_laws.specs.Regions.{Place, Region, again, at, cycle, ended, fork, leaves, node, off, out, quit, selected, selector, table, text_of, turn_to}
+use Rattle.region_laws.specs.Regions.{Place, Region, again, at, choose, cycle, ended, fork, leaves, node, off, out, quit, selected, selector, table, text_of, turn_to}
 use Rattle.region_plans.specs.PlanRegion.{Chart, is_out, region_of}
 
 -- One region after another
@@ -27,6 +27,8 @@ followed_by (node steps rest) more = node steps (followed_by rest more)
 followed_by (fork steps e there behind join rest) more = fork steps e there behind join (followed_by rest more)
 followed_by (quit steps e rest) more = quit steps e (followed_by rest more)
 followed_by (table steps e count arms join rest) more = table steps e count arms join (followed_by rest more)
+followed_by (choose steps e targets nodes arms other join rest) more =
+    choose steps e targets nodes arms other join (followed_by rest more)
 followed_by (cycle body behind rest) more = cycle body behind (followed_by rest more)
 followed_by (turn_to j rest) more = turn_to j (followed_by rest more)
 followed_by (selector labels arms behind rest) more = selector labels arms behind (followed_by rest more)
@@ -41,6 +43,7 @@ falls_off (node steps rest) = falls_off rest
 falls_off (fork steps e there behind join rest) = falls_off rest
 falls_off (quit steps e rest) = falls_off rest
 falls_off (table steps e count arms join rest) = falls_off rest
+falls_off (choose steps e targets nodes arms other join rest) = falls_off rest
 falls_off (cycle body behind rest) = falls_off rest
 falls_off (turn_to j rest) = falls_off rest
 falls_off (selector labels arms behind rest) = falls_off rest

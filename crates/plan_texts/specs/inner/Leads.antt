@@ -6,7 +6,7 @@ use Rattle.st_tree.specs.declared.program.Stmt.{Stmt}
 use Rattle.stl_tree.specs.Flows.{IsSegment, Segment}
 use Rattle.graph_rules.specs.Flow.{flow_of}
 use Rattle.region_laws.specs.Regions.{Place, Region, text_of}
-use Rattle.region_plans.specs.PlanRegion.{Chart, exit_region, tail_to}
+use Rattle.region_plans.specs.PlanRegion.{Chart, exit_region, rest_from, tail_to}
 use Rattle.unit_regions.specs.MadeCharts.{ending_of}
 use Rattle.unit_regions.specs.UnitCharts.{blocks_between}
 use Rattle.unit_regions.specs.UnitRegion.{falls_off, place_if}
@@ -59,6 +59,10 @@ is_next blocks part at to = nat_lt at to && nat_lt to part.past && is_reached bl
 abbrev pub falls_to : Blocks → Bool → Part → ℕ → ℕ → Bool
 falls_to blocks tail part at to = not tail && (part.follow == to) && is_bare blocks at part.past
 
+-- a part leads to a block when it falls off its end
+abbrev pub falls_at : Bool → Part → ℕ → Bool
+falls_at tail part to = not tail && (part.follow == to)
+
 -- a unit ends with a part, and no block behind one is reached in the part
 abbrev pub ends_last : Blocks → Bool → Part → ℕ → Bool
 ends_last blocks tail part at = tail && is_bare blocks at part.past
@@ -83,11 +87,21 @@ abbrev pub bare_region : Bool → Part → ℕ → StExit → Chart → Region �
 bare_region tail part at exit c rest = exit_region c at part.past (place_in tail part) (around_of part.around) rest []
     exit
 
+-- what leads on from the block where all arms of a jump list end, and the rest of the part
+abbrev pub rest_region : Bool → Part → ℕ → Chart → Region → Region
+rest_region tail part end c rest = rest_from c end part.past (place_in tail part) (around_of part.around) rest
+
 -- a way out is written
 abbrev pub AddsWay : Blocks → List Stmt → (Chart → Region) → List Stmt → List Stmt → Lead → Type 0
 AddsWay blocks steps way old new to = (all : List StNode) (from past : ℕ) (rest : Region)
     → IsWriting all from past blocks steps
     → Adds old new to (way (chart_in all blocks)) rest
+
+-- what leads to the rest of a part, or out of it, is written
+abbrev pub AddsRest : Blocks → List Stmt → (Chart → Region → Region) → List Stmt → List Stmt → Lead → Type 0
+AddsRest blocks steps region old new to = (all : List StNode) (from past : ℕ) (rest : Region)
+    → IsWriting all from past blocks steps
+    → Adds old new to (region (chart_in all blocks) rest) rest
 
 -- what comes before the rest of a part is written
 abbrev pub AddsTo : Blocks → List Stmt → Part → ℕ → (Chart → Region → Region) → List Stmt → List Stmt → Lead → Type 0

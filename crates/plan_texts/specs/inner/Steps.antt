@@ -1,5 +1,5 @@
 -- What a plan has at a block, and the regions of it and of what is left.
-use Rattle.std.specs.Prelude.{◌≡◌, ℕ, suc, ◌+◌, ◌-◌, ◌<◌, Bool, true, false, List, [], ◌∷◌, ◌++◌, Option, Some, None, drop, slice_get}
+use Rattle.std.specs.Prelude.{◌≡◌, ℕ, suc, ◌+◌, ◌-◌, ◌<◌, Bool, ◌&&◌, List, [], ◌∷◌, ◌++◌, Option, Some, None, drop, slice_get}
 use Rattle.st_tree.specs.declared.expr.Expr.{Expr}
 use Rattle.st_tree.specs.declared.graph.StExit.{StExit}
 use Rattle.st_tree.specs.declared.graph.StExit.TheVariants as exit
@@ -8,8 +8,8 @@ use Rattle.st_tree.specs.declared.program.Stmt.{Stmt}
 use Rattle.stl_tree.specs.Flows.{Segment}
 use Rattle.nesting_laws.specs.Plans.{Plan}
 use Rattle.region_laws.specs.Regions.{Place, Region, at as place_at, off, text_of}
-use Rattle.region_plans.specs.PlanRegion.{Chart, fork_region, loop_region, one_region, region_of}
-use Rattle.segment_plans.specs.Planned.{HasInner, HasPlan, IsPiece, after, arm, around_of, body}
+use Rattle.region_plans.specs.PlanRegion.{Chart, arm_from, cases_region, fork_region, loop_region, one_region, region_of, rest_from}
+use Rattle.segment_plans.specs.Planned.{HasInner, HasPlan, IsPiece, after, arm, around_of, body, first_arm}
 use Rattle.dispatch_loops.specs.Charted.{chart_in}
 use Rattle.segment_plans.specs.declared.blocks.Blocks.{Blocks}
 use Rattle.segment_plans.specs.declared.planning.Part.{Part}
@@ -29,14 +29,19 @@ abbrev pub piece_region : Chart → Place → (g : Segment) (left : ℕ) (part :
 piece_region c place g left part at piece.Skip inner rest = rest
 piece_region c place g left part at piece.One inner rest =
     one_region c at part.past place (around_of part.around) rest (slice_get c.unit.nodes at)
-piece_region c place g left part at (piece.Arm t) inner rest =
-    fork_region off (region_at c (place_at t) (arm part t t) (at + 1) inner.1.0) (place_at t) rest
+piece_region c place g left part at (piece.Arm t d) inner rest =
+    fork_region off (region_at c (place_at t) (arm part d t) (at + 1) inner.1.0) (place_at t) rest
     (slice_get c.unit.nodes at)
-piece_region c place g left part at (piece.Arms t u) inner rest =
-    fork_region (region_at c (place_at u) (arm part u u) t inner.2.0)
-    (region_at c (place_at u) (arm part t u) (at + 1) inner.1.0) (place_at u) rest (slice_get c.unit.nodes at)
-piece_region c place g left part at (piece.Loop l) inner rest =
-    loop_region (c.unit.reached (suc l)) (region_at c (place_at at) (body at l) at inner.1.0) l place rest
+piece_region c place g left part at (piece.Arms t u d) inner rest =
+    fork_region (region_at c (place_at u) (arm part d u) t inner.2.0)
+    (region_at c (place_at u) (first_arm part t u) (at + 1) inner.1.0) (place_at u) rest (slice_get c.unit.nodes at)
+piece_region c place g left part at (piece.Loop l leaves) inner rest =
+    loop_region (leaves && c.unit.reached (suc l)) (region_at c (place_at at) (body at l leaves) at inner.1.0) l place
+    rest
+piece_region c place g left part at (piece.Cases e) inner rest =
+    cases_region inner.1.0 e (arm_from c inner.1.0 (at + 1) e (around_of part.around))
+    (arm_from c inner.1.0 (at + 1) e (around_of part.around) (at + 1))
+    (rest_from c e part.past place (around_of part.around) rest) (slice_get c.unit.nodes at)
 
 -- Pieces and parts
 
@@ -61,6 +66,11 @@ abbrev pub test_in : StExit → Option Expr
 test_in (exit.Branch e t) = Some e
 test_in other = None
 
+-- the value of an exit that is a jump list, and where its entries lead
+abbrev pub list_in : StExit → Option (Expr × List ℕ)
+list_in (exit.Table e targets last) = Some (e, targets)
+list_in other = None
+
 -- the first node is taken, and its steps are written
 abbrev pub HasSteps : List StNode → List StNode → List Stmt → List Stmt → Option StExit → Type 0
 HasSteps [] rest old new found = (rest ≡ []) × (new ≡ old) × (found ≡ None)
@@ -72,8 +82,8 @@ HasSteps (node ∷ more) rest old new found = (rest ≡ more) × (new ≡ old ++
 abbrev pub WritesPiece : Blocks → List Stmt → Bool → ℕ → Part → ℕ → Piece → List StNode → List StNode → List Stmt
     → List Stmt → Lead → Type 0
 WritesPiece blocks steps tail left part at p nodes rest old new to =
-    ForPart blocks steps part at (λ all g. (paid : Bool) (inner : HasInner g left part at p) → IsPiece g part paid at p
-    → nodes ≡ drop at all
+    ForPart blocks steps part at (λ all g. (paid : Bool) (inner : HasInner g left part at p)
+    → IsPiece g blocks part paid at p → nodes ≡ drop at all
     → Writes (chart_in all blocks) (place_in tail part) g left part at p inner rest old new to)
 
 -- a part that has a plan is written

@@ -14,5 +14,5 @@ pub returns-in-Inside : goal.returns-in-Inside
 returns-in-Inside c =
     IfOk-weaker c.push_loop_way.result _ _
     (λ to x. way_at c.args.context.blocks.now c.args.context.ending.now c.args.out.now c.push_loop_way.new.out c.args.to c.args.around
-    (around.Inside c.in-Inside.head c.in-Inside.last) to c.in-Inside.is x)
+    (around.Inside c.in-Inside.head c.in-Inside.last c.in-Inside.left) to c.in-Inside.is x)
     c.push_loop_way.ensures
