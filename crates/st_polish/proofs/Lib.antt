@@ -3,3 +3,4 @@ mod Keeping
 mod Larger
 mod Named
 mod Selector
+mod Unnamed
